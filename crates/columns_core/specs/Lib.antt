@@ -1,0 +1,12 @@
+pub mod Bits
+pub mod Measures
+pub mod Meta
+pub mod Natives
+pub mod Reasons
+pub mod Rising
+pub mod Shapes
+pub mod Tree
+pub mod TypeCode
+pub mod View
+pub use Rattle.shredding.specs.Slot
+pub use Rattle.shredding.specs.Shape

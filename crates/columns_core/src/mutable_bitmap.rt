@@ -1,0 +1,177 @@
+//! Truth values that grow.
+ghost use Rattle.std.specs.Prelude.{◌≡◌, ◌+◌, ◌-◌, ◌*◌, ◌<◌, ◌≤◌, ◌^◌, ◌==◌, ◌≢◌, ℕ, [], ◌∷◌, ◌++◌, IfOk, IfErr, IsOk, replicate, vec_len, vec_capacity, length as list_length};
+ghost use Rattle.columns_core.specs.Bits.{bits_from, bit_of};
+ghost use Rattle.std.specs.Int.{bit_at};
+
+use crate::bitmap::Bitmap;
+use crate::error::{Error, Result};
+use std::alloc::Global;
+use std::marker::Model;
+
+/// A list of truth values that grows, and the room that is left beside it.
+#[derive(Debug, Drop)]
+pub struct MutableBitmap {
+    bytes: Vec<u8>,
+    size: usize,
+}
+
+impl Model for MutableBitmap {
+    ghost use Rattle.std.specs.Prelude.{List, Bool, ℕ, ◌+◌, ◌-◌, ◌*◌, ◌≤◌, ◌<◌, ◌^◌, min, vec_len, vec_capacity};
+    ghost use Rattle.columns_core.specs.Bits.{bits_from};
+
+    ghost Value = { List Bool × ℕ };
+
+    ghost view = { λ b. (bits_from b.bytes.items 0 b.size, min (8 * vec_capacity b.bytes) (2 ^ 64 - 1) - b.size) };
+
+    ghost invariant = { λ b. (b.size ≤ 8 * vec_len b.bytes) × (8 * vec_len b.bytes < b.size + 8) };
+}
+
+impl MutableBitmap {
+    pub fn with_capacity(alloc: Global, capacity: usize) -> Result<Self>
+        ensures empty { IfOk result (λ b. b.0 ≡ []) }
+        ensures room { IfOk result (λ b. capacity ≤ b.1) }
+    {
+        Ok(MutableBitmap {
+            bytes: Vec::with_capacity(alloc, bytes_for(capacity))?,
+            size: 0,
+        })
+    }
+
+    pub fn len(&self) -> usize
+        ensures { result ≡ list_length self.now.0 }
+    {
+        self.size
+    }
+
+    pub fn reserve(&mut self, additional: usize) -> Result<()>
+        ensures same { self.new.0 ≡ self.old.0 }
+        ensures ok { IfOk result (λ _. additional ≤ self.new.1) }
+        ensures reserved { additional ≤ self.old.1 → IsOk result }
+    {
+        let Some(size) = self.size.checked_add(additional) else {
+            return Err(Error::Memory);
+        };
+        let more = bytes_for(size) - self.bytes.len();
+        self.bytes.reserve(more)?;
+        Ok(())
+    }
+
+    pub fn push(&mut self, value: bool) -> Result<()>
+        ensures ok { IfOk result (λ _. self.new.0 ≡ self.old.0 ++ value ∷ []) }
+        ensures err { IfErr result (λ _. self.new.0 ≡ self.old.0) }
+        ensures reserved { 0 < self.old.1 → IsOk result }
+        ensures room { self.old.1 ≤ self.new.1 + 1 }
+    {
+        if self.size == usize::MAX {
+            return Err(Error::Memory);
+        }
+        make_room(&mut self.bytes, self.size)?;
+        put_bit(&mut self.bytes, self.size, value);
+        self.size += 1;
+        Ok(())
+    }
+
+    pub fn extend_constant(&mut self, additional: usize, value: bool) -> Result<()>
+        ensures ok { IfOk result (λ _. self.new.0 ≡ self.old.0 ++ replicate additional value) }
+        ensures err { IfErr result (λ _. self.new.0 ≡ self.old.0) }
+        ensures reserved { additional ≤ self.old.1 → IsOk result }
+    {
+        self.reserve(additional)?;
+        for _i in 0..additional {
+            self.push(value).unwrap();
+        }
+        Ok(())
+    }
+
+    #[tactic(auto, using(crate::proofs::Bits::more_bits))]
+    pub fn extend_from_slice(&mut self, slice: &[u8], offset: usize, length: usize) -> Result<()>
+        requires within { offset + length ≤ 8 * list_length slice.now }
+        requires counted { offset + length < 2 ^ 64 }
+        ensures ok { IfOk result (λ _. self.new.0 ≡ self.old.0 ++ bits_from slice.now offset length) }
+        ensures err { IfErr result (λ _. self.new.0 ≡ self.old.0) }
+    {
+        self.reserve(length)?;
+        for i in 0..length {
+            self.push(bit_in(slice, offset + i)).unwrap();
+        }
+        Ok(())
+    }
+
+    pub fn into_bitmap(self) -> Result<Bitmap>
+        ensures { IfOk result (λ b. b ≡ self.0) }
+    {
+        let alloc = *self.bytes.allocator();
+        Bitmap::from_bytes(alloc, self.bytes, self.size)
+    }
+}
+
+impl Bitmap {
+    /// The truth values of a slice.
+    pub fn from_slice(alloc: Global, bits: &[bool]) -> Result<Bitmap>
+        ensures { IfOk result (λ b. b ≡ bits.now) }
+    {
+        let mut made = MutableBitmap::with_capacity(alloc, bits.len())?;
+        for bit in bits {
+            made.push(*bit)?;
+        }
+        made.into_bitmap()
+    }
+}
+
+fn bytes_for(bits: usize) -> usize
+    ensures enough { bits ≤ 8 * result }
+    ensures least { 8 * result < bits + 8 }
+{
+    bits / 8 + if bits % 8 == 0 { 0 } else { 1 }
+}
+
+fn with_bit(byte: u8, at: usize, value: bool) -> u8
+    requires { at < 8 }
+    ensures set { (bit_at result at == 1) ≡ value }
+    ensures others { (i : ℕ) → i < 8 → i ≢ at → bit_at result i ≡ bit_at byte i }
+{
+    let mask = 1u8 << at;
+    if value { byte | mask } else { byte & !mask }
+}
+
+// A bit of packed bytes.
+fn bit_in(bytes: &[u8], at: usize) -> bool
+    requires { at < 8 * list_length bytes.now }
+    ensures { result ≡ bit_of bytes.now at }
+{
+    let byte = bytes[at / 8];
+    (byte >> (at % 8)) & 1 == 1
+}
+
+// A byte more where the last one is full.
+#[tactic(auto, using(crate::proofs::Bits::byte_more))]
+fn make_room(bytes: &mut Vec<u8>, size: usize) -> Result<()>
+    requires below { size ≤ 8 * vec_len bytes.old }
+    requires above { 8 * vec_len bytes.old < size + 8 }
+    ensures same { bits_from bytes.new.items 0 size ≡ bits_from bytes.old.items 0 size }
+    ensures ok { IfOk result (λ _. size < 8 * vec_len bytes.new) }
+    ensures below { size ≤ 8 * vec_len bytes.new }
+    ensures above { 8 * vec_len bytes.new ≤ size + 8 }
+    ensures err { IfErr result (λ _. 8 * vec_len bytes.new < size + 8) }
+    ensures capacity { vec_capacity bytes.old ≤ vec_capacity bytes.new }
+    ensures reserved { size < 8 * vec_capacity bytes.old → IsOk result }
+{
+    if size % 8 != 0 {
+        return Ok(());
+    }
+    bytes.push(0)?;
+    Ok(())
+}
+
+// Writes the bit behind the first ones.
+fn put_bit(bytes: &mut Vec<u8>, size: usize, value: bool)
+    requires below { size < 8 * vec_len bytes.old }
+    requires above { 8 * vec_len bytes.old ≤ size + 8 }
+    ensures bits { bits_from bytes.new.items 0 (size + 1) ≡ bits_from bytes.old.items 0 size ++ value ∷ [] }
+    ensures len { vec_len bytes.new ≡ vec_len bytes.old }
+    ensures capacity { vec_capacity bytes.new ≡ vec_capacity bytes.old }
+{
+    let at = size / 8;
+    let byte = bytes[at];
+    bytes[at] = with_bit(byte, size % 8, value);
+}

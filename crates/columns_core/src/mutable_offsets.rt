@@ -1,0 +1,125 @@
+//! Offsets that grow.
+ghost use Rattle.std.specs.Prelude.{◌≡◌, ◌↔◌, pos, MatchOption, ◌+◌, ◌<◌, ◌≤◌, [], ◌∷◌, ◌++◌, IfOk, IfErr, IsOk, IsErrOf, replicate, length as list_length};
+ghost use Rattle.columns_core.specs.Rising.{IsWhole, whole, last_place};
+
+use crate::error::{Error, Result, V};
+use crate::offsets::{Offset, OffsetsBuffer};
+use std::alloc::Global;
+use std::marker::Model;
+
+/// Offsets from 0 on that grow by the lengths of ranges, and the room that is left beside them.
+#[derive(Debug, Drop)]
+pub struct Offsets<O: Offset> {
+    values: Vec<O>,
+    end: usize,
+}
+
+impl<O: Offset> Model for Offsets<O> {
+    ghost use Rattle.std.specs.Prelude.{◌≡◌, List, ℕ, ◌-◌, ◌<◌, map, vec_len, vec_capacity};
+    ghost use Rattle.columns_core.specs.Rising.{whole, AreFrom, last_place};
+
+    ghost Value = { List ℕ × ℕ };
+
+    ghost view = { λ b. (map (λ o. whole (O.number o)) b.values.items, vec_capacity b.values - vec_len b.values) };
+
+    ghost invariant = { λ b. (0 < vec_len b.values) × AreFrom 0 (map O.number b.values.items) × (b.end ≡ last_place (map (λ o. whole (O.number o)) b.values.items)) };
+}
+
+impl<O: Offset> Offsets<O> {
+    /// The offset 0 alone, with room for as many ranges.
+    pub fn with_capacity(alloc: Global, capacity: usize) -> Result<Self>
+        ensures empty { IfOk result (λ b. b.0 ≡ 0 ∷ []) }
+        ensures room { IfOk result (λ b. capacity ≤ b.1) }
+    {
+        let Some(count) = capacity.checked_add(1) else {
+            return Err(Error::Memory);
+        };
+        let mut values = Vec::with_capacity(alloc, count)?;
+        values.push(O::zero())?;
+        Ok(Offsets { values, end: 0 })
+    }
+
+    /// Room for as many ranges more.
+    pub fn reserve(&mut self, additional: usize) -> Result<()>
+        ensures same { self.new.0 ≡ self.old.0 }
+        ensures ok { IfOk result (λ _. additional ≤ self.new.1) }
+    {
+        self.values.reserve(additional)?;
+        Ok(())
+    }
+
+    /// A range of this length more.
+    pub fn push(&mut self, length: O) -> Result<()>
+        requires not_negative { IsWhole (O.number length) }
+        requires fits { last_place self.old.0 + whole (O.number length) < O.limit }
+        ensures ok { IfOk result (λ _. self.new.0 ≡ self.old.0 ++ (last_place self.old.0 + whole (O.number length)) ∷ []) }
+        ensures err { IfErr result (λ _. self.new.0 ≡ self.old.0) }
+        ensures reserved { 0 < self.old.1 → IsOk result }
+        ensures room { self.old.1 ≤ self.new.1 + 1 }
+    {
+        let end = self.end + length.to_usize();
+        let place = O::from_usize(end).unwrap();
+        self.values.push(place)?;
+        self.end = end;
+        Ok(())
+    }
+
+    /// A range of this length more. V1 where its end does not fit the offset type.
+    pub fn try_push_usize(&mut self, length: usize) -> Result<()>
+        ensures ok { IfOk result (λ _. self.new.0 ≡ self.old.0 ++ (last_place self.old.0 + length) ∷ []) }
+        ensures overflow { IsErrOf result (Error.Overflow V.V1) ↔ O.limit ≤ last_place self.old.0 + length }
+        ensures err { IfErr result (λ _. self.new.0 ≡ self.old.0) }
+        ensures reserved { 0 < self.old.1 → last_place self.old.0 + length < O.limit → IsOk result }
+        ensures room { self.old.1 ≤ self.new.1 + 1 }
+    {
+        let Some(place) = sum_place::<O>(self.end, length) else {
+            return Err(Error::Overflow(V::V1));
+        };
+        self.values.push(place)?;
+        self.end += length;
+        Ok(())
+    }
+
+    /// As many empty ranges more.
+    pub fn extend_constant(&mut self, additional: usize) -> Result<()>
+        ensures ok { IfOk result (λ _. self.new.0 ≡ self.old.0 ++ replicate additional (last_place self.old.0)) }
+        ensures err { IfErr result (λ _. self.new.0 ≡ self.old.0) }
+        ensures reserved { additional ≤ self.old.1 → IsOk result }
+    {
+        let Some(count) = self.values.len().checked_add(additional) else {
+            return Err(Error::Memory);
+        };
+        let place = *self.last();
+        self.values.resize(count, place)?;
+        Ok(())
+    }
+
+    /// The last offset.
+    pub fn last(&self) -> &O
+        ensures place { whole (O.number result.now) ≡ last_place self.now.0 }
+        ensures not_negative { IsWhole (O.number result.now) }
+    {
+        &self.values[self.values.len() - 1]
+    }
+
+    /// How many ranges there are.
+    pub fn len_proxy(&self) -> usize
+        ensures { list_length self.now.0 ≡ result + 1 }
+    {
+        self.values.len() - 1
+    }
+
+    /// The offsets, in memory that can be shared.
+    pub fn into_buffer(self) -> Result<OffsetsBuffer<O>>
+        ensures { IfOk result (λ b. b ≡ self.0) }
+    {
+        OffsetsBuffer::from_rising(self.values)
+    }
+}
+
+// The offset at the end of a range of this length.
+fn sum_place<O: Offset>(end: usize, length: usize) -> Option<O>
+    ensures { MatchOption result (O.limit ≤ end + length) (λ o. (O.number o ≡ pos (end + length)) × (end + length < O.limit)) }
+{
+    O::from_usize(end.checked_add(length)?)
+}

@@ -1,0 +1,14 @@
+pub mod Nested
+pub mod Levels
+pub mod Sizes
+pub mod Here
+pub mod Stack
+pub use Rattle.shredding.specs.Slot
+pub use Rattle.shredding.specs.Shape
+pub use Rattle.shredding.specs.Shred
+pub use Rattle.shredding.specs.Along
+pub use Rattle.shredding.specs.Local
+pub use Rattle.shredding.specs.Share
+pub use Rattle.shredding.specs.Cut
+pub use Rattle.shredding.specs.Parts
+pub use Rattle.shredding.specs.Laws

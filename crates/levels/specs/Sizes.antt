@@ -1,0 +1,21 @@
+-- The numbers of level pairs.
+use Rattle.std.specs.Prelude.{ℕ, zero, suc, ◌+◌, cond, List, [], ◌∷◌}
+use Rattle.shredding.specs.Parts.{Part, leaf_part, list_part, struct_part, is_present, item_start, item_count}
+
+-- the sum of the sizes of count places
+unfoldable pub total : (ℕ → ℕ) → ℕ → ℕ → ℕ
+total size place zero = 0
+total size place (suc count) = size place + total size (place + 1) count
+
+-- the same, or one where there is no place
+unfoldable pub total_or_one : (ℕ → ℕ) → ℕ → ℕ → ℕ
+total_or_one size place zero = 1
+total_or_one size place (suc count) = total size place (suc count)
+
+-- the number of level pairs of a slot
+unfoldable pub slot_size : List Part → ℕ → ℕ
+slot_size [] i = 1
+slot_size (leaf_part is_optional mask count ∷ parts) i = 1
+slot_size (list_part is_optional mask offsets ∷ parts) i =
+    cond (is_present is_optional mask i) (total_or_one (slot_size parts) (item_start offsets i) (item_count offsets i)) 1
+slot_size (struct_part is_optional mask count ∷ parts) i = cond (is_present is_optional mask i) (slot_size parts i) 1

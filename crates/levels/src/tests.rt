@@ -1,0 +1,272 @@
+use super::*;
+use columns_core::{Bitmap, OffsetsBuffer};
+use std::alloc::Global;
+use std::process::Abort;
+use std::test::Fail;
+
+// A part with its mask as packed bits, none where there are no bytes.
+#[derive(Clone, Copy)]
+enum Part {
+    Leaf(bool, &'static [u8], usize),
+    List(bool, &'static [u8], &'static [i32]),
+    LargeList(bool, &'static [u8], &'static [i64]),
+    Struct(bool, &'static [u8], usize),
+}
+
+#[derive(Clone, Copy)]
+struct Case {
+    name: &'static str,
+    path: &'static [Part],
+    max_rep: usize,
+    max_def: usize,
+    rep: &'static [u32],
+    def: &'static [u32],
+}
+
+fn mask(rt: &impl Abort, alloc: Global, bits: &[u8], len: usize) -> Result<Option<Bitmap>, Fail> {
+    if bits.is_empty() {
+        return Ok(None);
+    }
+    assert!(rt; len / 8 < bits.len());
+    Ok(Some(Bitmap::from_bytes(alloc, bits.to_vec(alloc)?, len)?))
+}
+
+fn build(rt: &impl Abort, alloc: Global, parts: &[Part]) -> Result<Vec<Nested>, Fail> {
+    let mut path = Vec::new(alloc);
+    for part in parts {
+        let nested = match part {
+            Part::Leaf(is_optional, bits, len) => {
+                Nested::Primitive(mask(rt, alloc, bits, *len)?, *is_optional, *len)
+            }
+            Part::Struct(is_optional, bits, len) => {
+                Nested::Struct(mask(rt, alloc, bits, *len)?, *is_optional, *len)
+            }
+            Part::List(is_optional, bits, offsets) => {
+                let offsets = OffsetsBuffer::try_from_vec(offsets.to_vec(alloc)?)?;
+                let validity = mask(rt, alloc, bits, offsets.len_proxy())?;
+                Nested::List(ListNested::new(offsets, validity, *is_optional))
+            }
+            Part::LargeList(is_optional, bits, offsets) => {
+                let offsets = OffsetsBuffer::try_from_vec(offsets.to_vec(alloc)?)?;
+                let validity = mask(rt, alloc, bits, offsets.len_proxy())?;
+                Nested::LargeList(ListNested::new(offsets, validity, *is_optional))
+            }
+        };
+        path.push(nested)?;
+    }
+    Ok(path)
+}
+
+// Both levels of a path.
+fn levels(rt: &impl Abort, alloc: Global, path: &[Nested]) -> Result<(Vec<u32>, Vec<u32>), Fail> {
+    assert!(rt; is_well_formed(path));
+    assert!(rt; path.len() <= 128);
+    assert!(rt; num_values(path) < usize::MAX);
+    let rep = RepLevelsIter::new(alloc, path)?;
+    let def = DefLevelsIter::new(alloc, path)?;
+    assert_eq!(rt; rep.len(), num_values(path));
+    assert_eq!(rt; def.size_hint(), (num_values(path), Some(num_values(path))));
+    Ok((rep.collect(alloc)?, def.collect(alloc)?))
+}
+
+const CASES: [Case; 14] = [
+    Case {
+        name: "a required list of required items",
+        path: &[
+            Part::List(false, &[], &[0, 2, 2, 5, 8, 8, 11, 11, 12]),
+            Part::Leaf(false, &[], 12),
+        ],
+        max_rep: 1,
+        max_def: 1,
+        rep: &[0, 1, 0, 0, 1, 1, 0, 1, 1, 0, 0, 1, 1, 0, 0],
+        def: &[1, 1, 0, 1, 1, 1, 1, 1, 1, 0, 1, 1, 1, 0, 1],
+    },
+    Case {
+        name: "a list of lists",
+        path: &[
+            Part::List(false, &[], &[0, 1, 1, 3, 5, 5, 8, 8, 9]),
+            Part::List(false, &[], &[0, 2, 4, 5, 7, 8, 9, 10, 11, 12]),
+            Part::Leaf(false, &[], 12),
+        ],
+        max_rep: 2,
+        max_def: 2,
+        rep: &[0, 2, 0, 0, 2, 1, 0, 2, 1, 0, 0, 1, 1, 0, 0],
+        def: &[2, 2, 0, 2, 2, 2, 2, 2, 2, 0, 2, 2, 2, 0, 2],
+    },
+    Case {
+        name: "a list of structs of a list, all with nulls",
+        path: &[
+            Part::List(true, &[0b1011_1101, 0], &[0, 2, 2, 5, 8, 8, 11, 11, 12]),
+            Part::Struct(true, &[0b1111_0111, 0b1111], 12),
+            Part::List(
+                true,
+                &[0b0001_0111, 0b1111],
+                &[0, 1, 2, 3, 3, 4, 4, 4, 4, 5, 6, 8, 8],
+            ),
+            Part::Leaf(true, &[0b1101_1111, 0], 8),
+        ],
+        max_rep: 2,
+        max_def: 6,
+        rep: &[0, 1, 0, 0, 1, 1, 0, 1, 1, 0, 0, 1, 1, 2, 0, 0],
+        def: &[6, 6, 0, 6, 2, 6, 3, 3, 3, 1, 6, 5, 6, 6, 0, 4],
+    },
+    Case {
+        name: "a null list over items that are there",
+        path: &[
+            Part::List(true, &[0b01], &[0, 2, 4]),
+            Part::Leaf(false, &[], 4),
+        ],
+        max_rep: 1,
+        max_def: 2,
+        rep: &[0, 1, 0],
+        def: &[2, 2, 0],
+    },
+    Case {
+        name: "the same null list over no items",
+        path: &[
+            Part::List(true, &[0b01], &[0, 2, 2]),
+            Part::Leaf(false, &[], 2),
+        ],
+        max_rep: 1,
+        max_def: 2,
+        rep: &[0, 1, 0],
+        def: &[2, 2, 0],
+    },
+    Case {
+        name: "the same with large offsets that begin later, and a mask of the required leaf",
+        path: &[
+            Part::LargeList(true, &[0b01], &[70, 72, 73]),
+            Part::Leaf(false, &[0], 3),
+        ],
+        max_rep: 1,
+        max_def: 2,
+        rep: &[0, 1, 0],
+        def: &[2, 2, 0],
+    },
+    Case {
+        name: "an optional struct over a required leaf",
+        path: &[Part::Struct(true, &[0b1011], 4), Part::Leaf(false, &[], 4)],
+        max_rep: 0,
+        max_def: 1,
+        rep: &[0, 0, 0, 0],
+        def: &[1, 1, 0, 1],
+    },
+    Case {
+        name: "a null struct over a leaf that is there",
+        path: &[
+            Part::Struct(true, &[0b1011], 4),
+            Part::Leaf(true, &[0b0111], 4),
+        ],
+        max_rep: 0,
+        max_def: 2,
+        rep: &[0, 0, 0, 0],
+        def: &[2, 2, 0, 1],
+    },
+    Case {
+        name: "the same null struct over a null",
+        path: &[
+            Part::Struct(true, &[0b1011], 4),
+            Part::Leaf(true, &[0b0011], 4),
+        ],
+        max_rep: 0,
+        max_def: 2,
+        rep: &[0, 0, 0, 0],
+        def: &[2, 2, 0, 1],
+    },
+    Case {
+        name: "the keys of a map with optional entries",
+        path: &[
+            Part::List(false, &[], &[0, 2, 3, 4, 6]),
+            Part::Struct(true, &[], 6),
+            Part::Leaf(false, &[], 6),
+        ],
+        max_rep: 1,
+        max_def: 2,
+        rep: &[0, 1, 0, 0, 0, 1],
+        def: &[2, 2, 2, 2, 2, 2],
+    },
+    Case {
+        name: "masks of required parts are not looked at",
+        path: &[
+            Part::Struct(false, &[0], 2),
+            Part::List(false, &[0], &[0, 1, 1]),
+            Part::Leaf(false, &[0], 1),
+        ],
+        max_rep: 1,
+        max_def: 1,
+        rep: &[0, 0],
+        def: &[1, 0],
+    },
+    Case {
+        name: "optional parts without a mask",
+        path: &[Part::List(true, &[], &[0, 0, 1]), Part::Leaf(true, &[], 1)],
+        max_rep: 1,
+        max_def: 3,
+        rep: &[0, 0],
+        def: &[1, 3],
+    },
+    Case {
+        name: "a list of no rows",
+        path: &[Part::List(true, &[], &[5]), Part::Leaf(true, &[], 0)],
+        max_rep: 1,
+        max_def: 3,
+        rep: &[],
+        def: &[],
+    },
+    Case {
+        name: "a leaf alone",
+        path: &[Part::Leaf(true, &[0b010], 3)],
+        max_rep: 0,
+        max_def: 1,
+        rep: &[0, 0, 0],
+        def: &[0, 1, 0],
+    },
+];
+
+#[test]
+fn gives_levels(rt: HostRuntime) -> Result<(), Fail> {
+    let alloc = rt.alloc();
+    for case in &CASES {
+        let path = build(&rt, alloc, case.path)?;
+        let name = case.name;
+        assert_eq!(rt; max_rep_level(&path), case.max_rep, "{name}");
+        assert_eq!(rt; max_def_level(&path), case.max_def, "{name}");
+        let (rep, def) = levels(&rt, alloc, &path)?;
+        assert_eq!(rt; rep.as_slice(), case.rep, "{name}");
+        assert_eq!(rt; def.as_slice(), case.def, "{name}");
+    }
+    Ok(())
+}
+
+#[test]
+fn tells_ill_formed_paths(rt: HostRuntime) -> Result<(), Fail> {
+    let alloc = rt.alloc();
+    let paths: [(&str, &[Part]); 7] = [
+        ("no part", &[]),
+        ("no leaf", &[Part::Struct(true, &[], 0)]),
+        (
+            "two leaves",
+            &[Part::Leaf(true, &[], 1), Part::Leaf(true, &[], 1)],
+        ),
+        (
+            "fewer items",
+            &[Part::List(true, &[], &[0, 2]), Part::Leaf(true, &[], 1)],
+        ),
+        (
+            "more items",
+            &[Part::List(true, &[], &[1, 2]), Part::Leaf(true, &[], 2)],
+        ),
+        (
+            "a longer child",
+            &[Part::Struct(true, &[], 1), Part::Leaf(true, &[], 2)],
+        ),
+        ("no item part", &[Part::LargeList(true, &[], &[3])]),
+    ];
+    for (name, parts) in paths {
+        let path = build(&rt, alloc, parts)?;
+        assert!(rt; !is_well_formed(&path), "{name}");
+    }
+    let short = Bitmap::from_bytes(alloc, [1u8].to_vec(alloc)?, 1)?;
+    assert!(rt; !is_well_formed(&[Nested::Primitive(Some(short), true, 2)]));
+    Ok(())
+}

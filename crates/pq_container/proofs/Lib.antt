@@ -1,0 +1,16 @@
+pub mod FooterOnce
+pub mod Framed
+pub mod HeaderOnce
+pub mod Injective
+pub mod Eachs
+pub mod Fours
+pub mod Lookups
+pub mod Refusals
+pub mod Parts
+pub mod Flat
+pub mod FromBytes
+pub mod TreeLoops
+pub mod Preorder
+pub mod FlatOnce
+pub mod Encryptions
+pub mod MetadataReads

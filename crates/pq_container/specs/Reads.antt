@@ -1,0 +1,12 @@
+-- What a reader answers.
+use Rattle.std.specs.Prelude.{◌≡◌, ◌⊎◌}
+use Rattle.columns_core.specs.declared.error.Error.{Error}
+use Rattle.columns_core.specs.declared.error.Error.TheVariants.{Memory}
+
+-- no value stands in the relation
+abbrev pub HasNone : {A : Type 0} → (A → Type 0) → Type 0
+HasNone {A} R = (a : A) → R a → ⊥
+
+-- Where no value stands in the relation the error is the reason. Want of memory alone is free.
+abbrev pub Refuses : {A : Type 0} → Error → (A → Type 0) → Error → Type 0
+Refuses reason R e = (e ≡ Memory) ⊎ ((e ≡ reason) × HasNone R)

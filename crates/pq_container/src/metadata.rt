@@ -1,0 +1,93 @@
+//! The whole footer of a file.
+ghost use Rattle.std.specs.Prelude.{◌≡◌, ◌≤◌, ℕ, List, IfOk, IfErr, OnOk, map};
+ghost use Rattle.pq_container.specs.FlatFooter.{flat_form};
+ghost use Rattle.pq_container.specs.Forest.{RefusesTrees};
+ghost use Rattle.pq_container.specs.Frame.{HasFrame, EndsEncrypted, footer_of};
+ghost use Rattle.pq_container.specs.Metadata.{IsFooterText, RefusesMetadata, RefusesFile};
+ghost use Rattle.pq_container.specs.Tree.{schema_nesting};
+ghost use Rattle.pq_container.specs.TreeViews.{pairs_view, metadata_view};
+ghost use Rattle.pq_container.specs.Views.{flat_view, key_view};
+ghost use Rattle.pq_numbers.specs.Texts.{Begins};
+
+use crate::encryption::says_encrypted;
+use crate::footer::footer_from;
+use crate::frame::{ends_encrypted, read_frame};
+use crate::trees::read_trees;
+use crate::types::{FileMetaData, FlatFooter, KeyValue, SchemaDescriptor};
+use columns_core::{Error, N, S};
+use pq_thrift::read_thrift;
+use std::alloc::Global;
+
+fn some_pairs(pairs: Vec<KeyValue>) -> Option<Vec<KeyValue>>
+    ensures { pairs_view result ≡ map key_view pairs.items }
+{
+    if pairs.is_empty() {
+        return None;
+    }
+    Some(pairs)
+}
+
+/// The footer with its nodes put together to trees.
+fn metadata_of(alloc: Global, footer: FlatFooter) -> Result<FileMetaData, Error>
+    ensures found { IfOk result (λ m. flat_form (metadata_view m) ≡ flat_view footer) }
+    ensures shallow { IfOk result (λ m. schema_nesting (metadata_view m).schema ≤ 128) }
+    ensures refused { IfErr result (RefusesTrees (flat_view footer).nodes footer.num_children) }
+{
+    let fields = read_trees(alloc, &footer.elements, footer.num_children)?;
+    Ok(FileMetaData {
+        schema_descr: SchemaDescriptor {
+            name: footer.name,
+            fields,
+        },
+        row_groups: footer.row_groups,
+        key_value_metadata: some_pairs(footer.key_value_metadata),
+    })
+}
+
+/// Reads the footer that stands in front (Parquet format, `FileMetaData`). What follows it is not
+/// looked at.
+///
+/// # Errors
+///
+/// - `NotYetImplemented(N7)`: its struct or its tree nests past 128.
+/// - `NotYetImplemented(N2)`: it says that the file or a column is encrypted.
+/// - `OutOfSpec(S1)`: neither, and no footer stands there.
+/// - `Memory`: memory ran out.
+pub fn read_footer_metadata(alloc: Global, bytes: &[u8]) -> Result<FileMetaData, Error>
+    ensures found { IfOk result (λ m. Begins IsFooterText bytes.now (metadata_view m)) }
+    ensures shallow { IfOk result (λ m. schema_nesting (metadata_view m).schema ≤ 128) }
+    ensures refused { IfErr result (RefusesMetadata bytes.now) }
+{
+    let (value, _) = read_thrift(alloc, bytes)?;
+    if says_encrypted(&value) {
+        return Err(Error::NotYetImplemented(N::N2));
+    }
+    let footer = footer_from(alloc, &value)?;
+    metadata_of(alloc, footer)
+}
+
+/// Reads the footer of a whole file (Parquet format, "File format" and `FileMetaData`).
+///
+/// # Errors
+///
+/// - `NotYetImplemented(N2)`: the file ends in `PARE`, or its footer says that the file or a
+///   column is encrypted.
+/// - `NotYetImplemented(N7)`: the footer's struct or its tree nests past 128.
+/// - `OutOfSpec(S1)`: none of these, and the file has no frame, or no footer stands in it.
+/// - `Memory`: memory ran out.
+pub fn read_metadata(alloc: Global, file: &[u8]) -> Result<FileMetaData, Error>
+    ensures framed { OnOk result (HasFrame file.now) }
+    ensures found { IfOk result (λ m. Begins IsFooterText (footer_of file.now) (metadata_view m)) }
+    ensures shallow { IfOk result (λ m. schema_nesting (metadata_view m).schema ≤ 128) }
+    ensures refused { IfErr result (RefusesFile file.now) }
+{
+    if ends_encrypted(file) {
+        return Err(Error::NotYetImplemented(N::N2));
+    }
+    let Some(length) = read_frame(file) else {
+        return Err(Error::OutOfSpec(S::S1));
+    };
+    let (_, behind) = file.split_at(file.len() - 8 - length);
+    let (footer, _) = behind.split_at(length);
+    read_footer_metadata(alloc, footer)
+}

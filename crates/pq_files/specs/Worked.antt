@@ -1,0 +1,89 @@
+-- Worked examples of encodings, pages and room, and near misses of them.
+use Rattle.std.specs.Prelude.{◌≡◌, ℕ, pos, negsuc, true, false, None, List, [], ◌∷◌, ◌++◌, length, map, replicate}
+use Rattle.std.specs.Int.{w32}
+use Rattle.shredding.specs.Shape.{nothing, months, signed, unsigned, at_leaf, in_list, in_struct}
+use Rattle.shredding.specs.Share.{ColumnsAgree}
+use Rattle.shredding.specs.Shred.{Triple}
+use Rattle.shredding.specs.Slot.{Value, truth, number, bytes}
+use Rattle.pq_numbers.specs.Texts.{Begins}
+use Rattle.pq_container.specs.Header.{Header, data_page_2}
+use Rattle.pq_container.specs.Physical.{boolean, int32, byte_array, fixed}
+use Rattle.pq_files.specs.FirstFile.{the_leaf, triples}
+use Rattle.pq_files.specs.Indices.{IsIndexed}
+use Rattle.pq_files.specs.Layout.{rows_per_page}
+use Rattle.pq_files.specs.Page.{IsPage}
+use Rattle.pq_files.specs.PageReasons.{IsOutside}
+use Rattle.pq_files.specs.Plain.{IsPlain}
+use Rattle.pq_files.specs.Room.{room, level_room, schema_value_size}
+use Rattle.pq_files.specs.RowReasons.{BreaksIn}
+use Rattle.pq_files.specs.Stored.{IsStored}
+use Rattle.pq_numbers.specs.Bits.{unpacked}
+use Rattle.pq_files.specs.Delta.{AreDeltas, AreDeltaLengths}
+
+abbrev pub deltas : List ℕ
+deltas = 128 ∷ 1 ∷ 4 ∷ 8 ∷ 14 ∷ 3 ∷ 2 ∷ 0 ∷ 0 ∷ 0 ∷ 192 ∷ 63 ∷ []
+
+abbrev pub numbers : List Value
+numbers = map (λ n. number (pos n)) (7 ∷ 5 ∷ 3 ∷ 1 ∷ 2 ∷ 3 ∷ 4 ∷ 5 ∷ [])
+
+abbrev pub hello : List ℕ
+hello = 72 ∷ 101 ∷ 108 ∷ 108 ∷ 111 ∷ []
+
+abbrev pub world : List ℕ
+world = 87 ∷ 111 ∷ 114 ∷ 108 ∷ 100 ∷ []
+
+abbrev pub foobar : List ℕ
+foobar = 70 ∷ 111 ∷ 111 ∷ 98 ∷ 97 ∷ 114 ∷ []
+
+abbrev pub letters : List ℕ
+letters = 65 ∷ 66 ∷ 67 ∷ 68 ∷ 69 ∷ 70 ∷ []
+
+abbrev pub lengths : List ℕ
+lengths = 128 ∷ 1 ∷ 4 ∷ 4 ∷ 10 ∷ 0 ∷ 1 ∷ 0 ∷ 0 ∷ 0 ∷ 2 ∷ 0 ∷ 0 ∷ 0 ∷ []
+
+-- a column of one entry: the width 0, and no run
+abbrev pub entry : Value
+entry = bytes hello
+
+-- the first file's page in version 2: no lengths in the body, and the number of rows in the header
+abbrev pub header_2 : Header
+header_2 = data_page_2 (record { num_values = 5; num_rows = 4; encoding = pos 0; definition_length = 3; repetition_length = 2 })
+
+abbrev pub body_2 : List ℕ
+body_2 = 3 ∷ 2 ∷ 3 ∷ 79 ∷ 2 ∷ 1 ∷ 0 ∷ 0 ∷ 0 ∷ 2 ∷ 0 ∷ 0 ∷ 0 ∷ []
+
+abbrev pub plain_strings : List ℕ
+plain_strings = 5 ∷ 0 ∷ 0 ∷ 0 ∷ hello ++ (0 ∷ 0 ∷ 0 ∷ 0 ∷ [])
+
+pub record AreWorked : Type 0 where
+  -- numbers of three bits, of the Parquet format's own example
+  pub packed : unpacked 3 8 (136 ∷ 198 ∷ 250 ∷ []) ≡ 0 ∷ 1 ∷ 2 ∷ 3 ∷ 4 ∷ 5 ∷ 6 ∷ 7 ∷ []
+  pub deltas_are : AreDeltas w32 deltas numbers
+  pub lengths_are : AreDeltaLengths (lengths ++ (hello ++ world ++ foobar ++ letters)) (map bytes (hello ∷ world ∷ foobar ∷ letters ∷ []))
+  pub strings_are : IsPlain byte_array plain_strings (bytes hello ∷ bytes [] ∷ [])
+  pub truths_are : IsPlain boolean (5 ∷ []) (truth true ∷ truth false ∷ truth true ∷ [])
+  pub entries_are : IsIndexed (entry ∷ []) (0 ∷ []) (entry ∷ entry ∷ entry ∷ [])
+  pub none_are : IsIndexed (entry ∷ []) [] []
+  pub version_2 : IsPage the_leaf None header_2 body_2 triples
+  -- ten rows of four bytes each, under limits of 12, 9 and 0
+  pub rows : (rows_per_page 12 40 10 ≡ 2) × (rows_per_page 9 40 10 ≡ 1) × (rows_per_page 0 40 10 ≡ 1)
+  pub rooms : (room 3 8 ≡ 2098) × (level_room 3 ≡ 2054) × (schema_value_size 27 ≡ 48)
+
+abbrev pub pair : ℕ → ℕ → Triple
+pair r d = record { repetition = r; definition = d; value = None }
+
+-- texts that spell no such values, values that are not stored, and pairs that no rows have
+pub record AreNotSpelled : Type 0 where
+  -- a byte short of two numbers
+  pub plain_cut : (vs : List Value) → length vs ≡ 2 → Begins (IsPlain int32) (1 ∷ 0 ∷ 0 ∷ 0 ∷ 2 ∷ 0 ∷ 0 ∷ []) vs → ⊥
+  -- one index in a dictionary of no entries
+  pub past_entries : (vs : List Value) → length vs ≡ 1 → Begins (IsIndexed []) (0 ∷ []) vs → ⊥
+  -- 300 is no number of 8 bits, while -1 is stored for 4294967295; an interval of months has no milliseconds, and Null no value
+  pub too_large : IsOutside (signed 8) int32 (number (pos 300))
+  pub wrapped : IsStored (unsigned 32) int32 (number (pos 4294967295)) (number (negsuc 0))
+  pub no_months : IsOutside months (fixed 12) (bytes (replicate 11 0 ++ 1 ∷ []))
+  pub no_null : IsOutside nothing int32 (number (pos 0))
+  -- an item after a null list, and two columns of a struct that is null in one alone
+  pub breaks : BreaksIn (in_list true (at_leaf true)) (pair 0 1 ∷ pair 1 3 ∷ [])
+  pub goes_on : ¬ BreaksIn (in_list true (at_leaf true)) (pair 0 3 ∷ pair 1 3 ∷ pair 0 0 ∷ pair 0 1 ∷ pair 0 2 ∷ [])
+  pub disagree : ¬ ColumnsAgree (in_struct true 0 (at_leaf false)) (in_struct true 1 (at_leaf false)) (pair 0 1 ∷ []) (pair 0 0 ∷ [])

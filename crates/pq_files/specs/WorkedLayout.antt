@@ -1,0 +1,58 @@
+-- Worked examples of layout, of statistics and of what can be read of a cut section, and a near miss.
+use Rattle.std.specs.Prelude.{ℕ, pos, false, Option, Some, None, List, [], ◌∷◌, map}
+use Rattle.shredding.specs.Shape.{text, signed}
+use Rattle.shredding.specs.Shred.{Triple}
+use Rattle.shredding.specs.Slot.{Value, number, bytes}
+use Rattle.pq_container.specs.declared.version.Version.TheVariants.{V1}
+use Rattle.pq_container.specs.Physical.{int32, byte_array}
+use Rattle.pq_container.specs.Tree.{Leaf}
+use Rattle.pq_container.specs.Types.{required}
+use Rattle.pq_files.specs.FirstFile.{way, rows}
+use Rattle.pq_files.specs.Layout.{Options, Target, IsLaid}
+use Rattle.pq_files.specs.Page.{delta}
+use Rattle.pq_files.specs.Prefixes.{BeginsValues}
+use Rattle.pq_files.specs.Statistics.{Statistics, Bounds, AreStatistics}
+use Rattle.pq_files.specs.WrittenExample.{out_chunk}
+
+-- ---- layout: the first file's rows, without statistics
+
+abbrev pub options : Options
+options = record { version = V1; page_limit = 1048576; chunk_size = None; statistics = false; delta = false }
+
+abbrev pub target : Target
+target = record { way = way; type = signed 32; physical = int32; flat = false; entries = None }
+
+-- ---- statistics: the texts ab and a, and a null between them
+
+abbrev pub pair : ℕ → Option Value → Triple
+pair d v = record { repetition = 0; definition = d; value = v }
+
+abbrev pub ab : Value
+ab = bytes (97 ∷ 98 ∷ [])
+
+abbrev pub a : Value
+a = bytes (97 ∷ [])
+
+abbrev pub texts : List Triple
+texts = pair 1 (Some ab) ∷ pair 0 None ∷ pair 1 (Some a) ∷ []
+
+abbrev pub bounds : List ℕ → Option Bounds
+bounds greatest = Some (record { least = 97 ∷ []; greatest = greatest })
+
+abbrev pub IsOfTexts : Statistics → Type 0
+IsOfTexts s = AreStatistics text byte_array s texts (ab ∷ a ∷ [])
+
+-- ---- a delta section of eight numbers without its last byte holds five of them
+
+abbrev pub flat_leaf : Leaf
+flat_leaf = record { path = record { name = 97 ∷ []; repetition = required; id = None; converted = None; logical = None } ∷ []; physical = int32 }
+
+abbrev pub cut_deltas : List ℕ
+cut_deltas = 128 ∷ 1 ∷ 4 ∷ 8 ∷ 14 ∷ 3 ∷ 2 ∷ 0 ∷ 0 ∷ 0 ∷ 192 ∷ []
+
+pub record AreLaid : Type 0 where
+  pub laid : IsLaid options target rows out_chunk
+  pub counted : IsOfTexts (record { null_count = 1; bounds = bounds (97 ∷ 98 ∷ []) })
+  pub greatest_wrong : ¬ IsOfTexts (record { null_count = 1; bounds = bounds (97 ∷ []) })
+  pub nulls_wrong : ¬ IsOfTexts (record { null_count = 0; bounds = bounds (97 ∷ 98 ∷ []) })
+  pub five_of_eight : BeginsValues delta flat_leaf None 8 cut_deltas (map (λ n. number (pos n)) (7 ∷ 5 ∷ 3 ∷ 1 ∷ 2 ∷ []))

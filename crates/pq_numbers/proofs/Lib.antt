@@ -1,0 +1,6 @@
+pub mod Bytes
+pub mod Digits
+pub mod Examples
+pub mod Numbers
+pub mod Writes
+pub mod Signed

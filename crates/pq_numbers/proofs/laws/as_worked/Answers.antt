@@ -1,0 +1,5 @@
+use Rattle.pq_numbers.proofs.Examples.{are_worked}
+use Rattle.pq_numbers.proofs.laws.as_worked.Goals as goal
+
+pub returns : goal.returns
+returns c = are_worked

@@ -1,0 +1,5 @@
+pub mod Bits
+pub mod Examples
+pub mod Texts
+pub mod Varint
+pub mod Zigzag

@@ -1,0 +1,15 @@
+pub mod Complete
+pub mod Copied
+pub mod Decoding
+pub mod DeltaComplete
+pub mod DeltaParts
+pub mod DeltaSound
+pub mod DeltaSteps
+pub mod Examples
+pub mod Fields
+pub mod Fuel
+pub mod Items
+pub mod Packs
+pub mod Sound
+pub mod Steps
+pub mod Taken

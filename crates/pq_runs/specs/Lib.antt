@@ -1,0 +1,13 @@
+pub mod Decoder
+pub mod Delta
+pub mod DeltaReading
+pub mod DeltaWriting
+pub mod Hybrid
+pub mod Examples
+pub mod Listed
+pub mod Packing
+pub mod Runs
+pub mod Spelled
+pub mod State
+pub mod Taking
+pub mod Writing

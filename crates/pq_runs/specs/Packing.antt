@@ -1,0 +1,15 @@
+-- Numbers packed into bytes, on the way.
+use Rattle.std.specs.Prelude.{◌≡◌, ℕ, ◌+◌, ◌*◌, ◌^◌, ◌<◌, List, length}
+use Rattle.pq_numbers.specs.Bits.{unpacked, bytes_for}
+use Rattle.pq_numbers.specs.Texts.{number_of}
+
+-- of so many bits of a number the bytes that are written, and the bits that are left
+pub record HoldsIn (bits held : ℕ) (text : List ℕ) (rest left : ℕ) : Type 0 where
+  pub size : 8 * length text + rest ≡ bits
+  pub value : number_of text + 2 ^ (8 * length text) * left ≡ held
+  pub small : left < 2 ^ rest
+
+-- the numbers in as many bytes as they need
+pub record ArePacked (w : ℕ) (numbers text : List ℕ) : Type 0 where
+  pub size : length text ≡ bytes_for (w * length numbers)
+  pub unpacks : unpacked w (length numbers) text ≡ numbers

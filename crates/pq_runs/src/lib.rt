@@ -1,0 +1,31 @@
+//! Runs of numbers of a few bits: the hybrid of run lengths and packed bits (Parquet format, Encodings,
+//! "Run Length Encoding / Bit-Packing Hybrid").
+#![tactic(auto)]
+
+mod bits;
+mod decoder;
+pub mod delta_bitpacked;
+mod delta_block;
+mod delta_encode;
+mod encode;
+mod hybrid;
+pub mod hybrid_rle;
+mod laws;
+mod pack;
+mod pending;
+mod plain;
+mod run;
+mod state;
+mod waiting;
+mod whole;
+mod wide;
+
+pub use bits::{get_bit_width, unpack};
+pub use encode::{encode_bool, encode_u32};
+pub use hybrid::HybridRleDecoder;
+pub use laws::{as_worked, runs_are_read, runs_are_unique};
+pub use plain::bitpacked_encode;
+pub use whole::decode;
+
+#[cfg(test)]
+mod tests;

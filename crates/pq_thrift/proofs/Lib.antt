@@ -1,0 +1,11 @@
+pub mod Again
+pub mod Deep
+pub mod Examples
+pub mod Loops
+pub mod OneReading
+pub mod Past
+pub mod Spelled
+pub mod Takes
+pub mod Whole
+pub mod Writable
+pub mod Writes

@@ -1,0 +1,11 @@
+pub mod Examples
+pub mod Grammar
+pub mod Kinds
+pub mod Laws
+pub mod Nesting
+pub mod Numbers
+pub mod Outcome
+pub mod Parse
+pub mod Reading
+pub mod Spelling
+pub mod Value

@@ -1,0 +1,11 @@
+pub mod Along
+pub mod Cut
+pub mod Laws
+pub mod Local
+pub mod Parts
+pub mod Shape
+pub mod Share
+pub mod Shred
+pub mod Slot
+pub mod Triples
+pub mod Worked
