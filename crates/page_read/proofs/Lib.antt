@@ -1,0 +1,6 @@
+pub mod Matched
+pub mod Plain32
+pub mod SectionsLemmas
+pub mod Bodies
+pub mod Passed
+pub mod RowsFound

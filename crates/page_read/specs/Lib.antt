@@ -1,0 +1,4 @@
+pub mod Follows
+pub mod LevelPairs
+pub mod PlainPage
+pub mod Rows

@@ -1,0 +1,21 @@
+//! Reading pages.
+#![tactic(auto)]
+
+mod follows;
+mod levels;
+mod page;
+mod pairs;
+mod rows;
+mod sections;
+mod values;
+
+pub use follows::go_on;
+pub use levels::read_levels;
+pub use page::read_plain_page;
+pub use pairs::LevelPairs;
+pub use rows::has_rows;
+pub use sections::take_section;
+pub use values::read_int32;
+
+#[cfg(test)]
+mod tests;

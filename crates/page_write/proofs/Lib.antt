@@ -1,0 +1,7 @@
+pub mod Little
+pub mod Pairs
+pub mod Rows
+pub mod Behind
+pub mod Made
+pub mod Sections
+pub mod Sizes

@@ -1,0 +1,4 @@
+pub mod Appended
+pub mod Headers
+pub mod Pages
+pub mod Sections

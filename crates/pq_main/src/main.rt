@@ -1,0 +1,32 @@
+//! The program: its words, standard input, standard output and standard error are handed to the top call.
+#![tactic(auto)]
+
+use pq_rewrite::{StdSink, StdSource, run};
+use std::env;
+use std::process::ExitCode;
+
+/// The words after the program's name; none where they are not all text, or there is no memory for them.
+fn words(rt: &HostRuntime) -> Option<Vec<String>> {
+    let mut words = Vec::new(rt.alloc());
+    let mut args = env::args(rt).ok()?;
+    args.next();
+    for arg in args {
+        words.push(arg).ok()?;
+    }
+    Some(words)
+}
+
+fn main(rt: HostRuntime) -> ExitCode {
+    let mut source = StdSource::new(rt.stdin());
+    let mut sink = StdSink::new(rt.stdout());
+    let mut notes = StdSink::new(rt.stderr());
+    let status = match words(&rt) {
+        Some(words) => run(rt.alloc(), &words, &mut source, &mut sink, &mut notes),
+        None => {
+            // Words that are not text are in no form.
+            let bad = [String::new(rt.alloc())];
+            run(rt.alloc(), &bad, &mut source, &mut sink, &mut notes)
+        }
+    };
+    ExitCode::from(status)
+}

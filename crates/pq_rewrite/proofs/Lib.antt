@@ -1,0 +1,4 @@
+pub mod Numbers
+pub mod ErrorTexts
+pub mod Refusals
+pub mod Given

@@ -1,0 +1,10 @@
+pub mod Plain
+pub mod Memory
+pub mod Reading
+pub mod Line
+pub mod Notes
+pub mod Answer
+pub use Rattle.row_file.specs.Causes
+pub use Rattle.row_file.specs.Ends
+pub mod Run
+pub mod FormOne
