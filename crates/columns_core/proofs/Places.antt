@@ -1,7 +1,9 @@
 -- Places that never fall.
-use Rattle.std.proofs.Common.{◌≡◌, ℕ, zero, suc, ℤ, pos, ◌+◌, ◌-◌, ◌≤◌, ◌<◌, List, [], ◌∷◌, ◌++◌, length, map, take, drop, get_or, replicate, add-one, length-take, refl, ap, sym, subst, ◌∙◌, arith}
-use Rattle.std.proofs.lemmas.List.{length-map, map-append}
-use Rattle.columns_core.specs.Rising.{whole, IsWhole, AreFrom, RisesFrom, IsRising, last_place}
+use Rattle.std.proofs.Common.{◌≡◌, Option, Some, ℕ, zero, suc, ℤ, pos, ◌+◌, ◌-◌, ◌≤◌, ◌<◌, List, [], ◌∷◌, ◌++◌, length, map, take, drop, get_or, replicate, sum, append_assoc, add-one, length-take, refl, ap, sym, subst, ◌∙◌, arith}
+use Rattle.std.proofs.lemmas.List.{length-map, map-append, take-map}
+use Rattle.std.proofs.lemmas.List.Sums.{sum_by-cons, sum_by_push}
+use Rattle.std.specs.Iterator.{Yields}
+use Rattle.columns_core.specs.Rising.{whole, IsWhole, AreFrom, RisesFrom, IsRising, last_place, places_from}
 
 from_drop : {A : Type 0} (f : A → ℤ) (xs : List A) (b o : ℕ) → AreFrom b (map f xs) → AreFrom 0 (map f (drop o xs))
 from_drop f [] b zero h = tt
@@ -127,3 +129,54 @@ rise_from o (p ∷ os) (suc i) h k = omega (arith, h.0, rise_from p os i h.1 (om
 pub rises : (os : List ℕ) → IsRising os → get_or os 0 0 ≤ get_or os (length os - 1) 0
 rises [] h = absurd h
 rises (o ∷ os) h = rise_from o os (length (o ∷ os) - 1) h (omega arith)
+
+-- ---- ranges of many lengths
+pub places_more : (o n : ℕ) (ns : List ℕ) → places_from o (ns ++ n ∷ []) ≡ places_from o ns ++ (o + sum ns + n) ∷ []
+places_more o n [] = let e : o + n ≡ o + 0 + n = omega arith in ap (λ p. p ∷ []) e
+places_more o n (m ∷ ms) =
+    let e : o + m + sum ms + n ≡ o + sum (m ∷ ms) + n = omega (arith, sum_by-cons (λ (x : ℕ). x) m ms) in
+    ap (λ r. (o + m) ∷ r) (places_more (o + m) n ms ∙ ap (λ p. places_from (o + m) ms ++ p ∷ []) e)
+
+pub length_more : (xs ys zs : List ℕ) (o n e : ℕ) (ns : List ℕ) → ys ≡ xs ++ places_from o ns → e ≡ o + sum ns → zs ≡ ys ++ (e + n) ∷ [] → zs ≡ xs ++ places_from o (ns ++ n ∷ [])
+length_more xs ys zs o n e ns f g h = rw (places_more o n ns, h, g, f) (append_assoc xs (places_from o ns) ((o + sum ns + n) ∷ []))
+
+pub end_more : (ys zs : List ℕ) (o n e : ℕ) (ns : List ℕ) → e ≡ o + sum ns → zs ≡ ys ++ (e + n) ∷ [] → last_place zs ≡ o + sum (ns ++ n ∷ [])
+end_more ys zs o n e ns g h = rw h (last_push ys (e + n) ∙ omega (arith, g, sum_by_push (λ (x : ℕ). x) ns n))
+
+pub sum_more : (n : ℕ) (ns : List ℕ) → sum (ns ++ n ∷ []) ≡ sum ns + n
+sum_more n ns = sum_by_push (λ (x : ℕ). x) ns n
+
+pub take_front : {A : Type 0} (xs ys : List A) → take (length xs) (xs ++ ys) ≡ xs
+take_front [] ys = refl
+take_front (x ∷ xs) ys = ap (λ r. x ∷ r) (take_front xs ys)
+
+-- ---- the first places
+from_front : {A : Type 0} (f : A → ℤ) (xs : List A) (b n : ℕ) → AreFrom b (map f xs) → AreFrom b (map f (take n xs))
+from_front f xs b zero h = tt
+from_front f [] b (suc n) h = tt
+from_front f (x ∷ xs) b (suc n) h = (h.0, h.1, from_front f xs (whole (f x)) n h.2)
+
+pub record IsShort {A : Type 0} (f : A → ℤ) (ys : List A) (r : ℕ) (d : A) (kept : List ℕ) : Type 0 where
+  pub from : AreFrom 0 (map f ys)
+  pub size : length ys ≡ r + 1
+  pub end : whole (f (get_or ys r d)) ≡ last_place (map (λ o. whole (f o)) ys)
+  pub whole_end : IsWhole (f (get_or ys r d))
+  pub seen : map (λ o. whole (f o)) ys ≡ kept
+
+pub shortened : {A : Type 0} (f : A → ℤ) (xs ys : List A) (r : ℕ) (d : A) (seen : List ℕ) → ys ≡ take (r + 1) xs → AreFrom 0 (map f xs) → map (λ o. whole (f o)) xs ≡ seen → r < length seen → IsShort f ys r d (take (r + 1) seen)
+shortened {A = A} f xs ys r d seen e h s k =
+    let l : length xs ≡ length seen = sym (length-map {A = A} {B = ℕ} xs (λ o. whole (f o))) ∙ ap length s in
+    let n : length ys ≡ r + 1 = ap length e ∙ length-take (r + 1) xs ∙ omega (arith, l, k) in
+    let a : AreFrom 0 (map f ys) = rw e (from_front f xs 0 (r + 1) h) in
+    record {
+      from = a;
+      size = n;
+      end = sym (map_last (λ o. whole (f o)) ys r d n);
+      whole_end = whole_at f ys 0 r d a (omega (arith, n));
+      seen = rw (e, ← s) (sym (take-map (λ o. whole (f o)) (r + 1) xs));
+    }
+
+-- an item more of an iterator
+pub yields_more : {S A : Type 0} (steps : S → Option A → S → Type 0) (s : S) (xs : List A) (t : S) (x : A) (u : S) → Yields steps s xs t → steps t (Some x) u → Yields steps s (xs ++ x ∷ []) u
+yields_more steps s [] t x u y h = (u, subst (λ v. steps v (Some x) u) (sym y) h, refl)
+yields_more steps s (z ∷ xs) t x u y h = (y.0, y.1, yields_more steps y.0 xs t x u y.2 h)

@@ -2,7 +2,6 @@ pub mod Bits
 pub mod Measures
 pub mod Meta
 pub mod Natives
-pub mod Reasons
 pub mod Rising
 pub mod Shapes
 pub mod Tree
@@ -10,3 +9,4 @@ pub mod TypeCode
 pub mod View
 pub use Rattle.shredding.specs.Slot
 pub use Rattle.shredding.specs.Shape
+pub use Rattle.columns_base.specs.Reasons

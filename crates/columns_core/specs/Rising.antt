@@ -1,5 +1,6 @@
 -- Places that never fall.
-use Rattle.std.specs.Prelude.{ℕ, ℤ, pos, negsuc, ◌≤◌, List, [], ◌∷◌}
+use Rattle.std.specs.Prelude.{◌≡◌, ℕ, ℤ, pos, negsuc, ◌+◌, ◌<◌, ◌≤◌, List, [], ◌∷◌, ◌++◌, Option, sum}
+use Rattle.std.specs.Iterator.{Yields, Drains}
 
 abbrev pub whole : ℤ → ℕ
 whole (pos n) = n
@@ -33,3 +34,16 @@ abbrev pub last_place : List ℕ → ℕ
 last_place [] = 0
 last_place (o ∷ []) = o
 last_place (o ∷ p ∷ os) = last_place (p ∷ os)
+
+-- the ends of ranges of these lengths, one after another from a place on
+abbrev pub places_from : ℕ → List ℕ → List ℕ
+places_from o [] = []
+places_from o (n ∷ ns) = (o + n) ∷ places_from (o + n) ns
+
+-- the offsets grew by ranges of all the lengths that the iterator gave, and the last end is below the limit
+abbrev pub GrewBy : {S : Type 0} → (S → Option ℕ → S → Type 0) → S → ℕ → List ℕ → List ℕ → Type 0
+GrewBy steps s limit old new = (ns : List ℕ) × Drains steps s ns × (new ≡ old ++ places_from (last_place old) ns) × (last_place old + sum ns < limit)
+
+-- lengths that the iterator gave pass the limit
+abbrev pub Passes : {S : Type 0} → (S → Option ℕ → S → Type 0) → S → ℕ → List ℕ → Type 0
+Passes {S} steps s limit old = (ns : List ℕ) × (t : S) × Yields steps s ns t × (limit ≤ last_place old + sum ns)

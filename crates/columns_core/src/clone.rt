@@ -1,15 +1,20 @@
 //! `clone`, which gives an equal value.
-ghost use Rattle.std.specs.Prelude.{◌≡◌, IfOk, option_map};
+ghost use Rattle.std.specs.Prelude.{◌≡◌, IfOk, IfErr, option_map};
 ghost use Rattle.columns_core.specs.View.{type_view, field_view, fields_view, schema_view};
 
-use crate::error::Result;
 use crate::types::{DataType, Field, Schema};
+use columns_base::{Error, Result};
 use std::alloc::Global;
 
 impl DataType {
     /// A type of the same parts.
+    ///
+    /// # Errors
+    ///
+    /// `Memory`.
     pub fn clone(&self, alloc: Global) -> Result<DataType>
-        ensures { IfOk result (λ t. type_view t ≡ type_view self.now) }
+        ensures ok { IfOk result (λ t. type_view t ≡ type_view self.now) }
+        ensures err { IfErr result (λ e. e ≡ Error.Memory) }
     {
         copy_type(self, alloc)
     }
@@ -17,8 +22,13 @@ impl DataType {
 
 impl Field {
     /// A field of the same parts.
+    ///
+    /// # Errors
+    ///
+    /// `Memory`.
     pub fn clone(&self, alloc: Global) -> Result<Field>
-        ensures { IfOk result (λ f. field_view f ≡ field_view self.now) }
+        ensures ok { IfOk result (λ f. field_view f ≡ field_view self.now) }
+        ensures err { IfErr result (λ e. e ≡ Error.Memory) }
     {
         copy_field(self, alloc)
     }
@@ -26,8 +36,13 @@ impl Field {
 
 impl Schema {
     /// A schema of the same parts.
+    ///
+    /// # Errors
+    ///
+    /// `Memory`.
     pub fn clone(&self, alloc: Global) -> Result<Schema>
-        ensures { IfOk result (λ s. schema_view s ≡ schema_view self.now) }
+        ensures ok { IfOk result (λ s. schema_view s ≡ schema_view self.now) }
+        ensures err { IfErr result (λ e. e ≡ Error.Memory) }
     {
         Ok(Schema {
             fields: copy_fields(&self.fields, alloc)?,
@@ -38,7 +53,8 @@ impl Schema {
 
 #[cycle(copy)]
 fn copy_type(data_type: &DataType, alloc: Global) -> Result<DataType>
-    ensures { IfOk result (λ t. type_view t ≡ type_view data_type.now) }
+    ensures ok { IfOk result (λ t. type_view t ≡ type_view data_type.now) }
+    ensures err { IfErr result (λ e. e ≡ Error.Memory) }
 {
     match data_type {
         DataType::Null => Ok(DataType::Null),
@@ -99,7 +115,8 @@ fn copy_type(data_type: &DataType, alloc: Global) -> Result<DataType>
 
 #[cycle(copy)]
 fn copy_field(field: &Field, alloc: Global) -> Result<Field>
-    ensures { IfOk result (λ f. field_view f ≡ field_view field.now) }
+    ensures ok { IfOk result (λ f. field_view f ≡ field_view field.now) }
+    ensures err { IfErr result (λ e. e ≡ Error.Memory) }
 {
     Ok(Field {
         name: field.name.clone()?,
@@ -111,7 +128,8 @@ fn copy_field(field: &Field, alloc: Global) -> Result<Field>
 
 #[cycle(copy)]
 fn copy_fields(fields: &Vec<Field>, alloc: Global) -> Result<Vec<Field>>
-    ensures { IfOk result (λ v. fields_view v.items ≡ fields_view fields.now.items) }
+    ensures ok { IfOk result (λ v. fields_view v.items ≡ fields_view fields.now.items) }
+    ensures err { IfErr result (λ e. e ≡ Error.Memory) }
 {
     let mut copies = Vec::with_capacity(alloc, fields.len())?;
     for field in fields {
@@ -121,7 +139,8 @@ fn copy_fields(fields: &Vec<Field>, alloc: Global) -> Result<Vec<Field>>
 }
 
 fn copy_ids(ids: &Option<Vec<i32>>) -> Result<Option<Vec<i32>>>
-    ensures { IfOk result (λ o. option_map (λ v. v.items) o ≡ option_map (λ v. v.items) ids.now) }
+    ensures ok { IfOk result (λ o. option_map (λ v. v.items) o ≡ option_map (λ v. v.items) ids.now) }
+    ensures err { IfErr result (λ e. e ≡ Error.Memory) }
 {
     match ids {
         Some(ids) => Ok(Some(ids.clone()?)),

@@ -1,10 +1,11 @@
 //! Truth values that grow.
-ghost use Rattle.std.specs.Prelude.{◌≡◌, ◌+◌, ◌-◌, ◌*◌, ◌<◌, ◌≤◌, ◌^◌, ◌==◌, ◌≢◌, ℕ, [], ◌∷◌, ◌++◌, IfOk, IfErr, IsOk, replicate, vec_len, vec_capacity, length as list_length};
+ghost use Rattle.std.specs.Prelude.{◌≡◌, ◌+◌, ◌-◌, ◌*◌, ◌%◌, ◌<◌, ◌≤◌, ◌^◌, ◌==◌, ◌≢◌, ℕ, [], ◌∷◌, ◌++◌, IfOk, IfErr, IsOk, replicate, vec_len, vec_capacity, length as list_length};
 ghost use Rattle.columns_core.specs.Bits.{bits_from, bit_of};
 ghost use Rattle.std.specs.Int.{bit_at};
 
+use crate::bit_runs::{bit_in, eight_bits};
 use crate::bitmap::Bitmap;
-use crate::error::{Error, Result};
+use columns_base::{Error, Result};
 use std::alloc::Global;
 use std::marker::Model;
 
@@ -27,9 +28,15 @@ impl Model for MutableBitmap {
 }
 
 impl MutableBitmap {
+    /// No truth value, and room for as many.
+    ///
+    /// # Errors
+    ///
+    /// `Memory`.
     pub fn with_capacity(alloc: Global, capacity: usize) -> Result<Self>
         ensures empty { IfOk result (λ b. b.0 ≡ []) }
         ensures room { IfOk result (λ b. capacity ≤ b.1) }
+        ensures err { IfErr result (λ e. e ≡ Error.Memory) }
     {
         Ok(MutableBitmap {
             bytes: Vec::with_capacity(alloc, bytes_for(capacity))?,
@@ -37,15 +44,22 @@ impl MutableBitmap {
         })
     }
 
+    /// How many truth values there are.
     pub fn len(&self) -> usize
         ensures { result ≡ list_length self.now.0 }
     {
         self.size
     }
 
+    /// Room for as many truth values more.
+    ///
+    /// # Errors
+    ///
+    /// `Memory`.
     pub fn reserve(&mut self, additional: usize) -> Result<()>
         ensures same { self.new.0 ≡ self.old.0 }
         ensures ok { IfOk result (λ _. additional ≤ self.new.1) }
+        ensures err { IfErr result (λ e. e ≡ Error.Memory) }
         ensures reserved { additional ≤ self.old.1 → IsOk result }
     {
         let Some(size) = self.size.checked_add(additional) else {
@@ -56,9 +70,14 @@ impl MutableBitmap {
         Ok(())
     }
 
+    /// A truth value more. It is not refused while room is left.
+    ///
+    /// # Errors
+    ///
+    /// `Memory`; the truth values are then as before.
     pub fn push(&mut self, value: bool) -> Result<()>
         ensures ok { IfOk result (λ _. self.new.0 ≡ self.old.0 ++ value ∷ []) }
-        ensures err { IfErr result (λ _. self.new.0 ≡ self.old.0) }
+        ensures err { IfErr result (λ e. (e ≡ Error.Memory) × (self.new.0 ≡ self.old.0)) }
         ensures reserved { 0 < self.old.1 → IsOk result }
         ensures room { self.old.1 ≤ self.new.1 + 1 }
     {
@@ -71,44 +90,142 @@ impl MutableBitmap {
         Ok(())
     }
 
+    /// As many equal truth values more.
+    ///
+    /// # Errors
+    ///
+    /// `Memory`; the truth values are then as before.
     pub fn extend_constant(&mut self, additional: usize, value: bool) -> Result<()>
         ensures ok { IfOk result (λ _. self.new.0 ≡ self.old.0 ++ replicate additional value) }
-        ensures err { IfErr result (λ _. self.new.0 ≡ self.old.0) }
+        ensures err { IfErr result (λ e. (e ≡ Error.Memory) × (self.new.0 ≡ self.old.0)) }
         ensures reserved { additional ≤ self.old.1 → IsOk result }
     {
         self.reserve(additional)?;
-        for _i in 0..additional {
-            self.push(value).unwrap();
-        }
+        let front = self.until_byte(additional);
+        self.push_copies(front, value);
+        let whole = (additional - front) / 8;
+        self.push_whole(whole, value);
+        self.push_copies(additional - front - 8 * whole, value);
         Ok(())
     }
 
-    #[tactic(auto, using(crate::proofs::Bits::more_bits))]
+    /// `length` bits of packed bytes more, from the bit `offset` on.
+    ///
+    /// # Errors
+    ///
+    /// `Memory`; the truth values are then as before.
     pub fn extend_from_slice(&mut self, slice: &[u8], offset: usize, length: usize) -> Result<()>
         requires within { offset + length ≤ 8 * list_length slice.now }
         requires counted { offset + length < 2 ^ 64 }
         ensures ok { IfOk result (λ _. self.new.0 ≡ self.old.0 ++ bits_from slice.now offset length) }
-        ensures err { IfErr result (λ _. self.new.0 ≡ self.old.0) }
+        ensures err { IfErr result (λ e. (e ≡ Error.Memory) × (self.new.0 ≡ self.old.0)) }
+        ensures reserved { length ≤ self.old.1 → IsOk result }
     {
         self.reserve(length)?;
-        for i in 0..length {
-            self.push(bit_in(slice, offset + i)).unwrap();
-        }
+        let front = self.until_byte(length);
+        self.push_single(slice, offset, front);
+        let whole = (length - front) / 8;
+        self.push_bytes(slice, offset + front, whole);
+        let done = front + 8 * whole;
+        self.push_single(slice, offset + done, length - done);
         Ok(())
     }
 
+    /// The truth values, in memory that can be shared.
+    ///
+    /// # Errors
+    ///
+    /// `Memory`.
     pub fn into_bitmap(self) -> Result<Bitmap>
-        ensures { IfOk result (λ b. b ≡ self.0) }
+        ensures ok { IfOk result (λ b. b ≡ self.0) }
+        ensures err { IfErr result (λ e. e ≡ Error.Memory) }
     {
         let alloc = *self.bytes.allocator();
         Bitmap::from_bytes(alloc, self.bytes, self.size)
     }
 }
 
+// Within room that is there.
+impl MutableBitmap {
+    // How many of these bits fill the last byte.
+    fn until_byte(&self, count: usize) -> usize
+        ensures within { result ≤ count }
+        ensures filled { result < count → (list_length self.now.0 + result) % 8 ≡ 0 }
+    {
+        let open = self.size % 8;
+        if open == 0 { 0 } else { count.min(8 - open) }
+    }
+
+    fn push_copies(&mut self, count: usize, value: bool)
+        requires { count ≤ self.old.1 }
+        ensures same { self.new.0 ≡ self.old.0 ++ replicate count value }
+        ensures room { self.old.1 ≤ self.new.1 + count }
+    {
+        for _i in 0..count {
+            self.push(value).unwrap();
+        }
+    }
+
+    // Whole bytes of equal bits, behind whole bytes.
+    fn push_whole(&mut self, count: usize, value: bool)
+        requires room { 8 * count ≤ self.old.1 }
+        requires filled { 0 < count → list_length self.old.0 % 8 ≡ 0 }
+        ensures same { self.new.0 ≡ self.old.0 ++ replicate (8 * count) value }
+        ensures room { self.old.1 ≤ self.new.1 + 8 * count }
+    {
+        let byte = full_byte(value);
+        for _i in 0..count {
+            self.push_eight(byte);
+        }
+    }
+
+    fn push_single(&mut self, slice: &[u8], offset: usize, length: usize)
+        requires within { offset + length ≤ 8 * list_length slice.now }
+        requires counted { offset + length < 2 ^ 64 }
+        requires room { length ≤ self.old.1 }
+        ensures same { self.new.0 ≡ self.old.0 ++ bits_from slice.now offset length }
+        ensures room { self.old.1 ≤ self.new.1 + length }
+    {
+        for i in 0..length {
+            self.push(bit_in(slice, offset + i)).unwrap();
+        }
+    }
+
+    // Whole bytes, behind whole bytes.
+    fn push_bytes(&mut self, slice: &[u8], offset: usize, count: usize)
+        requires within { offset + 8 * count ≤ 8 * list_length slice.now }
+        requires counted { offset + 8 * count < 2 ^ 64 }
+        requires room { 8 * count ≤ self.old.1 }
+        requires filled { 0 < count → list_length self.old.0 % 8 ≡ 0 }
+        ensures same { self.new.0 ≡ self.old.0 ++ bits_from slice.now offset (8 * count) }
+        ensures room { self.old.1 ≤ self.new.1 + 8 * count }
+    {
+        for i in 0..count {
+            self.push_eight(eight_bits(slice, offset + 8 * i));
+        }
+    }
+
+    // The eight bits of a byte, behind whole bytes.
+    fn push_eight(&mut self, byte: u8)
+        requires room { 8 ≤ self.old.1 }
+        requires filled { list_length self.old.0 % 8 ≡ 0 }
+        ensures same { self.new.0 ≡ self.old.0 ++ bits_from (byte ∷ []) 0 8 }
+        ensures room { self.old.1 ≤ self.new.1 + 8 }
+    {
+        self.bytes.push(byte).unwrap();
+        self.size += 8;
+    }
+}
+
 impl Bitmap {
     /// The truth values of a slice.
+    ///
+    /// # Errors
+    ///
+    /// `Memory`.
     pub fn from_slice(alloc: Global, bits: &[bool]) -> Result<Bitmap>
-        ensures { IfOk result (λ b. b ≡ bits.now) }
+        ensures ok { IfOk result (λ b. b ≡ bits.now) }
+        ensures err { IfErr result (λ e. e ≡ Error.Memory) }
     {
         let mut made = MutableBitmap::with_capacity(alloc, bits.len())?;
         for bit in bits {
@@ -134,13 +251,11 @@ fn with_bit(byte: u8, at: usize, value: bool) -> u8
     if value { byte | mask } else { byte & !mask }
 }
 
-// A bit of packed bytes.
-fn bit_in(bytes: &[u8], at: usize) -> bool
-    requires { at < 8 * list_length bytes.now }
-    ensures { result ≡ bit_of bytes.now at }
+// A byte of equal bits.
+fn full_byte(value: bool) -> u8
+    ensures { bits_from (result ∷ []) 0 8 ≡ replicate 8 value }
 {
-    let byte = bytes[at / 8];
-    (byte >> (at % 8)) & 1 == 1
+    if value { 0xff } else { 0 }
 }
 
 // A byte more where the last one is full.
@@ -152,7 +267,7 @@ fn make_room(bytes: &mut Vec<u8>, size: usize) -> Result<()>
     ensures ok { IfOk result (λ _. size < 8 * vec_len bytes.new) }
     ensures below { size ≤ 8 * vec_len bytes.new }
     ensures above { 8 * vec_len bytes.new ≤ size + 8 }
-    ensures err { IfErr result (λ _. 8 * vec_len bytes.new < size + 8) }
+    ensures err { IfErr result (λ e. (e ≡ Error.Memory) × (8 * vec_len bytes.new < size + 8)) }
     ensures capacity { vec_capacity bytes.old ≤ vec_capacity bytes.new }
     ensures reserved { size < 8 * vec_capacity bytes.old → IsOk result }
 {

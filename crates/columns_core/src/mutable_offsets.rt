@@ -1,9 +1,10 @@
 //! Offsets that grow.
-ghost use Rattle.std.specs.Prelude.{◌≡◌, ◌↔◌, pos, MatchOption, ◌+◌, ◌<◌, ◌≤◌, [], ◌∷◌, ◌++◌, IfOk, IfErr, IsOk, IsErrOf, replicate, length as list_length};
-ghost use Rattle.columns_core.specs.Rising.{IsWhole, whole, last_place};
+ghost use Rattle.std.specs.Prelude.{◌≡◌, ◌↔◌, ◌⊎◌, ℕ, List, pos, MatchOption, ◌+◌, ◌<◌, ◌≤◌, [], ◌∷◌, ◌++◌, IfOk, OnOk, IfErr, IsOk, IsErrOf, replicate, sum, take, length as list_length};
+ghost use Rattle.columns_core.specs.Rising.{IsWhole, whole, last_place, places_from, GrewBy, Passes};
+ghost use Rattle.std.specs.Iterator.{IsFinite, Drains};
 
-use crate::error::{Error, Result, V};
 use crate::offsets::{Offset, OffsetsBuffer};
+use columns_base::{Error, Result, V};
 use std::alloc::Global;
 use std::marker::Model;
 
@@ -27,7 +28,12 @@ impl<O: Offset> Model for Offsets<O> {
 
 impl<O: Offset> Offsets<O> {
     /// The offset 0 alone, with room for as many ranges.
+    ///
+    /// # Errors
+    ///
+    /// `Memory`.
     pub fn with_capacity(alloc: Global, capacity: usize) -> Result<Self>
+        ensures err { IfErr result (λ e. e ≡ Error.Memory) }
         ensures empty { IfOk result (λ b. b.0 ≡ 0 ∷ []) }
         ensures room { IfOk result (λ b. capacity ≤ b.1) }
     {
@@ -40,7 +46,12 @@ impl<O: Offset> Offsets<O> {
     }
 
     /// Room for as many ranges more.
+    ///
+    /// # Errors
+    ///
+    /// `Memory`.
     pub fn reserve(&mut self, additional: usize) -> Result<()>
+        ensures err { IfErr result (λ e. e ≡ Error.Memory) }
         ensures same { self.new.0 ≡ self.old.0 }
         ensures ok { IfOk result (λ _. additional ≤ self.new.1) }
     {
@@ -48,12 +59,16 @@ impl<O: Offset> Offsets<O> {
         Ok(())
     }
 
-    /// A range of this length more.
+    /// A range of this length more. It is not refused while room is left.
+    ///
+    /// # Errors
+    ///
+    /// `Memory`; the offsets are then as before.
     pub fn push(&mut self, length: O) -> Result<()>
         requires not_negative { IsWhole (O.number length) }
         requires fits { last_place self.old.0 + whole (O.number length) < O.limit }
         ensures ok { IfOk result (λ _. self.new.0 ≡ self.old.0 ++ (last_place self.old.0 + whole (O.number length)) ∷ []) }
-        ensures err { IfErr result (λ _. self.new.0 ≡ self.old.0) }
+        ensures err { IfErr result (λ e. (e ≡ Error.Memory) × (self.new.0 ≡ self.old.0)) }
         ensures reserved { 0 < self.old.1 → IsOk result }
         ensures room { self.old.1 ≤ self.new.1 + 1 }
     {
@@ -64,11 +79,15 @@ impl<O: Offset> Offsets<O> {
         Ok(())
     }
 
-    /// A range of this length more. V1 where its end does not fit the offset type.
+    /// A range of this length more. It is not refused while room is left and its end fits.
+    ///
+    /// # Errors
+    ///
+    /// V1 exactly where its end does not fit the offset type; `Memory`. The offsets are then as before.
     pub fn try_push_usize(&mut self, length: usize) -> Result<()>
         ensures ok { IfOk result (λ _. self.new.0 ≡ self.old.0 ++ (last_place self.old.0 + length) ∷ []) }
         ensures overflow { IsErrOf result (Error.Overflow V.V1) ↔ O.limit ≤ last_place self.old.0 + length }
-        ensures err { IfErr result (λ _. self.new.0 ≡ self.old.0) }
+        ensures err { IfErr result (λ e. ((e ≡ Error.Memory) ⊎ (e ≡ Error.Overflow V.V1)) × (self.new.0 ≡ self.old.0)) }
         ensures reserved { 0 < self.old.1 → last_place self.old.0 + length < O.limit → IsOk result }
         ensures room { self.old.1 ≤ self.new.1 + 1 }
     {
@@ -80,10 +99,37 @@ impl<O: Offset> Offsets<O> {
         Ok(())
     }
 
-    /// As many empty ranges more.
+    /// A range of each length more.
+    ///
+    /// # Errors
+    ///
+    /// V1 where the lengths together pass the offset type; `Memory`. The offsets are then as before.
+    pub fn try_extend_from_lengths<I: Iterator<Item = usize> + Drop>(
+        &mut self,
+        lengths: I,
+    ) -> Result<()>
+        requires can { I.can_next lengths }
+        requires ends { IsFinite (I.remaining lengths) }
+        ensures ok { OnOk result (GrewBy I.next_gives lengths O.limit self.old.0 self.new.0) }
+        ensures overflow { IsErrOf result (Error.Overflow V.V1) → Passes I.next_gives lengths O.limit self.old.0 }
+        ensures err { IfErr result (λ e. ((e ≡ Error.Memory) ⊎ (e ≡ Error.Overflow V.V1)) × (self.new.0 ≡ self.old.0)) }
+    {
+        let ranges = self.len_proxy();
+        if let Err(error) = self.push_lengths(lengths) {
+            self.shorten(ranges);
+            return Err(error);
+        }
+        Ok(())
+    }
+
+    /// As many empty ranges more. They are not refused while there is room for them.
+    ///
+    /// # Errors
+    ///
+    /// `Memory`; the offsets are then as before.
     pub fn extend_constant(&mut self, additional: usize) -> Result<()>
         ensures ok { IfOk result (λ _. self.new.0 ≡ self.old.0 ++ replicate additional (last_place self.old.0)) }
-        ensures err { IfErr result (λ _. self.new.0 ≡ self.old.0) }
+        ensures err { IfErr result (λ e. (e ≡ Error.Memory) × (self.new.0 ≡ self.old.0)) }
         ensures reserved { additional ≤ self.old.1 → IsOk result }
     {
         let Some(count) = self.values.len().checked_add(additional) else {
@@ -110,10 +156,46 @@ impl<O: Offset> Offsets<O> {
     }
 
     /// The offsets, in memory that can be shared.
+    ///
+    /// # Errors
+    ///
+    /// `Memory`.
     pub fn into_buffer(self) -> Result<OffsetsBuffer<O>>
-        ensures { IfOk result (λ b. b ≡ self.0) }
+        ensures ok { IfOk result (λ b. b ≡ self.0) }
+        ensures err { IfErr result (λ e. e ≡ Error.Memory) }
     {
         OffsetsBuffer::from_rising(self.values)
+    }
+
+    // After an error some of the ranges may stand there.
+    fn push_lengths<I: Iterator<Item = usize> + Drop>(&mut self, lengths: I) -> Result<()>
+        requires can { I.can_next lengths }
+        requires ends { IsFinite (I.remaining lengths) }
+        ensures ok { OnOk result (GrewBy I.next_gives lengths O.limit self.old.0 self.new.0) }
+        ensures overflow { IsErrOf result (Error.Overflow V.V1) → Passes I.next_gives lengths O.limit self.old.0 }
+        ensures err { IfErr result (λ e. (e ≡ Error.Memory) ⊎ (e ≡ Error.Overflow V.V1)) }
+        ensures kept { take (list_length self.old.0) self.new.0 ≡ self.old.0 }
+    {
+        self.know_last();
+        for length in lengths {
+            self.try_push_usize(length)?;
+        }
+        Ok(())
+    }
+
+    fn know_last(&self)
+        ensures { last_place self.now.0 < O.limit }
+    {
+        let _last = self.last().to_usize();
+    }
+
+    // Keeps the first ranges.
+    fn shorten(&mut self, ranges: usize)
+        requires { ranges < list_length self.old.0 }
+        ensures { self.new.0 ≡ take (ranges + 1) self.old.0 }
+    {
+        self.values.truncate(ranges + 1);
+        self.end = self.values[ranges].to_usize();
     }
 }
 

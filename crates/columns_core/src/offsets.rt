@@ -1,9 +1,8 @@
 //! Places that never fall, in shared memory.
-ghost use Rattle.std.specs.Prelude.{◌≡◌, ◌↔◌, Bool, ◌+◌, ◌-◌, ◌<◌, ◌≤◌, ◌^◌, IsTrue, pos, ◌≤ℤ◌, List, ℕ, ℤ, [], ◌∷◌, ◌++◌, IfOk, IsErrOf, MatchOption, map, length as list_length, take, drop, slice_index_or, Err};
+ghost use Rattle.std.specs.Prelude.{◌≡◌, ◌↔◌, ◌⊎◌, Bool, ◌+◌, ◌-◌, ◌<◌, ◌≤◌, ◌^◌, IsTrue, pos, ◌≤ℤ◌, List, ℕ, ℤ, [], ◌∷◌, ◌++◌, IfOk, IfErr, IsErrOf, MatchOption, map, length as list_length, take, drop, slice_index_or, Err};
 ghost use Rattle.columns_core.specs.Rising.{AreFrom, IsRising, IsWhole, whole, ArePlaces};
 
-use crate::error::{A, Error, Result};
-use std::alloc::Global;
+use columns_base::{A, Error, Result};
 use std::marker::Model;
 use std::rc::Rc;
 
@@ -140,10 +139,15 @@ impl<O: Offset> Model for OffsetsBuffer<O> {
 }
 
 impl<O: Offset> OffsetsBuffer<O> {
-    /// The offsets of a list. A8 where there is none, one is negative, or one is below the one before it.
+    /// The offsets of a list.
+    ///
+    /// # Errors
+    ///
+    /// A8 exactly where there is none, one is negative, or one is below the one before it; `Memory`.
     pub fn try_from_vec(v: Vec<O>) -> Result<Self>
         ensures ok { IfOk result (λ b. b ≡ map (λ o. whole (O.number o)) v.items) }
         ensures refused { IsErrOf result (Error.InvalidArgumentError A.A8) ↔ ¬ (ArePlaces (map O.number v.items)) }
+        ensures err { IfErr result (λ e. (e ≡ Error.Memory) ⊎ (e ≡ Error.InvalidArgumentError A.A8)) }
     {
         if v.is_empty() || !never_falls(&v) {
             return Err(Error::InvalidArgumentError(A::A8));
@@ -161,7 +165,8 @@ impl<O: Offset> OffsetsBuffer<O> {
     pub(crate) fn from_rising(v: Vec<O>) -> Result<Self>
         requires some { 0 < list_length v.items }
         requires rising { AreFrom 0 (map O.number v.items) }
-        ensures { IfOk result (λ b. b ≡ map (λ o. whole (O.number o)) v.items) }
+        ensures ok { IfOk result (λ b. b ≡ map (λ o. whole (O.number o)) v.items) }
+        ensures err { IfErr result (λ e. e ≡ Error.Memory) }
     {
         let alloc = *v.allocator();
         let size = v.len() - 1;
@@ -236,8 +241,13 @@ impl<O: Offset> OffsetsBuffer<O> {
     }
 
     /// Shares the memory, and takes none.
-    pub fn clone(&self, _alloc: Global) -> Result<Self>
-        ensures { IfOk result (λ b. b ≡ self.now) }
+    ///
+    /// # Errors
+    ///
+    /// `Memory` where as many share the offsets as `usize` counts.
+    pub fn clone(&self) -> Result<Self>
+        ensures ok { IfOk result (λ b. b ≡ self.now) }
+        ensures err { IfErr result (λ e. e ≡ Error.Memory) }
     {
         Ok(OffsetsBuffer {
             values: self.values.clone()?,

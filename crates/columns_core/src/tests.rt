@@ -23,9 +23,42 @@ fn cuts_of_a_bitmap_are_cuts_of_its_bits(rt: HostRuntime) -> TestResult {
         for (bit, want) in bitmap.iter().zip(rest) {
             assert_eq!(rt; bit, *want, "cut at {cut}");
         }
-        let shared = bitmap.clone(rt.alloc())?;
+        let shared = bitmap.clone()?;
         assert!(rt; shared == bitmap);
+        assert!(rt; Bitmap::from_slice(rt.alloc(), rest)? == bitmap);
+        if let Some((_, other)) = rest.split_last() {
+            assert!(rt; Bitmap::from_slice(rt.alloc(), other)? != bitmap);
+        }
     }
+    Ok(())
+}
+
+#[test]
+fn whole_bytes_are_handled_at_once(rt: HostRuntime) -> TestResult {
+    let mut grown = MutableBitmap::with_capacity(rt.alloc(), 0)?;
+    let mut single = MutableBitmap::with_capacity(rt.alloc(), 0)?;
+    let bytes = [0b0110_1001, 0xff, 0, 0b1010_0111, 0b0001_1000];
+    for (offset, length) in [(0, 40), (3, 37), (7, 1), (5, 16), (1, 0), (8, 24)] {
+        grown.extend_from_slice(&bytes, offset, length)?;
+        for bit in BitmapIter::new(&bytes, offset, length) {
+            single.push(bit)?;
+        }
+        grown.extend_constant(length, true)?;
+        grown.extend_constant(9, false)?;
+        for _i in 0..length {
+            single.push(true)?;
+        }
+        for _i in 0..9 {
+            single.push(false)?;
+        }
+    }
+    assert_eq!(rt; grown.len(), 118 + 118 + 54);
+    let (grown, single) = (grown.into_bitmap()?, single.into_bitmap()?);
+    assert!(rt; grown == single);
+    assert_eq!(rt;
+        grown.unset_bits(),
+        single.iter().filter(|bit| !*bit).count()
+    );
     Ok(())
 }
 
@@ -90,6 +123,58 @@ fn offsets_grow_until_their_type_is_full(rt: HostRuntime) -> TestResult {
     assert_eq!(rt; offsets.len_proxy(), 4);
     let buffer = offsets.into_buffer()?;
     assert_eq!(rt; buffer.buffer(), [0, 3, 3, 3, i32::MAX].as_slice());
+    let shared = buffer.clone()?;
+    assert_eq!(rt; shared.len_proxy(), 4);
+    Ok(())
+}
+
+#[test]
+fn many_lengths_are_taken_or_none(rt: HostRuntime) -> TestResult {
+    let mut offsets = Offsets::<i32>::with_capacity(rt.alloc(), 0)?;
+    offsets.try_extend_from_lengths([2, 0, 3].iter().copied())?;
+    let refused = offsets.try_extend_from_lengths([1, 0x7fff_fffa].iter().copied());
+    assert!(rt; matches!(refused, Err(Error::Overflow(V::V1))));
+    offsets.try_extend_from_lengths([0x7fff_fffa].iter().copied())?;
+    let buffer = offsets.into_buffer()?;
+    assert_eq!(rt; buffer.buffer(), [0, 2, 2, 5, i32::MAX].as_slice());
+    Ok(())
+}
+
+#[test]
+fn the_last_text_of_a_key_counts(rt: HostRuntime) -> TestResult {
+    let mut metadata = Metadata::new(rt.alloc());
+    assert!(rt; metadata.is_empty());
+    for (key, text) in [("b", "1"), ("a", "2"), ("b", "3"), ("ab", "4")] {
+        metadata.insert(
+            String::from_str(rt.alloc(), key)?,
+            String::from_str(rt.alloc(), text)?,
+        )?;
+    }
+    assert_eq!(rt; metadata.len(), 3);
+    for ((key, text), (wanted_key, wanted)) in metadata
+        .iter()
+        .zip(&[("a", "2"), ("ab", "4"), ("b", "3")])
+    {
+        assert_eq!(rt; key.as_str(), *wanted_key);
+        assert_eq!(rt; text.as_str(), *wanted);
+    }
+    let copy = metadata.clone(rt.alloc())?;
+    assert!(rt; copy == metadata);
+    assert!(rt; matches!(metadata.remove("b"), Some(text) if text.as_str() == "3"));
+    assert!(rt; metadata.get("b").is_none());
+    assert!(rt; matches!(metadata.get("ab"), Some(text) if text.as_str() == "4"));
+    assert!(rt; copy != metadata);
+    Ok(())
+}
+
+#[test]
+fn stored_numbers_have_their_bytes(rt: HostRuntime) -> TestResult {
+    let mut out = Vec::new(rt.alloc());
+    (-2i32).push_le_bytes(&mut out)?;
+    258i64.push_le_bytes(&mut out)?;
+    let wanted = [0xfe, 0xff, 0xff, 0xff, 2, 1, 0, 0, 0, 0, 0, 0];
+    assert_eq!(rt; out.as_slice(), wanted.as_slice());
+    assert!(rt; <i64 as ParquetNativeType>::physical_type() == PhysicalType::Int64);
     Ok(())
 }
 
@@ -121,25 +206,12 @@ fn types_and_schemas_are_cloned_and_compared(rt: HostRuntime) -> TestResult {
     assert!(rt; is_same_schema(&schema, &other));
     other.fields.clear();
     assert!(rt; !is_same_schema(&schema, &other));
-    Ok(())
-}
-
-#[test]
-fn an_answer_is_its_line(rt: HostRuntime) -> TestResult {
-    for (error, line) in [
-        (Error::ReadFault, "ReadFault"),
-        (Error::InputLimit(Limit::Pairs), "InputLimit Pairs"),
-        (Error::OutOfSpec(S::S10), "OutOfSpec S10"),
-        (Error::NotYetImplemented(N::N5), "NotYetImplemented N5"),
-        (
-            Error::InvalidArgumentError(A::A8),
-            "InvalidArgumentError A8",
-        ),
-        (Error::Overflow(V::V3), "Overflow V3"),
-        (Error::Memory, "Memory"),
-    ] {
-        let text = format!(in rt.alloc(); "{error}")?;
-        assert_eq!(rt; text.as_str(), line);
-    }
+    let mut other = schema.clone(rt.alloc())?;
+    other.metadata.insert(
+        String::from_str(rt.alloc(), "k")?,
+        String::from_str(rt.alloc(), "v")?,
+    )?;
+    assert!(rt; !is_same_schema(&schema, &other));
+    assert!(rt; schema != other);
     Ok(())
 }

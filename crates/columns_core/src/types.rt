@@ -1,4 +1,4 @@
-//! Arrow's logical types, fields and schemas, and Parquet's physical types.
+//! Arrow's logical types, fields and schemas.
 use crate::metadata::Metadata;
 
 /// The unit of a time, a timestamp or a duration (Arrow columnar format, "Data Types").
@@ -87,21 +87,4 @@ pub struct Field {
 pub struct Schema {
     pub fields: Vec<Field>,
     pub metadata: Metadata,
-}
-
-/// How the values of a leaf are stored (Parquet format, "Types").
-#[derive(Clone, Copy, Debug, PartialEq, Eq, Drop)]
-pub enum PhysicalType {
-    /// One bit a value.
-    Boolean,
-    Int32,
-    Int64,
-    /// 12 bytes a value, as old writers stored timestamps.
-    Int96,
-    Float,
-    Double,
-    /// A length and as many bytes.
-    ByteArray,
-    /// As many bytes a value as stated.
-    FixedLenByteArray(usize),
 }

@@ -2,10 +2,10 @@
 use Rattle.std.proofs.Common.{◌≡◌, ◌≢◌, ◌⊎◌, ◌≤◌, ℕ, ◌+◌, List, [], ◌∷◌, cond, map, length, drop, None, nat_eq, refl, sym, ap, subst, ◌∙◌, inl, inr, arith}
 use Rattle.std.specs.Prelude.{count_by}
 use Rattle.std.proofs.lemmas.List.Sums.{sum_by-cons}
-use Rattle.columns_core.specs.declared.error.Error.{Error}
-use Rattle.columns_core.specs.declared.error.Error.TheVariants.{NotYetImplemented, OutOfSpec, Memory}
-use Rattle.columns_core.specs.declared.error.S.TheVariants.{S3}
-use Rattle.columns_core.specs.declared.error.N.TheVariants.{N5}
+use Rattle.columns_base.specs.declared.error.Error.{Error}
+use Rattle.columns_base.specs.declared.error.Error.TheVariants.{NotYetImplemented, OutOfSpec, Memory}
+use Rattle.columns_base.specs.declared.error.S.TheVariants.{S3}
+use Rattle.columns_base.specs.declared.error.N.TheVariants.{N5}
 use Rattle.shredding.specs.Shred.{Triple}
 use Rattle.shredding.specs.Slot.{Value}
 use Rattle.shredding.specs.Triples.{triples_from}

@@ -3,8 +3,8 @@ use Rattle.std.proofs.Common.{◌≡◌, ℕ, List, [], ◌∷◌, Option, Some,
 use Rattle.std.specs.Prelude.{option_map}
 use Rattle.pq_container.specs.declared.types.ConvertedType.{ConvertedType}
 use Rattle.pq_container.specs.declared.types.ConvertedType.TheVariants as C
-use Rattle.pq_container.specs.declared.types.PhysicalType.{PhysicalType}
-use Rattle.pq_container.specs.declared.types.PhysicalType.TheVariants as P
+use Rattle.columns_base.specs.declared.physical.PhysicalType.{PhysicalType}
+use Rattle.columns_base.specs.declared.physical.PhysicalType.TheVariants as P
 use Rattle.pq_container.specs.declared.types.Repetition.{Repetition}
 use Rattle.pq_container.specs.declared.types.Repetition.TheVariants as R
 use Rattle.pq_container.specs.FlatFooter.{FlatFooter}

@@ -1,9 +1,9 @@
 -- What reading a file answers.
 use Rattle.std.specs.Prelude.{◌≡◌, ℕ, pos, List, Some, length, ⊤}
-use Rattle.columns_core.specs.declared.error.Error.{Error}
-use Rattle.columns_core.specs.declared.error.Error.TheVariants.{OutOfSpec, NotYetImplemented, Memory}
-use Rattle.columns_core.specs.declared.error.S.TheVariants.{S1}
-use Rattle.columns_core.specs.declared.error.N.TheVariants.{N5}
+use Rattle.columns_base.specs.declared.error.Error.{Error}
+use Rattle.columns_base.specs.declared.error.Error.TheVariants.{OutOfSpec, NotYetImplemented, Memory}
+use Rattle.columns_base.specs.declared.error.S.TheVariants.{S1}
+use Rattle.columns_base.specs.declared.error.N.TheVariants.{N5}
 use Rattle.shredding.specs.Shred.{Triple, column}
 use Rattle.shredding.specs.Slot.{Slot}
 use Rattle.pq_container.specs.Frame.{HasFrame}

@@ -1,7 +1,7 @@
 //! A file with one list column, read layer by layer.
 ghost use Rattle.std.specs.Prelude.{◌≡◌, ◌≢◌, ◌⊎◌, ◌≤ℤ◌, pos, MatchOption, ◌<◌, ◌≤◌, ℕ, List, None, length, IfOk, IfErr, IsTrue, ◌↔◌, count_by, nat_eq, ◌+◌, take, drop, map, string_bytes};
-ghost use Rattle.columns_core.specs.declared.error.Error.{Error};
-ghost use Rattle.columns_core.specs.declared.error.N.{N};
+ghost use Rattle.columns_base.specs.declared.error.Error.{Error};
+ghost use Rattle.columns_base.specs.declared.error.N.{N};
 ghost use Rattle.shredding.specs.Slot.{Slot};
 ghost use Rattle.pq_numbers.specs.Texts.{Begins};
 ghost use Rattle.pq_container.specs.FlatFooter.{SpellsFlatRecord};
@@ -20,7 +20,7 @@ ghost use Rattle.shredding.specs.Triples.{ArePairs};
 use crate::extent::{ColumnPlan, Extent};
 use crate::plan::plan_of;
 use crate::read_column::ReadColumn;
-use columns_core::{Error, N, Result, S};
+use columns_base::{Error, N, Result, S};
 use page_read::{LevelPairs, has_rows, read_plain_page};
 use pq_container::{
     DataPageHeader, DataPageHeaderV1, FlatFooter, TypedPageHeader, read_footer, read_frame,

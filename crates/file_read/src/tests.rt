@@ -1,7 +1,7 @@
 //! Whole files, from bytes put together by hand.
 
 use crate::read_list_column;
-use columns_core::{Error, N, S};
+use columns_base::{Error, N, S};
 use std::test::Fail;
 
 /// The file of 145 bytes with the rows [1, 2], null, [] and [null].

@@ -16,7 +16,7 @@ list_of-slots_of : (ss : List Slot) → list_of (slots_of ss) ≡ ss
 list_of-slots_of [] = refl
 list_of-slots_of (s ∷ ss) = ap (λ c. s ∷ c) (list_of-slots_of ss)
 
-up-bit : (b : Bool) (d : ℕ) → up b d ≡ d + bit b
+pub up-bit : (b : Bool) (d : ℕ) → up b d ≡ d + bit b
 up-bit true d = omega arith
 up-bit false d = omega arith
 

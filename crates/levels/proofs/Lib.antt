@@ -5,3 +5,4 @@ pub mod Sizes
 pub mod Looks
 pub mod Columns
 pub mod Stacks
+pub mod Stretches

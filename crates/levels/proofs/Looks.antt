@@ -10,7 +10,7 @@ use Rattle.levels.specs.Here.{IsHere}
 use Rattle.levels.proofs.Runs.{run_or-none, run_or-some}
 use Rattle.levels.proofs.Sizes.{total_or_one-some, total_or_one-none}
 
-up_to_one : (is_optional : Bool) (up : ℕ) → up ≡ bit is_optional → up ≤ 1
+pub up_to_one : (is_optional : Bool) (up : ℕ) → up ≡ bit is_optional → up ≤ 1
 up_to_one true up u = omega (arith, u)
 up_to_one false up u = omega (arith, u)
 

@@ -32,8 +32,7 @@ fn count(parts: &[Nested], from: usize, to: usize) -> usize
 
 /// The number of level pairs of a path, or `usize::MAX` where there are more. It takes no memory.
 pub fn num_values(nested: &[Nested]) -> usize
-    requires well { IsPath (parts_of nested.now) }
-    requires parts { length nested.now ≤ 128 }
+    requires { IsPath (parts_of nested.now) }
     ensures { (values : ℕ → Value) → result ≡ min (length (nested_column values nested.now)) (2 ^ 64 - 1) }
 {
     count(nested, 0, slot_count(nested))

@@ -20,13 +20,13 @@ pub enum Here<'a> {
     Items(&'a [Nested], u32, usize, usize),
 }
 
-fn bit(b: bool) -> u32
+pub(crate) fn bit(b: bool) -> u32
     ensures { result ≡ bit b }
 {
     if b { 1 } else { 0 }
 }
 
-fn is_present(is_optional: bool, mask: &Option<Bitmap>, count: usize, i: usize) -> bool
+pub(crate) fn is_present(is_optional: bool, mask: &Option<Bitmap>, count: usize, i: usize) -> bool
     requires fits { MaskFits mask.now count }
     requires within { i < count }
     ensures { result ≡ is_present is_optional mask.now i }
@@ -42,7 +42,7 @@ fn is_present(is_optional: bool, mask: &Option<Bitmap>, count: usize, i: usize) 
 
 // The places of the items of list `i`, counted from the first offset.
 #[tactic(auto, using(crate::proofs::Rising::rising))]
-fn item_range<O: Offset>(offsets: &OffsetsBuffer<O>, i: usize) -> (usize, usize)
+pub(crate) fn item_range<O: Offset>(offsets: &OffsetsBuffer<O>, i: usize) -> (usize, usize)
     requires { i + 1 < length offsets.now }
     ensures start { result.0 ≡ item_start offsets.now i }
     ensures end { result.1 ≡ item_start offsets.now (i + 1) }

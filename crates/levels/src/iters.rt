@@ -10,7 +10,7 @@ ghost use Rattle.levels.specs.Levels.{path_pairs};
 use crate::count::num_values;
 use crate::cursors::{Cursor, put, take};
 use crate::nested::{Nested, slot_count};
-use columns_core::Result;
+use columns_base::Result;
 use std::alloc::Global;
 use std::marker::Model;
 

@@ -4,14 +4,21 @@
 mod count;
 mod cursors;
 mod here;
+mod in_bounds;
 mod iters;
 pub mod laws;
 mod nested;
+mod ranges;
+mod shared;
+mod walk;
 mod well_formed;
 
 pub use count::num_values;
+pub use in_bounds::is_in_bounds;
 pub use iters::{DefLevelsIter, RepLevelsIter};
-pub use nested::{ListNested, Nested, max_def_level, max_rep_level};
+pub use nested::{ListNested, Nested, max_def_level, max_rep_level, slot_count};
+pub use ranges::{get_max_length, slice_nested_leaf};
+pub use walk::{Stretch, stretch_at};
 pub use well_formed::is_well_formed;
 
 #[cfg(test)]

@@ -116,8 +116,8 @@ pub fn max_def_level(nested: &[Nested]) -> usize
     levels
 }
 
-/// The number of slots of a path.
-pub(crate) fn slot_count(nested: &[Nested]) -> usize
+/// The number of slots of a path: the length of its first part, and 0 where it has none.
+pub fn slot_count(nested: &[Nested]) -> usize
     ensures { result ≡ slot_count (parts_of nested.now) }
 {
     match nested.first() {

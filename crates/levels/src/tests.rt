@@ -270,3 +270,75 @@ fn tells_ill_formed_paths(rt: HostRuntime) -> Result<(), Fail> {
     assert!(rt; !is_well_formed(&[Nested::Primitive(Some(short), true, 2)]));
     Ok(())
 }
+
+#[test]
+fn tells_paths_in_bounds(rt: HostRuntime) -> Result<(), Fail> {
+    let alloc = rt.alloc();
+    let paths: [(&str, &[Part], bool); 7] = [
+        ("no part", &[], false),
+        ("a leaf alone", &[Part::Leaf(true, &[], 1)], true),
+        (
+            "more items than the offsets span",
+            &[Part::List(true, &[], &[1, 2]), Part::Leaf(true, &[], 5)],
+            true,
+        ),
+        (
+            "as many items as they span, but from a later one on",
+            &[
+                Part::LargeList(true, &[], &[1, 2]),
+                Part::Leaf(true, &[], 1),
+            ],
+            false,
+        ),
+        (
+            "a struct with a longer child",
+            &[Part::Struct(true, &[], 1), Part::Leaf(true, &[], 2)],
+            false,
+        ),
+        (
+            "two leaves",
+            &[Part::Leaf(true, &[], 1), Part::Leaf(true, &[], 1)],
+            false,
+        ),
+        ("no leaf", &[Part::List(true, &[], &[0, 0])], false),
+    ];
+    for (name, parts, answer) in paths {
+        let path = build(&rt, alloc, parts)?;
+        assert_eq!(rt; is_in_bounds(&path), answer, "{name}");
+    }
+    Ok(())
+}
+
+#[test]
+fn tells_what_lists_span(rt: HostRuntime) -> Result<(), Fail> {
+    let alloc = rt.alloc();
+    let paths: [(&str, &[Part], (usize, usize), usize); 3] = [
+        ("a leaf alone", &[Part::Leaf(true, &[], 7)], (0, 7), 0),
+        (
+            "a struct of a list",
+            &[
+                Part::Struct(true, &[], 2),
+                Part::List(true, &[], &[3, 4, 6]),
+                Part::Leaf(true, &[], 6),
+            ],
+            (3, 3),
+            3,
+        ),
+        (
+            "a large list of lists",
+            &[
+                Part::LargeList(true, &[], &[1, 2, 4]),
+                Part::List(true, &[], &[5, 7, 7, 9]),
+                Part::Leaf(true, &[], 9),
+            ],
+            (5, 4),
+            7,
+        ),
+    ];
+    for (name, parts, range, sum) in paths {
+        let path = build(&rt, alloc, parts)?;
+        assert_eq!(rt; slice_nested_leaf(&path), range, "{name}");
+        assert_eq!(rt; get_max_length(&path), sum, "{name}");
+    }
+    Ok(())
+}

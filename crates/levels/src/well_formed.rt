@@ -7,7 +7,7 @@ ghost use Rattle.levels.specs.Nested.{part_of, parts_of};
 use crate::nested::{ListNested, Nested, slot_count};
 use columns_core::{Bitmap, Offset, OffsetsBuffer};
 
-fn mask_fits(mask: &Option<Bitmap>, count: usize) -> bool
+pub(crate) fn mask_fits(mask: &Option<Bitmap>, count: usize) -> bool
     ensures { IsTrue result ↔ MaskFits mask.now count }
 {
     match mask {
@@ -18,7 +18,7 @@ fn mask_fits(mask: &Option<Bitmap>, count: usize) -> bool
 
 // The places that lists span: the last offset less the first.
 #[tactic(auto, using(crate::proofs::Rising::rising))]
-fn span<O: Offset>(offsets: &OffsetsBuffer<O>) -> usize
+pub(crate) fn span<O: Offset>(offsets: &OffsetsBuffer<O>) -> usize
     ensures { result ≡ item_span offsets.now }
 {
     offsets.know();

@@ -1,10 +1,10 @@
 //! A section of levels.
 ghost use Rattle.std.specs.Prelude.{◌≡◌, ◌⊎◌, ◌<◌, ◌≤◌, ℕ, List, length, IfOk, IfErr, IsTrue, ◌↔◌, All};
-ghost use Rattle.columns_core.specs.declared.error.Error.{Error};
-ghost use Rattle.columns_core.specs.declared.error.S.{S};
+ghost use Rattle.columns_base.specs.declared.error.Error.{Error};
+ghost use Rattle.columns_base.specs.declared.error.S.{S};
 ghost use Rattle.pq_files.specs.Levels.{HasLevels};
 
-use columns_core::{Error, Result, S};
+use columns_base::{Error, Result, S};
 use pq_runs::{decode, get_bit_width};
 use std::alloc::Global;
 

@@ -1,6 +1,6 @@
 //! A data page of version 1 with plain INT32 values.
 ghost use Rattle.std.specs.Prelude.{◌≡◌, ◌⊎◌, ℕ, List, None, length, map, All, count_by, nat_eq, IfOk, IfErr, IsTrue, ◌↔◌};
-ghost use Rattle.columns_core.specs.declared.error.Error.{Error};
+ghost use Rattle.columns_base.specs.declared.error.Error.{Error};
 ghost use Rattle.shredding.specs.Shape.{IsInRange, signed};
 ghost use Rattle.shredding.specs.Triples.{ArePairs};
 ghost use Rattle.shredding.specs.Shred.{Triple};
@@ -15,7 +15,7 @@ use crate::levels::read_levels;
 use crate::pairs::LevelPairs;
 use crate::sections::take_section;
 use crate::values::read_int32;
-use columns_core::{Error, Result, S};
+use columns_base::{Error, Result, S};
 use std::alloc::Global;
 
 /// How many of the levels are the maximum.

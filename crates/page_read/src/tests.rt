@@ -1,7 +1,7 @@
 //! Pages and their parts, from bytes put together by hand.
 
 use crate::{read_int32, read_levels, read_plain_page, take_section};
-use columns_core::{Error, S};
+use columns_base::{Error, S};
 use std::test::Fail;
 
 /// The page body of the rows [1, 2], null, [] and [null].

@@ -1,7 +1,7 @@
 //! The values section of a page.
 ghost use Rattle.std.specs.Prelude.{◌≡◌, ◌⊎◌, ◌<◌, ◌≤◌, ℕ, List, length, map, All, IfOk, IfErr};
-ghost use Rattle.columns_core.specs.declared.error.Error.{Error};
-ghost use Rattle.columns_core.specs.declared.error.S.{S};
+ghost use Rattle.columns_base.specs.declared.error.Error.{Error};
+ghost use Rattle.columns_base.specs.declared.error.S.{S};
 ghost use Rattle.shredding.specs.Shape.{IsInRange, signed};
 ghost use Rattle.shredding.specs.Slot.{Value, number};
 ghost use Rattle.pq_container.specs.Physical.{int32};
@@ -9,7 +9,7 @@ ghost use Rattle.pq_files.specs.Plain.{IsPlain};
 ghost use Rattle.pq_numbers.specs.Texts.{Begins};
 
 use crate::sections::take_four_bytes;
-use columns_core::{Error, Result, S};
+use columns_base::{Error, Result, S};
 use std::alloc::Global;
 
 /// The first `count` numbers of a section of plain INT32 values; S6 where it has fewer.

@@ -4,7 +4,7 @@ ghost use Rattle.std.specs.Prelude.{◌≡◌, ◌<◌, ◌^◌, IfOk, IfErr, On
 ghost use Rattle.pq_thrift.specs.Value.{view};
 ghost use Rattle.page_write.specs.Headers.{plain_header, AppendsHeader};
 
-use columns_core::{Error, Result as Outcome};
+use columns_base::{Error, Result as Outcome};
 use pq_thrift::{Thrift, write_thrift};
 use std::alloc::{AllocError, Global};
 

@@ -4,7 +4,7 @@ ghost use Rattle.std.specs.Prelude.{◌≡◌, ◌<◌, ◌≤◌, ◌^◌, ℕ,
 ghost use Rattle.std.specs.Iterator.{IsFinite, Drains};
 ghost use Rattle.page_write.specs.Sections.{AppendsLevels, IsSection};
 
-use columns_core::{Error, Result};
+use columns_base::{Error, Result};
 use pq_runs::{encode_u32, get_bit_width};
 use std::alloc::Global;
 

@@ -11,7 +11,7 @@ use crate::header::push_data_page_header;
 use crate::levels::level_section;
 use crate::plain::push_plain_i32;
 use crate::section::{push_section, section_size};
-use columns_core::{Error, Result};
+use columns_base::{Error, Result};
 use std::alloc::Global;
 
 /// A column of INT32 values by its levels (Dremel, "Nested columnar storage").

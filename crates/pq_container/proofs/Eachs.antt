@@ -6,7 +6,7 @@ use Rattle.pq_thrift.specs.Value.{Value, truth, int8, int16, int32, int64, doubl
 use Rattle.pq_container.specs.Ids.{Each}
 use Rattle.pq_container.specs.Kinds.{struct_in}
 use Rattle.pq_container.specs.Reads.{HasNone, Refuses}
-use Rattle.columns_core.specs.declared.error.Error.{Error}
+use Rattle.columns_base.specs.declared.error.Error.{Error}
 
 each_more : {A B : Type 0} (R : Value → A → Type 0) (see : B → A) (xs : List Thrift) (i : ℕ) (x : Thrift) (bs : List B) (b : B) → i < length xs → x ≡ get_or xs i x → Each R (values_view (take i xs)) (map see bs) → R (view x) (see b) → Each R (values_view (take (suc i) xs)) (map see (bs ++ b ∷ []))
 each_more R see [] i x bs b h e s r = absurd (omega (arith, h))

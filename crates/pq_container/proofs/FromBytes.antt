@@ -2,10 +2,10 @@
 use Rattle.std.proofs.Common.{◌≡◌, ℕ, ◌≤◌, List, ◌++◌, take, drop, refl, sym, ap, subst, inl, inr}
 use Rattle.std.specs.Prelude.{◌⊎◌, Result, Ok, Err}
 use Rattle.std.proofs.lemmas.List.{take-append-drop}
-use Rattle.columns_core.specs.declared.error.Error.{Error}
-use Rattle.columns_core.specs.declared.error.Error.TheVariants.{ReadFault, WriteFault, InputLimit, OutOfSpec, NotYetImplemented, InvalidArgumentError, Overflow, Memory}
-use Rattle.columns_core.specs.declared.error.S.TheVariants.{S1, S3}
-use Rattle.columns_core.specs.declared.error.N.TheVariants.{N7}
+use Rattle.columns_base.specs.declared.error.Error.{Error}
+use Rattle.columns_base.specs.declared.error.Error.TheVariants.{ReadFault, WriteFault, InputLimit, OutOfSpec, NotYetImplemented, InvalidArgumentError, Overflow, Memory}
+use Rattle.columns_base.specs.declared.error.S.TheVariants.{S1, S3}
+use Rattle.columns_base.specs.declared.error.N.TheVariants.{N7}
 use Rattle.pq_numbers.specs.Texts.{Begins}
 use Rattle.pq_thrift.specs.declared.fault.Fault.{Fault}
 use Rattle.pq_thrift.specs.declared.fault.Fault.TheVariants.{Deep}

@@ -2,6 +2,8 @@ pub mod FooterOnce
 pub mod Framed
 pub mod HeaderOnce
 pub mod Injective
+pub mod Compared
+pub mod Describing
 pub mod Eachs
 pub mod Fours
 pub mod Lookups
@@ -14,3 +16,6 @@ pub mod Preorder
 pub mod FlatOnce
 pub mod Encryptions
 pub mod MetadataReads
+pub mod TellsKinds
+pub mod TellsTrees
+pub mod Walked

@@ -2,7 +2,7 @@
 use Rattle.std.proofs.Common.{◌≡◌, ℕ, ◌≤◌, ◌-◌, List, [], ◌∷◌, length, get_or, take, drop, refl, sym, ap, subst, ◌∙◌, arith}
 use Rattle.std.proofs.lemmas.List.{take_all, length-drop}
 use Rattle.std.specs.Prelude.{Option, Some, None, is_some, false}
-use Rattle.columns_core.specs.declared.error.Error.{Error}
+use Rattle.columns_base.specs.declared.error.Error.{Error}
 use Rattle.pq_thrift.specs.declared.value.Thrift.{Thrift}
 use Rattle.pq_thrift.specs.Value.{Value, truth, int8, int16, int32, int64, double, binary, list, set, map as map_value, struct, Values, no_values, value, Fields, view, values_view}
 use Rattle.pq_container.specs.declared.chunks.ColumnNumbers.{ColumnNumbers}

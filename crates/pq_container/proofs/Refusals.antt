@@ -1,7 +1,7 @@
 -- Refusals that are passed on.
 use Rattle.std.proofs.Common.{◌≡◌, sym, subst, inl, inr}
 use Rattle.std.specs.Prelude.{Result, Ok, Err, OnErr, IfOk, IfErr, IsErrAnd}
-use Rattle.columns_core.specs.declared.error.Error.{Error}
+use Rattle.columns_base.specs.declared.error.Error.{Error}
 use Rattle.pq_container.specs.Reads.{Refuses}
 
 pub on_err : {T E : Type 0} (r : Result T E) (P : Type 0) → P → OnErr r P

@@ -2,8 +2,8 @@
 use Rattle.std.proofs.Common.{◌≡◌, ℕ, zero, suc, ◌-◌, ◌+◌, ◌≤◌, ◌<◌, List, [], ◌∷◌, ◌++◌, length, get_or, take, drop, map, refl, sym, ap, ◌∙◌, inl, inr, arith}
 use Rattle.std.specs.Prelude.{◌⊎◌, None, option_map, Result, Ok, Err}
 use Rattle.std.proofs.lemmas.List.{take_all}
-use Rattle.columns_core.specs.declared.error.Error.{Error}
-use Rattle.columns_core.specs.declared.error.Error.TheVariants.{Memory}
+use Rattle.columns_base.specs.declared.error.Error.{Error}
+use Rattle.columns_base.specs.declared.error.Error.TheVariants.{Memory}
 use Rattle.pq_container.specs.declared.types.ParquetType.{ParquetType}
 use Rattle.pq_container.specs.declared.types.SchemaElement.{SchemaElement}
 use Rattle.pq_container.specs.Views.{element_view, physical_view}

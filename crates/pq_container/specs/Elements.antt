@@ -1,5 +1,5 @@
 -- A schema element of the footer, as a Thrift struct (Parquet format, parquet.thrift: SchemaElement, ConvertedType, LogicalType).
-use Rattle.std.specs.Prelude.{◌≡◌, ℕ, ◌≤◌, ℤ, pos, negsuc, List, Bool, Option, Some, None, option_map, if◌then◌else◌, ◌==◌, ◌||◌, IsUtf8}
+use Rattle.std.specs.Prelude.{◌≡◌, ℕ, ◌≤◌, ℤ, pos, negsuc, List, Bool, Option, Some, None, option_map, if◌then◌else◌, ◌==◌, nat_le, ◌||◌, ◌&&◌, not, IsUtf8}
 use Rattle.pq_thrift.specs.Value.{Value, truth, int8, int32, binary, struct, Fields}
 use Rattle.pq_container.specs.Physical.{Physical, number_of_physical}
 use Rattle.pq_container.specs.Types.{Repetition, TimeUnit, Converted, Logical}
@@ -153,10 +153,15 @@ logical_numbered n fs =
     else if n == 14 then Some (Some Logical.uuid)
     else Some None
 
+-- the numbers of the members that are known
+abbrev pub is_member : ℕ → Bool
+is_member n = nat_le 1 n && nat_le n 14 && not (n == 9)
+
+-- a member that isn't known counts as absent whatever it is, and one that is known is a struct
 abbrev pub logical_field : ℤ → Value → LogicalOf
 logical_field (pos n) (struct fs) = logical_numbered n fs
 logical_field (negsuc n) v = Some None
-logical_field (pos n) v = None
+logical_field (pos n) v = if is_member n then None else Some None
 
 abbrev pub logical_last : Option (ℤ × Value) → LogicalOf
 logical_last None = Some None

@@ -1,9 +1,9 @@
 -- The trees that a schema's elements spell, and why none are read.
 use Rattle.std.specs.Prelude.{◌≡◌, ◌⊎◌, ℕ, ◌<◌, List}
-use Rattle.columns_core.specs.declared.error.Error.{Error}
-use Rattle.columns_core.specs.declared.error.Error.TheVariants.{Memory, OutOfSpec, NotYetImplemented}
-use Rattle.columns_core.specs.declared.error.S.TheVariants.{S1}
-use Rattle.columns_core.specs.declared.error.N.TheVariants.{N7}
+use Rattle.columns_base.specs.declared.error.Error.{Error}
+use Rattle.columns_base.specs.declared.error.Error.TheVariants.{Memory, OutOfSpec, NotYetImplemented}
+use Rattle.columns_base.specs.declared.error.S.TheVariants.{S1}
+use Rattle.columns_base.specs.declared.error.N.TheVariants.{N7}
 use Rattle.pq_container.specs.Reads.{HasNone}
 use Rattle.pq_container.specs.Tree.{Element, Trees, count_trees, preorder_of, nesting_of}
 

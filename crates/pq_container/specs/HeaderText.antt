@@ -1,8 +1,8 @@
 -- The text of a page's header.
 use Rattle.std.specs.Prelude.{ℕ, ◌≤◌, List}
-use Rattle.columns_core.specs.declared.error.Error.{Error}
-use Rattle.columns_core.specs.declared.error.Error.TheVariants.{OutOfSpec, Memory}
-use Rattle.columns_core.specs.declared.error.S.TheVariants.{S3}
+use Rattle.columns_base.specs.declared.error.Error.{Error}
+use Rattle.columns_base.specs.declared.error.Error.TheVariants.{OutOfSpec, Memory}
+use Rattle.columns_base.specs.declared.error.S.TheVariants.{S3}
 use Rattle.pq_thrift.specs.Grammar.{Spells, depth}
 use Rattle.pq_thrift.specs.Value.{Value}
 use Rattle.pq_container.specs.Header.{PageHeader, SpellsHeader}

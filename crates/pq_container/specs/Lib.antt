@@ -1,4 +1,6 @@
+pub mod Columns
 pub mod Counted
+pub mod Described
 pub mod Elements
 pub mod Encrypted
 pub mod FlatFooter
@@ -16,6 +18,7 @@ pub mod Physical
 pub mod Raw
 pub mod RawChunk
 pub mod Reads
+pub mod SchemaValue
 pub mod Tree
 pub mod TreeReading
 pub mod TreeViews

@@ -1,7 +1,7 @@
 -- What a reader answers.
 use Rattle.std.specs.Prelude.{◌≡◌, ◌⊎◌}
-use Rattle.columns_core.specs.declared.error.Error.{Error}
-use Rattle.columns_core.specs.declared.error.Error.TheVariants.{Memory}
+use Rattle.columns_base.specs.declared.error.Error.{Error}
+use Rattle.columns_base.specs.declared.error.Error.TheVariants.{Memory}
 
 -- no value stands in the relation
 abbrev pub HasNone : {A : Type 0} → (A → Type 0) → Type 0

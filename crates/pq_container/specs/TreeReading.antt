@@ -1,9 +1,9 @@
 -- The tree that elements in preorder spell, read from left to right with the first fault that is met.
 use Rattle.std.specs.Prelude.{◌≡◌, ◌⊎◌, ℕ, zero, suc, ◌+◌, List, [], ◌∷◌, Bool, true, false, Option, Some, None, Result, Ok, Err, ◌==◌, if◌then◌else◌}
-use Rattle.columns_core.specs.declared.error.Error.{Error}
-use Rattle.columns_core.specs.declared.error.Error.TheVariants.{Memory, OutOfSpec, NotYetImplemented}
-use Rattle.columns_core.specs.declared.error.S.TheVariants.{S1}
-use Rattle.columns_core.specs.declared.error.N.TheVariants.{N7}
+use Rattle.columns_base.specs.declared.error.Error.{Error}
+use Rattle.columns_base.specs.declared.error.Error.TheVariants.{Memory, OutOfSpec, NotYetImplemented}
+use Rattle.columns_base.specs.declared.error.S.TheVariants.{S1}
+use Rattle.columns_base.specs.declared.error.N.TheVariants.{N7}
 use Rattle.pq_container.specs.Physical.{Physical}
 use Rattle.pq_container.specs.Tree.{Element, Tree, leaf, group, Trees, no_trees, tree}
 

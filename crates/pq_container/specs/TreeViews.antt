@@ -6,9 +6,10 @@ use Rattle.pq_container.specs.declared.types.LogicalType.{LogicalType}
 use Rattle.pq_container.specs.declared.types.FieldInfo.{FieldInfo}
 use Rattle.pq_container.specs.declared.types.ParquetType.{ParquetType, fold-ParquetType}
 use Rattle.pq_container.specs.declared.types.ParquetType.TheOpen.{ParquetType-F}
+use Rattle.pq_container.specs.declared.types.PrimitiveType.{PrimitiveType}
 use Rattle.pq_container.specs.declared.types.FileMetaData.{FileMetaData}
 use Rattle.pq_container.specs.declared.types.KeyValue.{KeyValue}
-use Rattle.pq_container.specs.declared.types.SchemaDescriptor.{SchemaDescriptor}
+use Rattle.pq_container.specs.declared.schema.SchemaDescriptor.{SchemaDescriptor}
 use Rattle.pq_container.specs.Footer.{Key, Footer}
 use Rattle.pq_container.specs.Tree.{Schema, Tree, leaf, group, Trees, no_trees, tree}
 use Rattle.pq_container.specs.Types.{Info}
@@ -28,9 +29,12 @@ abbrev pub trees_of : List Tree → Trees
 trees_of [] = no_trees
 trees_of (t ∷ ts) = tree t (trees_of ts)
 
+abbrev pub leaf_view : PrimitiveType → Tree
+leaf_view p = leaf (info_view p.field_info p.converted_type p.logical_type) (physical_view p.physical_type)
+
 -- one level, with each node inside already seen as its tree
 abbrev pub tree_step : ParquetType-F Tree → Tree
-tree_step (ParquetType-F.PrimitiveType p) = leaf (info_view p.field_info p.converted_type p.logical_type) (physical_view p.physical_type)
+tree_step (ParquetType-F.PrimitiveType p) = leaf_view p
 tree_step (ParquetType-F.GroupType field_info logical_type converted_type fields) = group (info_view field_info converted_type logical_type) (trees_of fields.items)
 
 abbrev pub tree_view : ParquetType → Tree
@@ -40,7 +44,7 @@ abbrev pub trees_view : List ParquetType → Trees
 trees_view ts = trees_of (list_map tree_view ts)
 
 abbrev pub schema_view : SchemaDescriptor → Schema
-schema_view s = record { name = string_bytes s.name; fields = trees_view s.fields.items }
+schema_view s = record { name = s.name; fields = trees_view s.fields }
 
 -- no list counts as one without elements
 abbrev pub pairs_view : Option (Vec KeyValue Global) → List Key

@@ -4,8 +4,8 @@ use Rattle.std.specs.Global.{Global}
 use Rattle.std.specs.Prelude.{string_bytes}
 use Rattle.pq_container.specs.declared.types.Repetition.{Repetition}
 use Rattle.pq_container.specs.declared.types.Repetition.TheVariants as R
-use Rattle.pq_container.specs.declared.types.PhysicalType.{PhysicalType}
-use Rattle.pq_container.specs.declared.types.PhysicalType.TheVariants as P
+use Rattle.columns_base.specs.declared.physical.PhysicalType.{PhysicalType}
+use Rattle.columns_base.specs.declared.physical.PhysicalType.TheVariants as P
 use Rattle.pq_container.specs.declared.types.TimeUnit.{TimeUnit}
 use Rattle.pq_container.specs.declared.types.TimeUnit.TheVariants as U
 use Rattle.pq_container.specs.declared.types.IntegerType.{IntegerType}

@@ -3,7 +3,7 @@ ghost use Rattle.std.specs.Prelude.{◌≡◌, ℕ, ℤ, pos, IfOk, OnErr, Some,
 ghost use Rattle.std.specs.Option.{option_copied};
 ghost use Rattle.std.specs.Result.{result_ok};
 ghost use Rattle.pq_thrift.specs.Value.{Value, view, fields_view, field_view};
-ghost use Rattle.pq_container.specs.Elements.{IsNatural, IsPhysical, number_of_repetition, converted_numbered, converted_of, natural_of, truth_of, unit_numbered, unit_in, unit_of_field, unit_of, logical_decimal, logical_time, integer_of, width_of, logical_integer, logical_numbered, logical_field, logical_last, logical_of};
+ghost use Rattle.pq_container.specs.Elements.{IsNatural, IsPhysical, number_of_repetition, converted_numbered, converted_of, natural_of, truth_of, unit_numbered, unit_in, unit_of_field, unit_of, logical_decimal, logical_time, integer_of, width_of, logical_integer, logical_numbered, is_member, logical_field, logical_last, logical_of};
 ghost use Rattle.pq_container.specs.Ids.{get, last_field};
 ghost use Rattle.pq_container.specs.Reads.{HasNone};
 ghost use Rattle.pq_container.specs.Types.{Logical};
@@ -12,7 +12,8 @@ ghost use Rattle.pq_container.specs.Views.{repetition_view, physical_view, unit_
 use crate::fields::{last_member, last_with};
 use crate::kinds::{as_i8, as_i32, as_struct, as_truth};
 use crate::misfit::Misfit;
-use crate::types::{ConvertedType, IntegerType, LogicalType, PhysicalType, Repetition, TimeUnit};
+use crate::types::{ConvertedType, IntegerType, LogicalType, Repetition, TimeUnit};
+use columns_base::PhysicalType;
 use pq_thrift::Thrift;
 
 /// A number from 0, which counts as 0 where it is absent.
@@ -307,6 +308,13 @@ fn logical_from_number(number: u16, parts: &[(i16, Thrift)]) -> Result<Option<Lo
     }
 }
 
+fn is_member(number: u16) -> bool
+    ensures { result ≡ is_member number }
+{
+    1 <= number && number <= 14 && number != 9
+}
+
+/// A member that is not known counts as absent whatever it is, and one that is known is a struct.
 fn logical_from_member(id: i16, value: &Thrift) -> Result<Option<LogicalType>, Misfit>
     ensures { option_map (option_map logical_view) (result_ok result) ≡ logical_field id (view value.now) }
 {
@@ -315,7 +323,8 @@ fn logical_from_member(id: i16, value: &Thrift) -> Result<Option<LogicalType>, M
     }
     match as_struct(value) {
         Some(parts) => logical_from_number(id as u16, parts),
-        None => Err(Misfit),
+        None if is_member(id as u16) => Err(Misfit),
+        None => Ok(None),
     }
 }
 

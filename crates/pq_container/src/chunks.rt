@@ -1,8 +1,8 @@
 //! Row groups and their columns, each from its Thrift struct.
 ghost use Rattle.std.specs.Prelude.{◌≡◌, ℕ, List, IfOk, IfErr, OnErr, map};
 ghost use Rattle.std.specs.Option.{option_copied};
-ghost use Rattle.columns_core.specs.declared.error.Error.TheVariants.{OutOfSpec};
-ghost use Rattle.columns_core.specs.declared.error.S.TheVariants.{S1};
+ghost use Rattle.columns_base.specs.declared.error.Error.TheVariants.{OutOfSpec};
+ghost use Rattle.columns_base.specs.declared.error.S.TheVariants.{S1};
 ghost use Rattle.pq_thrift.specs.Value.{view, values_view, fields_view};
 ghost use Rattle.pq_container.specs.Footer.{SpellsChunk, SpellsGroup};
 ghost use Rattle.pq_container.specs.Ids.{Each};
@@ -19,7 +19,7 @@ use crate::misfit::Misfit;
 use crate::statistics::{check_binaries, check_numbers, statistics_from};
 use crate::texts::owned_text;
 use crate::types::{ColumnChunkMetaData, RowGroupMetaData};
-use columns_core::{Error, S};
+use columns_base::{Error, S};
 use pq_thrift::Thrift;
 use std::alloc::Global;
 
@@ -83,6 +83,7 @@ pub fn chunk_from(alloc: Global, value: &Thrift) -> Result<ColumnChunkMetaData, 
     let column = column_from(metadata)?;
     let statistics = statistics_from(alloc, last_with(metadata, 12))?;
     Ok(ColumnChunkMetaData {
+        descriptor: None,
         physical_type: column.physical_type,
         file_path: owned_text(alloc, file_path)?,
         codec: column.codec,

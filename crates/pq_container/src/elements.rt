@@ -1,7 +1,7 @@
 //! The nodes of a schema, each from its Thrift struct.
 ghost use Rattle.std.specs.Prelude.{◌≡◌, ℕ, List, IfOk, IfErr, OnErr, string_bytes, map};
-ghost use Rattle.columns_core.specs.declared.error.Error.TheVariants.{OutOfSpec};
-ghost use Rattle.columns_core.specs.declared.error.S.TheVariants.{S1};
+ghost use Rattle.columns_base.specs.declared.error.Error.TheVariants.{OutOfSpec};
+ghost use Rattle.columns_base.specs.declared.error.S.TheVariants.{S1};
 ghost use Rattle.pq_thrift.specs.Value.{view, values_view, fields_view};
 ghost use Rattle.pq_container.specs.Elements.{HasElement, IsNode, IsRoot, SpellsNode, SpellsRoot};
 ghost use Rattle.pq_container.specs.Ids.{Each};
@@ -16,7 +16,7 @@ use crate::fields::{needed_text, optional_i32, optional_struct};
 use crate::kinds::as_struct;
 use crate::misfit::Misfit;
 use crate::types::{FieldInfo, SchemaElement};
-use columns_core::{Error, S};
+use columns_base::{Error, S};
 use pq_thrift::Thrift;
 use std::alloc::Global;
 

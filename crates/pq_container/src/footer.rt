@@ -1,7 +1,7 @@
 //! The footer as a flat record.
 ghost use Rattle.std.specs.Prelude.{◌≡◌, ℕ, List, IfOk, IfErr, string_bytes, map};
-ghost use Rattle.columns_core.specs.declared.error.Error.TheVariants.{OutOfSpec};
-ghost use Rattle.columns_core.specs.declared.error.S.TheVariants.{S1};
+ghost use Rattle.columns_base.specs.declared.error.Error.TheVariants.{OutOfSpec};
+ghost use Rattle.columns_base.specs.declared.error.S.TheVariants.{S1};
 ghost use Rattle.pq_thrift.specs.Value.{view, values_view};
 ghost use Rattle.pq_container.specs.FlatFooter.{SpellsElements, SpellsSchema, SpellsFlatFooter, SpellsFlatRecord};
 ghost use Rattle.pq_container.specs.FooterReads.{RefusesFooter};
@@ -15,7 +15,7 @@ use crate::fields::{check_absent, last_with, needed_list, optional_i32, optional
 use crate::keys::keys_from;
 use crate::kinds::as_struct;
 use crate::types::{FlatFooter, SchemaElement};
-use columns_core::{Error, S};
+use columns_base::{Error, S};
 use pq_thrift::{Thrift, read_thrift};
 use std::alloc::Global;
 

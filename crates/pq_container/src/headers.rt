@@ -2,8 +2,8 @@
 ghost use Rattle.std.specs.Prelude.{◌≡◌, ℕ, pos, ◌≤◌, ◌≤ℤ◌, IfOk, IfErr, OnErr, Some, length, take};
 ghost use Rattle.pq_thrift.specs.Value.{int32, view, fields_view};
 ghost use Rattle.pq_container.specs.Header.{HasDataHeader, HasDataHeader2, HasDictionaryHeader, HasHeader, SpellsHeader};
-ghost use Rattle.columns_core.specs.declared.error.Error.TheVariants.{OutOfSpec};
-ghost use Rattle.columns_core.specs.declared.error.S.TheVariants.{S3};
+ghost use Rattle.columns_base.specs.declared.error.Error.TheVariants.{OutOfSpec};
+ghost use Rattle.columns_base.specs.declared.error.S.TheVariants.{S3};
 ghost use Rattle.pq_container.specs.HeaderText.{IsHeaderText, header_reason_of};
 ghost use Rattle.pq_container.specs.Ids.{get};
 ghost use Rattle.pq_numbers.specs.Texts.{Begins};
@@ -18,7 +18,7 @@ use crate::types::{
     DataPageHeader, DataPageHeaderV1, DataPageHeaderV2, DictionaryPageHeader, PageHeader,
     TypedPageHeader,
 };
-use columns_core::{Error, S};
+use columns_base::{Error, S};
 use pq_thrift::{Thrift, read_thrift};
 use std::alloc::Global;
 

@@ -1,8 +1,8 @@
 //! Key values, each from its Thrift struct.
 ghost use Rattle.std.specs.Prelude.{◌≡◌, ℕ, List, IfOk, IfErr, OnErr, option_map, map};
 ghost use Rattle.std.specs.Option.{option_copied};
-ghost use Rattle.columns_core.specs.declared.error.Error.TheVariants.{OutOfSpec};
-ghost use Rattle.columns_core.specs.declared.error.S.TheVariants.{S1};
+ghost use Rattle.columns_base.specs.declared.error.Error.TheVariants.{OutOfSpec};
+ghost use Rattle.columns_base.specs.declared.error.S.TheVariants.{S1};
 ghost use Rattle.pq_thrift.specs.Value.{view, values_view};
 ghost use Rattle.pq_container.specs.Footer.{SpellsKey, HasKeys};
 ghost use Rattle.pq_container.specs.Ids.{Each};
@@ -13,7 +13,7 @@ use crate::fields::{needed_text, optional_text};
 use crate::kinds::{as_list, as_struct};
 use crate::texts::owned_text;
 use crate::types::KeyValue;
-use columns_core::{Error, S};
+use columns_base::{Error, S};
 use pq_thrift::Thrift;
 use std::alloc::Global;
 

@@ -3,8 +3,12 @@
 
 mod annotations;
 mod chunks;
+mod clone;
+mod columns;
+mod describe;
 mod elements;
 mod encryption;
+mod equal;
 mod fields;
 mod footer;
 mod frame;
@@ -14,6 +18,7 @@ mod kinds;
 mod laws;
 mod metadata;
 mod misfit;
+mod schema;
 mod statistics;
 mod texts;
 mod trees;
@@ -21,8 +26,10 @@ mod types;
 mod version;
 
 pub use chunks::{chunk_from, group_from, groups_from};
+pub use columns_base::PhysicalType;
 pub use elements::{element_from, elements_from, root_from};
 pub use encryption::says_encrypted;
+pub use equal::{is_same_info, is_same_leaf, is_same_pair, is_same_tree};
 pub use fields::{
     last_with, needed_i32, needed_i64, needed_list, needed_struct, needed_text, optional_i16,
     optional_i32, optional_i64, optional_struct, optional_text,
@@ -34,14 +41,17 @@ pub use keys::{key_from, keys_from};
 pub use laws::{flat_forms_are_footers, footers_are_unique, frames_are_told, headers_are_unique};
 pub use metadata::{read_footer_metadata, read_metadata};
 pub use misfit::Misfit;
+pub use schema::SchemaDescriptor;
 pub use trees::read_trees;
 pub use types::{
-    ColumnChunkMetaData, ConvertedType, DataPageHeader, DataPageHeaderV1, DataPageHeaderV2,
-    DictionaryPageHeader, Encoding, FieldInfo, FileMetaData, FlatFooter, IntegerType, KeyValue,
-    LogicalType, PageHeader, ParquetType, PhysicalType, PrimitiveType, Repetition,
-    RowGroupMetaData, SchemaElement, Statistics, TimeUnit, TypedPageHeader,
+    ColumnChunkMetaData, CompressionOptions, ConvertedType, DataPageHeader, DataPageHeaderV1,
+    DataPageHeaderV2, Descriptor, DictionaryPageHeader, Encoding, FieldInfo, FileMetaData,
+    FlatFooter, IntegerType, KeyValue, LogicalType, PageHeader, ParquetType, PrimitiveType,
+    Repetition, RowGroupMetaData, SchemaElement, Statistics, TimeUnit, TypedPageHeader,
 };
 pub use version::Version;
 
+#[cfg(test)]
+mod schema_tests;
 #[cfg(test)]
 mod tests;

@@ -1,5 +1,7 @@
 //! The whole footer of a file.
 ghost use Rattle.std.specs.Prelude.{◌≡◌, ◌≤◌, ℕ, List, IfOk, IfErr, OnOk, map};
+ghost use Rattle.pq_container.specs.Columns.{columns_in};
+ghost use Rattle.pq_container.specs.Described.{GroupsAreDescribed};
 ghost use Rattle.pq_container.specs.FlatFooter.{flat_form};
 ghost use Rattle.pq_container.specs.Forest.{RefusesTrees};
 ghost use Rattle.pq_container.specs.Frame.{HasFrame, EndsEncrypted, footer_of};
@@ -9,12 +11,14 @@ ghost use Rattle.pq_container.specs.TreeViews.{pairs_view, metadata_view};
 ghost use Rattle.pq_container.specs.Views.{flat_view, key_view};
 ghost use Rattle.pq_numbers.specs.Texts.{Begins};
 
+use crate::describe::describe_groups;
 use crate::encryption::says_encrypted;
 use crate::footer::footer_from;
 use crate::frame::{ends_encrypted, read_frame};
+use crate::schema::SchemaDescriptor;
 use crate::trees::read_trees;
-use crate::types::{FileMetaData, FlatFooter, KeyValue, SchemaDescriptor};
-use columns_core::{Error, N, S};
+use crate::types::{FileMetaData, FlatFooter, KeyValue};
+use columns_base::{Error, N, S};
 use pq_thrift::read_thrift;
 use std::alloc::Global;
 
@@ -30,22 +34,24 @@ fn some_pairs(pairs: Vec<KeyValue>) -> Option<Vec<KeyValue>>
 /// The footer with its nodes put together to trees.
 fn metadata_of(alloc: Global, footer: FlatFooter) -> Result<FileMetaData, Error>
     ensures found { IfOk result (λ m. flat_form (metadata_view m) ≡ flat_view footer) }
+    ensures described { IfOk result (λ m. GroupsAreDescribed (columns_in (metadata_view m).schema.fields) m.row_groups.items) }
     ensures shallow { IfOk result (λ m. schema_nesting (metadata_view m).schema ≤ 128) }
     ensures refused { IfErr result (RefusesTrees (flat_view footer).nodes footer.num_children) }
 {
     let fields = read_trees(alloc, &footer.elements, footer.num_children)?;
+    let schema_descr = SchemaDescriptor::new(alloc, footer.name, fields)?;
+    let mut row_groups = footer.row_groups;
+    describe_groups(alloc, &mut row_groups, schema_descr.columns())?;
     Ok(FileMetaData {
-        schema_descr: SchemaDescriptor {
-            name: footer.name,
-            fields,
-        },
-        row_groups: footer.row_groups,
+        schema_descr,
+        row_groups,
         key_value_metadata: some_pairs(footer.key_value_metadata),
     })
 }
 
 /// Reads the footer that stands in front (Parquet format, `FileMetaData`). What follows it is not
-/// looked at.
+/// looked at. Each chunk has the descriptor of the leaf at its place, and none where there is no
+/// such leaf.
 ///
 /// # Errors
 ///
@@ -55,6 +61,7 @@ fn metadata_of(alloc: Global, footer: FlatFooter) -> Result<FileMetaData, Error>
 /// - `Memory`: memory ran out.
 pub fn read_footer_metadata(alloc: Global, bytes: &[u8]) -> Result<FileMetaData, Error>
     ensures found { IfOk result (λ m. Begins IsFooterText bytes.now (metadata_view m)) }
+    ensures described { IfOk result (λ m. GroupsAreDescribed (columns_in (metadata_view m).schema.fields) m.row_groups.items) }
     ensures shallow { IfOk result (λ m. schema_nesting (metadata_view m).schema ≤ 128) }
     ensures refused { IfErr result (RefusesMetadata bytes.now) }
 {
@@ -66,7 +73,8 @@ pub fn read_footer_metadata(alloc: Global, bytes: &[u8]) -> Result<FileMetaData,
     metadata_of(alloc, footer)
 }
 
-/// Reads the footer of a whole file (Parquet format, "File format" and `FileMetaData`).
+/// Reads the footer of a whole file (Parquet format, "File format" and `FileMetaData`). Each chunk
+/// has the descriptor of the leaf at its place, and none where there is no such leaf.
 ///
 /// # Errors
 ///
@@ -78,6 +86,7 @@ pub fn read_footer_metadata(alloc: Global, bytes: &[u8]) -> Result<FileMetaData,
 pub fn read_metadata(alloc: Global, file: &[u8]) -> Result<FileMetaData, Error>
     ensures framed { OnOk result (HasFrame file.now) }
     ensures found { IfOk result (λ m. Begins IsFooterText (footer_of file.now) (metadata_view m)) }
+    ensures described { IfOk result (λ m. GroupsAreDescribed (columns_in (metadata_view m).schema.fields) m.row_groups.items) }
     ensures shallow { IfOk result (λ m. schema_nesting (metadata_view m).schema ≤ 128) }
     ensures refused { IfErr result (RefusesFile file.now) }
 {

@@ -1,7 +1,7 @@
 //! That a Thrift value says nothing by the table at hand.
 ghost use Rattle.std.specs.Prelude.{◌≡◌};
 
-use columns_core::{Error, S};
+use columns_base::{Error, S};
 
 /// A needed field is absent, or a field is of another kind, or has a value that the table does not
 /// have.
@@ -10,8 +10,8 @@ pub struct Misfit;
 
 impl From<Misfit> for Error {
     ghost use Rattle.std.specs.Prelude.{◌≡◌};
-    ghost use Rattle.columns_core.specs.declared.error.Error.TheVariants.{OutOfSpec};
-    ghost use Rattle.columns_core.specs.declared.error.S.TheVariants.{S1};
+    ghost use Rattle.columns_base.specs.declared.error.Error.TheVariants.{OutOfSpec};
+    ghost use Rattle.columns_base.specs.declared.error.S.TheVariants.{S1};
 
     ghost from_gives = { λ _ e. e ≡ OutOfSpec S1 };
 

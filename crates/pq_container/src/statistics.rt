@@ -1,8 +1,8 @@
 //! Statistics of a column, and the lists of its metadata that are only looked through.
 ghost use Rattle.std.specs.Prelude.{◌≡◌, ◌⊎◌, ℕ, ℤ, List, IfOk, IfErr, OnErr, OnOk, option_map};
 ghost use Rattle.std.specs.Option.{option_copied};
-ghost use Rattle.columns_core.specs.declared.error.Error.TheVariants.{OutOfSpec, Memory};
-ghost use Rattle.columns_core.specs.declared.error.S.TheVariants.{S1};
+ghost use Rattle.columns_base.specs.declared.error.Error.TheVariants.{OutOfSpec, Memory};
+ghost use Rattle.columns_base.specs.declared.error.S.TheVariants.{S1};
 ghost use Rattle.pq_thrift.specs.Value.{int32, binary, view, values_view, fields_view};
 ghost use Rattle.pq_container.specs.Footer.{AreAll, HasStatistics, SaysStatistics};
 ghost use Rattle.pq_container.specs.Ids.{Each, Holds};
@@ -13,7 +13,7 @@ use crate::fields::{optional_binary, optional_i64};
 use crate::kinds::{as_binary, as_i32, as_list, as_struct};
 use crate::misfit::Misfit;
 use crate::types::Statistics;
-use columns_core::{Error, S};
+use columns_base::{Error, S};
 use pq_thrift::Thrift;
 use std::alloc::Global;
 

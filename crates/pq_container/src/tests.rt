@@ -1,9 +1,9 @@
 use super::{
     ConvertedType, DataPageHeader, FieldInfo, IntegerType, LogicalType, ParquetType, PhysicalType,
     Repetition, SchemaElement, TimeUnit, TypedPageHeader, chunk_from, element_from, group_from,
-    key_from, read_footer, read_frame, read_page_header, read_trees,
+    key_from, read_footer, read_frame, read_metadata, read_page_header, read_trees,
 };
-use columns_core::{Error, N, S};
+use columns_base::{Error, N, S};
 use pq_thrift::read_thrift;
 use std::alloc::Global;
 use std::process::Abort;
@@ -410,7 +410,7 @@ fn a_leaf_is_read(rt: HostRuntime) -> Result<(), Fail> {
 fn logical_types_are_read(rt: HostRuntime) -> Result<(), Fail> {
     let alloc = rt.alloc();
     // the members of the union, and what they stand for
-    let cases: [(&[u8], Option<LogicalType>); 12] = [
+    let cases: [(&[u8], Option<LogicalType>); 14] = [
         (&[], None),
         (&[0x1c, 0], Some(LogicalType::String)),
         // the last member counts
@@ -442,7 +442,10 @@ fn logical_types_are_read(rt: HostRuntime) -> Result<(), Fail> {
         ),
         // 24 bits
         (&[0xac, 0x13, 24, 0x12, 0], None),
+        // members that are not known, and are no structs
         (&[0x9c, 0], None),
+        (&[0x95, 2], None),
+        (&[0xf1], None),
         (&[0xec, 0], Some(LogicalType::Uuid)),
     ];
     for (members, logical_type) in cases {
@@ -509,6 +512,29 @@ fn a_file_is_read(rt: HostRuntime) -> Result<(), Fail> {
             .dictionary_page_offset
             .is_none()
     );
+    Ok(())
+}
+
+#[test]
+fn chunks_have_their_leaves(rt: HostRuntime) -> Result<(), Fail> {
+    let alloc = rt.alloc();
+    let metadata = read_metadata(alloc, FILE)?;
+    assert_eq!(rt; metadata.schema_descr.name(), "r");
+    let leaves = metadata.schema_descr.columns();
+    assert_eq!(rt; leaves.len(), 1);
+    assert_eq!(rt; metadata.row_groups.len(), 1);
+    for group in &metadata.row_groups {
+        assert_eq!(rt; group.columns.len(), 1);
+        for column in &group.columns {
+            if let Some(descriptor) = &column.descriptor {
+                assert_eq!(rt; descriptor, &leaves[0]);
+                assert_eq!(rt; descriptor.max_def_level, 3);
+                assert_eq!(rt; descriptor.max_rep_level, 1);
+            } else {
+                assert!(rt; false, "no descriptor");
+            }
+        }
+    }
     Ok(())
 }
 

@@ -1,9 +1,9 @@
 //! Texts of our own.
 ghost use Rattle.std.specs.Prelude.{◌≡◌, IfOk, IfErr, option_map, string_bytes};
 ghost use Rattle.std.specs.Option.{option_copied};
-ghost use Rattle.columns_core.specs.declared.error.Error.TheVariants.{Memory};
+ghost use Rattle.columns_base.specs.declared.error.Error.TheVariants.{Memory};
 
-use columns_core::Error;
+use columns_base::Error;
 use std::alloc::Global;
 
 /// A copy of the text, if there is one.

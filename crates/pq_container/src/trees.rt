@@ -1,29 +1,18 @@
 //! The trees of a schema, from its elements in preorder.
 ghost use Rattle.std.specs.Prelude.{◌≡◌, ◌≤◌, ℕ, List, IfOk, IfErr, map, string_bytes};
-ghost use Rattle.columns_core.specs.declared.error.Error.TheVariants.{Memory};
+ghost use Rattle.columns_base.specs.declared.error.Error.TheVariants.{Memory};
 ghost use Rattle.pq_container.specs.Forest.{AreTrees, RefusesTrees, max_nesting};
 ghost use Rattle.pq_container.specs.Tree.{nesting_of};
 ghost use Rattle.pq_container.specs.TreeReading.{Gives, leaf_of, group_with, tree_at, trees_at, counted, is_childless_of};
 ghost use Rattle.pq_container.specs.TreeViews.{tree_view, trees_view};
 ghost use Rattle.pq_container.specs.Views.{element_view, physical_view};
 
-use crate::types::{FieldInfo, ParquetType, PhysicalType, PrimitiveType, SchemaElement};
-use columns_core::{Error, N, S};
+use crate::types::{ParquetType, PrimitiveType, SchemaElement};
+use columns_base::{Error, N, PhysicalType, S};
 use std::alloc::Global;
 
 /// How deep the nodes beneath the root may nest.
 const MAX_NESTING: u8 = 127;
-
-fn info_of(alloc: Global, info: &FieldInfo) -> Result<FieldInfo, Error>
-    ensures same { IfOk result (λ copy. (string_bytes copy.name ≡ string_bytes info.now.name) × (copy.repetition ≡ info.now.repetition) × (copy.id ≡ info.now.id)) }
-    ensures refused { IfErr result (λ e. e ≡ Memory) }
-{
-    Ok(FieldInfo {
-        name: String::from_str(alloc, info.name.as_str())?,
-        repetition: info.repetition,
-        id: info.id,
-    })
-}
 
 /// The tree in front, and the elements behind it.
 #[cycle(trees)]
@@ -58,7 +47,7 @@ fn take_leaf(
         return Err(Error::OutOfSpec(S::S1));
     }
     Ok(ParquetType::PrimitiveType(PrimitiveType {
-        field_info: info_of(alloc, &element.field_info)?,
+        field_info: element.field_info.clone(alloc)?,
         logical_type: element.logical_type,
         converted_type: element.converted_type,
         physical_type,
@@ -76,7 +65,7 @@ fn take_group<'a>(
 {
     let (fields, rest) = take_trees(alloc, element.num_children, elements, depth)?;
     let group = ParquetType::GroupType {
-        field_info: info_of(alloc, &element.field_info)?,
+        field_info: element.field_info.clone(alloc)?,
         logical_type: element.logical_type,
         converted_type: element.converted_type,
         fields,

@@ -1,4 +1,6 @@
 //! What a schema says of its nodes, by the Parquet format's Thrift definitions.
+use crate::schema::SchemaDescriptor;
+use columns_base::PhysicalType;
 
 /// How often a node stands under its parent (Parquet format, `FieldRepetitionType`).
 #[derive(Clone, Copy, Debug, PartialEq, Eq)]
@@ -9,20 +11,6 @@ pub enum Repetition {
     Optional,
     /// Any number of times.
     Repeated,
-}
-
-/// How a leaf's values are stored (Parquet format, `Type`).
-#[derive(Clone, Copy, Debug, PartialEq, Eq)]
-pub enum PhysicalType {
-    Boolean,
-    Int32,
-    Int64,
-    Int96,
-    Float,
-    Double,
-    ByteArray,
-    /// Arrays of this many bytes, from 1.
-    FixedLenByteArray(usize),
 }
 
 /// The unit of a time (Parquet format, `TimeUnit`).
@@ -140,6 +128,16 @@ pub enum ParquetType {
     },
 }
 
+/// A column: a leaf of a schema with its greatest levels (Parquet format, "Nested Encoding").
+#[derive(Debug, PartialEq, Eq, Drop)]
+pub struct Descriptor {
+    pub primitive_type: PrimitiveType,
+    /// How many nodes on the path to the leaf are optional or repeated.
+    pub max_def_level: i16,
+    /// How many nodes on the path to the leaf are repeated.
+    pub max_rep_level: i16,
+}
+
 /// What a footer says of a column's values (Parquet format, `Statistics`).
 #[derive(Debug, PartialEq, Eq, Drop)]
 pub struct Statistics {
@@ -152,6 +150,9 @@ pub struct Statistics {
 /// `ColumnMetaData`). Sizes and places are in bytes, the places from the start of the file.
 #[derive(Debug, PartialEq, Eq, Drop)]
 pub struct ColumnChunkMetaData {
+    /// The leaf at the chunk's place, with its levels. None where the schema has no such leaf, and
+    /// where the footer was read without its tree.
+    pub descriptor: Option<Descriptor>,
     pub physical_type: i32,
     pub file_path: Option<String>,
     pub codec: i32,
@@ -190,17 +191,8 @@ pub struct FlatFooter {
     pub key_value_metadata: Vec<KeyValue>,
 }
 
-/// A schema with its nodes as trees.
-#[derive(Debug, PartialEq, Eq, Drop)]
-pub struct SchemaDescriptor {
-    /// The root's name.
-    pub name: String,
-    /// The nodes beneath the root, in order.
-    pub fields: Vec<ParquetType>,
-}
-
 /// What a footer says of a file (Parquet format, `FileMetaData`).
-#[derive(Debug, PartialEq, Eq, Drop)]
+#[derive(Debug, Drop)]
 pub struct FileMetaData {
     pub schema_descr: SchemaDescriptor,
     pub row_groups: Vec<RowGroupMetaData>,
@@ -254,6 +246,13 @@ pub struct PageHeader {
     pub header: TypedPageHeader,
     /// The number of the body's bytes.
     pub compressed_page_size: usize,
+}
+
+/// How the bytes of a page are compressed when it is written (Parquet format, `CompressionCodec`).
+#[derive(Clone, Copy, Debug, PartialEq, Eq)]
+pub enum CompressionOptions {
+    /// Not at all.
+    Uncompressed,
 }
 
 /// How values are spelled (Parquet format, `Encoding`, with its numbers).

@@ -1,13 +1,13 @@
 -- How long the text of an error is.
 use Rattle.std.proofs.Common.{◌≤◌, length, lit≤}
-use Rattle.columns_core.specs.Reasons.{error_text}
-use Rattle.columns_core.specs.declared.error.Error.{Error}
-use Rattle.columns_core.specs.declared.error.Error.TheVariants.{ReadFault, WriteFault, InputLimit, OutOfSpec, NotYetImplemented, InvalidArgumentError, Overflow, Memory}
-use Rattle.columns_core.specs.declared.error.Limit.TheVariants.{Bytes, Pairs}
-use Rattle.columns_core.specs.declared.error.S.TheVariants.{S1, S2, S3, S4, S5, S6, S7, S8, S9, S10}
-use Rattle.columns_core.specs.declared.error.N.TheVariants.{N1, N2, N3, N4, N5, N6, N7, N8}
-use Rattle.columns_core.specs.declared.error.A.TheVariants.{A1, A2, A3, A4, A5, A6, A7, A8}
-use Rattle.columns_core.specs.declared.error.V.TheVariants.{V1, V2, V3}
+use Rattle.columns_base.specs.Reasons.{error_text}
+use Rattle.columns_base.specs.declared.error.Error.{Error}
+use Rattle.columns_base.specs.declared.error.Error.TheVariants.{ReadFault, WriteFault, InputLimit, OutOfSpec, NotYetImplemented, InvalidArgumentError, Overflow, Memory}
+use Rattle.columns_base.specs.declared.error.Limit.TheVariants.{Bytes, Pairs}
+use Rattle.columns_base.specs.declared.error.S.TheVariants.{S1, S2, S3, S4, S5, S6, S7, S8, S9, S10}
+use Rattle.columns_base.specs.declared.error.N.TheVariants.{N1, N2, N3, N4, N5, N6, N7, N8}
+use Rattle.columns_base.specs.declared.error.A.TheVariants.{A1, A2, A3, A4, A5, A6, A7, A8}
+use Rattle.columns_base.specs.declared.error.V.TheVariants.{V1, V2, V3}
 
 pub length_error_text : (e : Error) → length (error_text e) ≤ 30
 length_error_text ReadFault = lit≤ tt

@@ -1,10 +1,10 @@
 -- What a refusal of a conversion says.
 use Rattle.std.proofs.Common.{◌≡◌, ◌⊎◌, ℕ, List, Err, inl, inr}
 use Rattle.std.specs.Io.KnownBytes.{Keeps}
-use Rattle.columns_core.specs.declared.error.Error.{Error}
-use Rattle.columns_core.specs.declared.error.Error.TheVariants.{ReadFault, WriteFault, InputLimit, OutOfSpec, NotYetImplemented, InvalidArgumentError, Overflow, Memory}
-use Rattle.columns_core.specs.declared.error.Limit.TheVariants.{Bytes, Pairs}
-use Rattle.columns_core.specs.declared.error.A.TheVariants.{A1, A8}
+use Rattle.columns_base.specs.declared.error.Error.{Error}
+use Rattle.columns_base.specs.declared.error.Error.TheVariants.{ReadFault, WriteFault, InputLimit, OutOfSpec, NotYetImplemented, InvalidArgumentError, Overflow, Memory}
+use Rattle.columns_base.specs.declared.error.Limit.TheVariants.{Bytes, Pairs}
+use Rattle.columns_base.specs.declared.error.A.TheVariants.{A1, A8}
 use Rattle.pq_rewrite.specs.Reading.{GaveAll}
 use Rattle.pq_rewrite.specs.Answer.{Meaning, Ends, Rewrote, IsOfInput, KeptUnlessWritten}
 

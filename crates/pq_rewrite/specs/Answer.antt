@@ -3,10 +3,10 @@ use Rattle.std.specs.Prelude.{◌≡◌, ◌⊎◌, ℕ, List, Option, Result, O
 use Rattle.std.specs.Io.KnownBytes.{Appends, Keeps}
 use Rattle.row_file.specs.Causes.{Rose}
 use Rattle.row_file.specs.Ends.{AppendsFront}
-use Rattle.columns_core.specs.declared.error.Error.{Error}
-use Rattle.columns_core.specs.declared.error.Error.TheVariants.{ReadFault, WriteFault, InputLimit, OutOfSpec, NotYetImplemented, InvalidArgumentError, Overflow, Memory}
-use Rattle.columns_core.specs.declared.error.Limit.TheVariants.{Bytes, Pairs}
-use Rattle.columns_core.specs.declared.error.A.TheVariants.{A1, A8}
+use Rattle.columns_base.specs.declared.error.Error.{Error}
+use Rattle.columns_base.specs.declared.error.Error.TheVariants.{ReadFault, WriteFault, InputLimit, OutOfSpec, NotYetImplemented, InvalidArgumentError, Overflow, Memory}
+use Rattle.columns_base.specs.declared.error.Limit.TheVariants.{Bytes, Pairs}
+use Rattle.columns_base.specs.declared.error.A.TheVariants.{A1, A8}
 use Rattle.pq_rewrite.specs.declared.report.Report.{Report}
 use Rattle.pq_rewrite.specs.Notes.{line, status as answer_status}
 use Rattle.pq_rewrite.specs.Reading.{GaveAll, GavePast}

@@ -3,9 +3,9 @@ use Rattle.std.specs.Prelude.{◌⊎◌, ◌++◌, List, ℕ, Option, Result, Ok
 use Rattle.std.specs.Io.KnownBytes.{Appends}
 use Rattle.row_file.specs.Causes.{Rose}
 use Rattle.row_file.specs.Ends.{AppendsFront}
-use Rattle.columns_core.specs.Reasons.{error_text}
-use Rattle.columns_core.specs.declared.error.Error.{Error}
-use Rattle.columns_core.specs.declared.error.Error.TheVariants.{ReadFault, WriteFault, InputLimit, OutOfSpec, NotYetImplemented, InvalidArgumentError, Overflow, Memory}
+use Rattle.columns_base.specs.Reasons.{error_text}
+use Rattle.columns_base.specs.declared.error.Error.{Error}
+use Rattle.columns_base.specs.declared.error.Error.TheVariants.{ReadFault, WriteFault, InputLimit, OutOfSpec, NotYetImplemented, InvalidArgumentError, Overflow, Memory}
 use Rattle.pq_rewrite.specs.declared.report.Report.{Report}
 
 -- groups G, rows R, pages P

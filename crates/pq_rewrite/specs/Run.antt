@@ -2,10 +2,10 @@
 use Rattle.std.specs.Prelude.{◌≡◌, ◌++◌, ℕ, List, Option, IfSome, codes, ◌==◌, if◌then◌else◌}
 use Rattle.std.specs.Io.KnownBytes.{Appends}
 use Rattle.row_file.specs.Ends.{AppendsFront}
-use Rattle.columns_core.specs.declared.error.Error.{Error}
-use Rattle.columns_core.specs.declared.error.Error.TheVariants.{ReadFault, WriteFault, InputLimit, OutOfSpec, NotYetImplemented, InvalidArgumentError, Overflow, Memory}
-use Rattle.columns_core.specs.declared.error.S.TheVariants.{S1}
-use Rattle.columns_core.specs.declared.error.N.TheVariants.{N5}
+use Rattle.columns_base.specs.declared.error.Error.{Error}
+use Rattle.columns_base.specs.declared.error.Error.TheVariants.{ReadFault, WriteFault, InputLimit, OutOfSpec, NotYetImplemented, InvalidArgumentError, Overflow, Memory}
+use Rattle.columns_base.specs.declared.error.S.TheVariants.{S1}
+use Rattle.columns_base.specs.declared.error.N.TheVariants.{N5}
 use Rattle.pq_rewrite.specs.declared.report.Report.{Report}
 use Rattle.pq_rewrite.specs.Notes.{report_text}
 use Rattle.pq_rewrite.specs.Reading.{GaveAll}

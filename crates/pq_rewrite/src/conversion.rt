@@ -1,12 +1,12 @@
 //! What stands between reading and writing.
 ghost use Rattle.std.specs.Prelude.{◌≡◌, ◌≤◌, ◌⊎◌, List, ℕ, length, IfOk, IfErr};
-ghost use Rattle.columns_core.specs.declared.error.Error.{Error};
+ghost use Rattle.columns_base.specs.declared.error.Error.{Error};
 ghost use Rattle.pq_rewrite.specs.declared.report.Report.{Report};
 ghost use Rattle.pq_rewrite.specs.Answer.{IsOfInput};
 ghost use Rattle.pq_rewrite.specs.FormOne.{byte_limit};
 
 use crate::Report;
-use columns_core::{Error, Result};
+use columns_base::{Error, Result};
 use std::alloc::Global;
 
 /// Makes of a whole input a whole output, or refuses it.

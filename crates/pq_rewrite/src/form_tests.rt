@@ -1,6 +1,6 @@
 //! Small files beside the first one, with the status of each.
 
-use crate::tests::{FIRST_FILE, run_on, sound};
+use crate::tests::{FIRST_FILE, run_on, small, sound};
 use page_read::{LevelPairs, read_plain_page};
 use page_write::are_pairs;
 use pq_container::read_page_header;
@@ -99,14 +99,6 @@ const ONE_BYTE: [(usize, u8, u8); 66] = [
 fn set(bytes: &mut [u8], place: usize, byte: u8) {
     if place < bytes.len() {
         bytes[place] = byte;
-    }
-}
-
-/// A number of fewer than 256.
-fn small(number: usize) -> u8 {
-    match u8::try_from(number) {
-        Ok(number) => number,
-        Err(_) => 0,
     }
 }
 

@@ -8,7 +8,7 @@ use crate::conversion::Conversion;
 use crate::notes::{status_of, tell_answer, tell_bad_words};
 use crate::read::read_all;
 use crate::{Report, Source};
-use columns_core::Result;
+use columns_base::Result;
 use row_file::{Sink, push_all};
 use std::alloc::Global;
 

@@ -24,6 +24,10 @@ pub use source::{Failed, Source};
 pub use streams::StdSource;
 
 #[cfg(test)]
+mod absent_tests;
+#[cfg(test)]
 mod form_tests;
+#[cfg(test)]
+mod large_tests;
 #[cfg(test)]
 mod tests;

@@ -4,7 +4,7 @@ ghost use Rattle.pq_rewrite.specs.Run.{RefusesBy};
 
 use crate::Report;
 use crate::conversion::Conversion;
-use columns_core::Result;
+use columns_base::Result;
 use file_read::{names_of, read_list_column};
 use row_file::write_list_column;
 use std::alloc::Global;

@@ -5,7 +5,7 @@ ghost use Rattle.pq_rewrite.specs.Line.{line_bytes};
 
 use crate::Report;
 use crate::line::Line;
-use columns_core::{Error, Result};
+use columns_base::{Error, Result};
 use row_file::{Sink, push_all};
 
 #[tactic(auto, using(crate::proofs::Numbers::length_decimal), unfolding(crate::specs::Notes::report_text))]

@@ -1,12 +1,12 @@
 //! Reads a source to its end.
 ghost use Rattle.std.specs.Prelude.{◌≡◌, ◌≤◌, ◌⊎◌, IfOk, IfErr, IsErrOf};
-ghost use Rattle.columns_core.specs.declared.error.Error.{Error};
-ghost use Rattle.columns_core.specs.declared.error.Limit.{Limit};
+ghost use Rattle.columns_base.specs.declared.error.Error.{Error};
+ghost use Rattle.columns_base.specs.declared.error.Limit.{Limit};
 ghost use Rattle.row_file.specs.Causes.{Rose};
 ghost use Rattle.pq_rewrite.specs.Reading.{GaveAll, GaveSome, GavePast};
 
 use crate::Source;
-use columns_core::{Error, Limit, Result};
+use columns_base::{Error, Limit, Result};
 use std::alloc::Global;
 
 /// The length in bytes of the buffer between a source and the vector.

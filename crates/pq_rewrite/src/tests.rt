@@ -80,7 +80,7 @@ pub(crate) struct Setting<'a> {
     failing_writes: &'a [u64],
     failing_notes: &'a [u64],
     /// The most bytes that the sink takes a call.
-    write_limit: usize,
+    pub(crate) write_limit: usize,
 }
 
 /// Ends that never fail.
@@ -111,6 +111,19 @@ pub(crate) fn run_on(alloc: Global, setting: &Setting) -> Result<Outcome, AllocE
         gained: sink.bytes().to_vec(alloc)?,
         notes: notes.bytes().to_vec(alloc)?,
     })
+}
+
+/// The number of the bytes as four bytes, the lowest first.
+pub(crate) fn length_of(bytes: &[u8]) -> [u8; 4] {
+    match u32::try_from(bytes.len()) {
+        Ok(length) => length.to_le_bytes(),
+        Err(_) => [0; 4],
+    }
+}
+
+/// A number of fewer than 256.
+pub(crate) fn small(number: usize) -> u8 {
+    u8::try_from(number).unwrap_or(0)
 }
 
 #[test]

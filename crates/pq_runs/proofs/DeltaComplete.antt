@@ -5,7 +5,7 @@ use Rattle.std.proofs.lemmas.List.{length-append, length-map, map-append, take_a
 use Rattle.std.proofs.lemmas.Nat.{le-div, mul-le, div-add-mod'}
 use Rattle.std.specs.Int.{Width, w64}
 use Rattle.std.proofs.Math.Nat.{mul-div_cancel_left}
-use Rattle.columns_core.specs.declared.error.Error.{Error}
+use Rattle.columns_base.specs.declared.error.Error.{Error}
 use Rattle.pq_numbers.specs.Bits.{unpacked}
 use Rattle.pq_numbers.specs.Texts.{number_of, Begins}
 use Rattle.pq_numbers.specs.Varint.{IsNumber, varint_at}

@@ -1,7 +1,7 @@
 -- One run after another.
 use Rattle.std.specs.Prelude.{◌≡◌, [], Option, Some, None, Result, Ok, Err}
 use Rattle.pq_runs.specs.declared.decoder.Decoder.{Decoder}
-use Rattle.columns_core.specs.declared.error.Error.{Error}
+use Rattle.columns_base.specs.declared.error.Error.{Error}
 use Rattle.pq_runs.specs.declared.run.Run.{Run}
 use Rattle.pq_runs.specs.Hybrid.{fault}
 use Rattle.pq_runs.specs.Taking.{IsRun, NoRun}

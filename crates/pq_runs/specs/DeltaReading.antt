@@ -1,7 +1,7 @@
 -- What is read of delta packing: each number that is there, and an error in the place of the first that isn't.
 use Rattle.std.specs.Prelude.{ℕ, zero, suc, ◌+◌, ◌-◌, ◌*◌, ◌/◌, ◌%◌, min, ℤ, pos, ◌+ℤ◌, List, [], ◌∷◌, ◌++◌, length, take, drop, map, Option, Some, None, Result, Ok, Err, Bool, ◌&&◌, nat_lt, nat_eq, if◌then◌else◌}
 use Rattle.std.specs.Int.{w64}
-use Rattle.columns_core.specs.declared.error.Error.{Error}
+use Rattle.columns_base.specs.declared.error.Error.{Error}
 use Rattle.pq_numbers.specs.Bits.{unpacked}
 use Rattle.pq_numbers.specs.Varint.{varint_at}
 use Rattle.pq_numbers.specs.Zigzag.{unzigzag}

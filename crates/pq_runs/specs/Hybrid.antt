@@ -1,8 +1,8 @@
 -- What is read where n numbers of w bits are called for: each number that is there, and an error in the place of the first that isn't.
 use Rattle.std.specs.Prelude.{ℕ, zero, suc, ◌-◌, ◌*◌, ◌/◌, ◌%◌, min, List, [], ◌∷◌, ◌++◌, length, take, drop, map, replicate, Option, Some, None, Result, Ok, Err, nat_lt, nat_eq, if◌then◌else◌}
-use Rattle.columns_core.specs.declared.error.Error.{Error}
-use Rattle.columns_core.specs.declared.error.Error.TheVariants.{OutOfSpec}
-use Rattle.columns_core.specs.declared.error.S.TheVariants.{S6}
+use Rattle.columns_base.specs.declared.error.Error.{Error}
+use Rattle.columns_base.specs.declared.error.Error.TheVariants.{OutOfSpec}
+use Rattle.columns_base.specs.declared.error.S.TheVariants.{S6}
 use Rattle.pq_numbers.specs.Bits.{bytes_for, unpacked}
 use Rattle.pq_numbers.specs.Texts.{number_of}
 use Rattle.pq_numbers.specs.Varint.{varint_at}

@@ -5,7 +5,7 @@ ghost use Rattle.std.specs.Iterator.{at_most};
 ghost use Rattle.pq_runs.specs.Decoder.{StepsRun};
 
 use crate::run::{Run, take_run};
-use columns_core::{Error, Result, S};
+use columns_base::{Error, Result, S};
 
 /// The runs as they stand at the front of the bytes, up to the end of the bytes or the first that isn't there.
 #[derive(Drop)]

@@ -2,7 +2,7 @@
 
 ghost use Rattle.std.specs.Prelude.{◌≡◌, ◌<◌, ◌≤◌, ◌++◌, ℕ, ℤ, List, [], ◌∷◌, length, OnOk, IfErr, Some};
 ghost use Rattle.std.specs.Iterator.{IsFinite, Drains};
-ghost use Rattle.columns_core.specs.declared.error.Error.TheVariants.{Memory};
+ghost use Rattle.columns_base.specs.declared.error.Error.TheVariants.{Memory};
 ghost use Rattle.pq_numbers.specs.Varint.{varint};
 ghost use Rattle.pq_runs.specs.DeltaWriting.{Begun, Deltas, DeltaSpelling};
 ghost use Rattle.pq_runs.specs.Listed.{count};
@@ -10,7 +10,7 @@ ghost use Rattle.pq_runs.specs.Writing.{Extends};
 
 use crate::delta_block::push_block;
 use crate::waiting::Waiting;
-use columns_core::{Error, Result};
+use columns_base::{Error, Result};
 use pq_numbers::{push_varint, to_zigzag};
 use std::alloc::AllocError;
 

@@ -2,7 +2,7 @@
 
 ghost use Rattle.std.specs.Prelude.{◌≡◌, ◌<◌, ◌≤◌, ◌^◌, ◌+◌, ◌*◌, ◌/◌, ◌%◌, ◌++◌, ℕ, List, [], ◌∷◌, length, replicate, OnOk, IfErr, All, map, Bool};
 ghost use Rattle.std.specs.Iterator.{IsFinite, Drains};
-ghost use Rattle.columns_core.specs.declared.error.Error.TheVariants.{Memory};
+ghost use Rattle.columns_base.specs.declared.error.Error.TheVariants.{Memory};
 ghost use Rattle.pq_runs.specs.Listed.{count, bit};
 ghost use Rattle.pq_numbers.specs.Bits.{bytes_for};
 ghost use Rattle.pq_numbers.specs.Texts.{number_of};
@@ -12,7 +12,7 @@ ghost use Rattle.pq_runs.specs.Writing.{Extends, Wrote, IsWhole, Spelling, IsRea
 
 use crate::pack::{push_packed, push_whole_bytes};
 use crate::pending::Pending;
-use columns_core::{Error, Result};
+use columns_base::{Error, Result};
 use pq_numbers::push_varint;
 use std::alloc::AllocError;
 

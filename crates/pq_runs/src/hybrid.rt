@@ -5,7 +5,7 @@ ghost use Rattle.std.specs.Iterator.{YieldsFirst, item_count};
 ghost use Rattle.pq_runs.specs.Hybrid.{hybrid, fault};
 
 use crate::state::{State, find, take};
-use columns_core::{Error, Result, S};
+use columns_base::{Error, Result, S};
 use std::marker::Model;
 
 /// The numbers that are called for, one after another, and S6 in the place of the first that isn't there, behind which nothing comes.

@@ -2,13 +2,13 @@
 
 ghost use Rattle.std.specs.Prelude.{◌≡◌, ◌++◌, ℕ, List, OnOk, IfErr, map, Bool};
 ghost use Rattle.std.specs.Iterator.{IsFinite, Drains};
-ghost use Rattle.columns_core.specs.declared.error.Error.TheVariants.{Memory};
+ghost use Rattle.columns_base.specs.declared.error.Error.TheVariants.{Memory};
 ghost use Rattle.pq_runs.specs.Listed.{bit, count};
 ghost use Rattle.pq_runs.specs.Packing.{ArePacked};
 ghost use Rattle.pq_runs.specs.Writing.{Extends};
 
 use crate::pack::{push_rest, push_word};
-use columns_core::{Error, Result};
+use columns_base::{Error, Result};
 use std::alloc::AllocError;
 
 // Appends one bit for each value. After an error some of them may stand there.

@@ -7,7 +7,7 @@ ghost use Rattle.pq_runs.specs.Hybrid.{fault};
 
 use crate::bits::{number_at, skip, whole_number};
 use crate::run::{Run, take_run};
-use columns_core::{Error, Result, S};
+use columns_base::{Error, Result, S};
 
 /// The run that is being read and the bytes behind it.
 #[derive(Drop)]

@@ -2,7 +2,7 @@ use super::hybrid_rle::{Decoder, Run};
 use super::{
     HybridRleDecoder, bitpacked_encode, decode, encode_bool, encode_u32, get_bit_width, unpack,
 };
-use columns_core::{Error, Result, S};
+use columns_base::{Error, Result, S};
 use std::alloc::Global;
 
 const FAULT: Error = Error::OutOfSpec(S::S6);

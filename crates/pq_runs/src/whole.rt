@@ -1,7 +1,7 @@
 //! Whole lists.
 
 ghost use Rattle.std.specs.Prelude.{◌≡◌, ◌⊎◌, ◌<◌, ◌≤◌, ◌+◌, ◌-◌, ◌*◌, ◌^◌, ◌++◌, ◌∷◌, ℕ, List, [], length, take, replicate, OnOk, IfOk, IfErr, Err};
-ghost use Rattle.columns_core.specs.declared.error.Error.TheVariants.{Memory};
+ghost use Rattle.columns_base.specs.declared.error.Error.TheVariants.{Memory};
 ghost use Rattle.pq_numbers.specs.Bits.{unpacked};
 ghost use Rattle.pq_runs.specs.Hybrid.{given, runs_items, fault};
 ghost use Rattle.pq_runs.specs.Spelled.{Spelled};
@@ -9,7 +9,7 @@ ghost use Rattle.pq_runs.specs.Spelled.{Spelled};
 use crate::bits::{eight_of, low_bytes, skip, unpack, whole_number};
 use crate::run::{Run, take_run};
 use crate::state::standing;
-use columns_core::{Error, Result, S};
+use columns_base::{Error, Result, S};
 use std::alloc::Global;
 
 // The first numbers.

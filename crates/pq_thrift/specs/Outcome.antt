@@ -1,9 +1,9 @@
 -- What a call of `read_thrift` says of the bytes.
 use Rattle.std.specs.Prelude.{◌≡◌, ℕ, List, drop, Result, Ok, Err}
-use Rattle.columns_core.specs.declared.error.Error.{Error}
-use Rattle.columns_core.specs.declared.error.Error.TheVariants as errors
-use Rattle.columns_core.specs.declared.error.S.TheVariants.{S1}
-use Rattle.columns_core.specs.declared.error.N.TheVariants.{N7}
+use Rattle.columns_base.specs.declared.error.Error.{Error}
+use Rattle.columns_base.specs.declared.error.Error.TheVariants as errors
+use Rattle.columns_base.specs.declared.error.S.TheVariants.{S1}
+use Rattle.columns_base.specs.declared.error.N.TheVariants.{N7}
 use Rattle.pq_thrift.specs.declared.fault.Fault.{Fault}
 use Rattle.pq_thrift.specs.declared.fault.Fault.TheVariants.{Outside, Deep}
 use Rattle.pq_thrift.specs.declared.fault.Refusal.{Refusal}

@@ -1,8 +1,8 @@
 //! Reading a value, from left to right.
 
 ghost use Rattle.std.specs.Prelude.{◌≡◌, ◌≤◌, ◌++◌, ℕ, List, length, take, IfOk, Ok, Err, if◌then◌else◌};
-ghost use Rattle.columns_core.specs.declared.error.S.TheVariants.{S1};
-ghost use Rattle.columns_core.specs.declared.error.N.TheVariants.{N7};
+ghost use Rattle.columns_base.specs.declared.error.S.TheVariants.{S1};
+ghost use Rattle.columns_base.specs.declared.error.N.TheVariants.{N7};
 ghost use Rattle.pq_thrift.specs.declared.fault.Fault.TheVariants.{Outside, Deep};
 ghost use Rattle.pq_thrift.specs.declared.kind.Kind.TheVariants.{Struct as struct_kind, True as true_kind, False as false_kind};
 ghost use Rattle.pq_thrift.specs.Grammar.{Spells, depth};
@@ -18,7 +18,7 @@ use crate::heads::{take_field_head, take_list_head, take_map_head};
 use crate::kind::{Kind, kind_from};
 use crate::numbers::{take_binary, take_byte, take_double, take_i8, take_i16, take_i32, take_i64};
 use crate::value::Thrift;
-use columns_core::{Error, N, Result as Outcome, S};
+use columns_base::{Error, N, Result as Outcome, S};
 use std::alloc::Global;
 
 /// How deep a struct may nest, each value counted.

@@ -1,5 +1,5 @@
 use super::{Thrift, read_thrift, write_thrift};
-use columns_core::{Error, N, S};
+use columns_base::{Error, N, S};
 use std::alloc::Global;
 use std::test::Fail;
 

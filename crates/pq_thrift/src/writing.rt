@@ -1,7 +1,7 @@
 //! Writing a value.
 
 ghost use Rattle.std.specs.Prelude.{◌≡◌, ◌<◌, ◌-ℤ◌, ℕ, pos, List, ◌++◌, length, OnOk, OnErr, IfErr};
-ghost use Rattle.columns_core.specs.declared.error.Error.TheVariants.{Memory};
+ghost use Rattle.columns_base.specs.declared.error.Error.TheVariants.{Memory};
 ghost use Rattle.pq_numbers.specs.Varint.{varint};
 ghost use Rattle.pq_numbers.specs.Zigzag.{zigzag};
 ghost use Rattle.pq_thrift.specs.Grammar.{Spells};
@@ -10,7 +10,7 @@ ghost use Rattle.pq_thrift.specs.Spelling.{number_of, list_head, map_head, field
 
 use crate::kind::Kind;
 use crate::value::Thrift;
-use columns_core::Result as Outcome;
+use columns_base::Result as Outcome;
 use pq_numbers::{push_varint, to_zigzag};
 use std::alloc::AllocError;
 

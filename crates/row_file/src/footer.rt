@@ -7,7 +7,7 @@ ghost use Rattle.row_file.specs.ListColumn.{longest_name};
 ghost use Rattle.row_file.specs.FooterFields.{column_fields, chunk_fields, group_fields, footer_fields, AppendsFooter};
 
 use crate::elements::{schema_elements, text_value};
-use columns_core::{Error, Result as Outcome};
+use columns_base::{Error, Result as Outcome};
 use page_write::push_u32;
 use pq_thrift::{Thrift, write_thrift};
 use std::alloc::{AllocError, Global};

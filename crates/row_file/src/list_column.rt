@@ -9,7 +9,7 @@ ghost use Rattle.shredding.specs.Triples.{ArePairs, triples_from};
 ghost use Rattle.row_file.specs.ListColumn.{tree_out, groups_out, longest_name, max_repetition_out, max_definition_out};
 
 use crate::footer::{ListFooter, push_footer};
-use columns_core::{Error, Result};
+use columns_base::{Error, Result};
 use page_write::{Int32Column, push_data_page};
 use std::alloc::Global;
 

@@ -1,12 +1,12 @@
 //! Hands a whole text to a sink.
 ghost use Rattle.std.specs.Prelude.{◌≡◌, ◌≤◌, ◌⊎◌, OnOk, IfErr, IsErrOf};
 ghost use Rattle.std.specs.Io.KnownBytes.{Appends};
-ghost use Rattle.columns_core.specs.declared.error.Error.{Error};
+ghost use Rattle.columns_base.specs.declared.error.Error.{Error};
 ghost use Rattle.row_file.specs.Causes.{Rose};
 ghost use Rattle.row_file.specs.Ends.{AppendsFront};
 
 use crate::{Sink, SinkFault};
-use columns_core::{Error, Result};
+use columns_base::{Error, Result};
 
 /// Pushes all the bytes, in as many calls as the sink asks for. Each call that takes bytes takes at least one.
 ///

@@ -1,7 +1,7 @@
 //! Sinks at work: in memory, and over writers that fail.
 
 use crate::{MemorySink, PlainSink, Sink, SinkFault, StdSink, push_all};
-use columns_core::Error;
+use columns_base::Error;
 use std::alloc::AllocError;
 use std::io::{self, ErrorKind, Write};
 

@@ -1,5 +1,5 @@
-use Rattle.columns_core.specs.declared.error.Error.TheVariants.{OutOfSpec}
-use Rattle.columns_core.specs.declared.error.S.TheVariants.{S1}
+use Rattle.columns_base.specs.declared.error.Error.TheVariants.{OutOfSpec}
+use Rattle.columns_base.specs.declared.error.S.TheVariants.{S1}
 use Rattle.pq_thrift.specs.Value.{view, fields_view}
 use Rattle.pq_container.specs.Elements.{IsNode, SpellsNode}
 use Rattle.pq_container.specs.Raw.{raw_view}

@@ -1,7 +1,7 @@
 use Rattle.std.proofs.Common.{ℕ}
 use Rattle.std.specs.Prelude.{Ok, Err}
-use Rattle.columns_core.specs.declared.error.Error.TheVariants.{OutOfSpec}
-use Rattle.columns_core.specs.declared.error.S.TheVariants.{S1}
+use Rattle.columns_base.specs.declared.error.Error.TheVariants.{OutOfSpec}
+use Rattle.columns_base.specs.declared.error.S.TheVariants.{S1}
 use Rattle.pq_numbers.specs.Texts.{Begins}
 use Rattle.pq_thrift.specs.declared.value.Thrift.{Thrift}
 use Rattle.pq_thrift.specs.Value.{view}

@@ -1,8 +1,8 @@
 use Rattle.std.proofs.Common.{sym, subst}
 use Rattle.std.specs.Prelude.{Err}
-use Rattle.columns_core.specs.declared.error.Error.{Error}
-use Rattle.columns_core.specs.declared.error.Error.TheVariants.{OutOfSpec}
-use Rattle.columns_core.specs.declared.error.S.TheVariants.{S3}
+use Rattle.columns_base.specs.declared.error.Error.{Error}
+use Rattle.columns_base.specs.declared.error.Error.TheVariants.{OutOfSpec}
+use Rattle.columns_base.specs.declared.error.S.TheVariants.{S3}
 use Rattle.pq_numbers.specs.Texts.{Begins}
 use Rattle.pq_container.specs.HeaderText.{IsHeaderText}
 use Rattle.pq_container.specs.Reads.{Refuses}

@@ -1,5 +1,5 @@
 use Rattle.std.proofs.Common.{◌≡◌, ◌-◌, ℕ, List, take, drop, length, sym, ap, subst, ◌∙◌, inr}
-use Rattle.columns_core.specs.declared.error.Error.{Error}
+use Rattle.columns_base.specs.declared.error.Error.{Error}
 use Rattle.pq_container.specs.Frame.{footer_of}
 use Rattle.pq_container.specs.Metadata.{RefusesMetadata, RefusesFile}
 use Rattle.pq_container.proofs.Refusals.{if_err_more}

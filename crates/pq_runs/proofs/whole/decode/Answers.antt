@@ -1,6 +1,6 @@
 use Rattle.std.proofs.Common.{◌≡◌, ◌⊎◌, ◌∙◌, ap, ◌++◌, List, ℕ, replicate, inl, inr, arith}
-use Rattle.columns_core.specs.declared.error.Error.{Error}
-use Rattle.columns_core.specs.declared.error.Error.TheVariants.{Memory}
+use Rattle.columns_base.specs.declared.error.Error.{Error}
+use Rattle.columns_base.specs.declared.error.Error.TheVariants.{Memory}
 use Rattle.pq_runs.specs.Hybrid.{fault}
 use Rattle.pq_runs.specs.Spelled.{Spelled}
 use Rattle.pq_runs.proofs.Decoding.{zeros_spelled, all_spelled, none_spelled, passed_on}

@@ -1,4 +1,4 @@
-use Rattle.std.proofs.Common.{◌≡◌, ◌+◌, ◌++◌, length, map, replicate, vec_len, sym, ap, ◌∙◌, arith}
+use Rattle.std.proofs.Common.{◌≡◌, ◌++◌, map, replicate, vec_len, sym, ap, ◌∙◌, arith}
 use Rattle.columns_core.specs.Rising.{whole, last_place}
 use Rattle.columns_core.proofs.Places.{filled, copied, map_copies}
 use Rattle.columns_core.proofs.mutable_offsets.Offsets.extend_constant.Given

@@ -1,4 +1,4 @@
-use Rattle.std.proofs.Common.{◌+◌, ◌-◌, length, sym, subst, ap, ◌∙◌, arith}
+use Rattle.std.proofs.Common.{◌-◌, sym, subst, ap, ◌∙◌, arith}
 use Rattle.columns_core.specs.Rising.{IsWhole, whole, last_place}
 use Rattle.columns_core.proofs.Places.{whole_at, map_last}
 use Rattle.columns_core.proofs.mutable_offsets.Offsets.last.Goals as goal

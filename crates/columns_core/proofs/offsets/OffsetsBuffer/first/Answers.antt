@@ -1,4 +1,4 @@
-use Rattle.std.proofs.Common.{sym, subst, ◌+◌, arith}
+use Rattle.std.proofs.Common.{sym, subst, arith}
 use Rattle.columns_core.specs.Rising.{IsWhole}
 use Rattle.columns_core.proofs.Places.{whole_at}
 use Rattle.columns_core.proofs.offsets.OffsetsBuffer.first.Goals as goal

@@ -1,0 +1,11 @@
+pub mod Boxed
+pub mod Chunks
+pub mod Examples
+pub mod Falls
+pub mod Fits
+pub mod Keys
+pub use Rattle.columns_slots.specs.Tree
+pub use Rattle.columns_slots.specs.Slots
+pub use Rattle.columns_slots.specs.Types
+pub use Rattle.columns_slots.specs.Bytes
+pub use Rattle.columns_slots.specs.Loose

@@ -1,0 +1,8 @@
+//! Examples of the definitions.
+
+ghost use Rattle.columns_array.specs.Examples.{AreWorked};
+
+/// The definitions of buffers, shapes and parts say of some what they should.
+pub fn as_worked()
+    ensures { AreWorked }
+{}

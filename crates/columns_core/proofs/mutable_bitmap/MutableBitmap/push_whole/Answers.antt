@@ -1,0 +1,10 @@
+use Rattle.std.proofs.Common.{refl, arith}
+use Rattle.columns_core.proofs.Grown.{copies_grown, still_whole}
+use Rattle.columns_core.proofs.mutable_bitmap.MutableBitmap.push_whole.Goals as goal
+
+pub loop-i-preserved : goal.loop-i-preserved
+loop-i-preserved c = (
+  copies_grown c.args.self.now.0 c.loop-i.self.0 c.push_eight.new.self.0 c.args.value c.loop-i._i c.full_byte-byte.result c.loop-i.invariant.0 c.full_byte-byte.ensures c.push_eight.ensures.same,
+  omega (arith, c.push_eight.ensures.room, c.loop-i.invariant.1),
+  λ h. still_whole c.loop-i.self.0 c.push_eight.new.self.0 _ c.push_eight.ensures.same refl (c.loop-i.invariant.2 h),
+)

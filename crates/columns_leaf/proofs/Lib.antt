@@ -1,0 +1,3 @@
+pub mod Lens
+pub mod Texts
+pub mod Widths

@@ -1,0 +1,3 @@
+pub mod Fixed
+pub mod Keyed
+pub mod Texts

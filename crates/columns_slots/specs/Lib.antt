@@ -1,0 +1,10 @@
+pub mod Bytes
+pub mod Laws
+pub mod Loose
+pub mod Slots
+pub mod Tree
+pub mod Types
+pub mod Worked
+pub use Rattle.shredding.specs.Slot
+pub use Rattle.shredding.specs.Shape
+pub use Rattle.shredding.specs.Parts

@@ -1,0 +1,9 @@
+pub mod CanBeWritten
+pub mod Listed
+pub mod Nests
+pub mod Nodes
+pub mod Pairs
+pub mod ReadAgain
+pub mod ReadFooter
+pub mod Rooms
+pub mod SameTexts

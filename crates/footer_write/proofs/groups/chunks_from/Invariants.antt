@@ -1,0 +1,7 @@
+use Rattle.std.proofs.Common.{◌≡◌, map, take}
+use Rattle.pq_thrift.specs.Value.{int32, view}
+use Rattle.footer_write.specs.FooterValue.{text_value, chunk_value, group_value}
+use Rattle.footer_write.proofs.groups.chunks_from.Given as goal
+
+abbrev pub invariant-loop-chunk : goal.invariant-loop-chunk
+invariant-loop-chunk l = map view l.values.items ≡ map chunk_value (take l.chunk-index l.chunks)

@@ -1,0 +1,18 @@
+//! Writing footers (Parquet format, "File format" and parquet.thrift, `FileMetaData`).
+#![tactic(auto)]
+
+mod elements;
+mod footer;
+mod groups;
+mod parts;
+mod room;
+mod types;
+mod writable;
+mod write;
+
+pub use types::{ThriftColumnChunk, ThriftColumnMetaData, ThriftFileMetaData, ThriftRowGroup};
+pub use writable::is_writable;
+pub use write::write_metadata;
+
+#[cfg(test)]
+mod tests;

@@ -1,0 +1,73 @@
+//! Structs whose fields may be absent.
+ghost use Rattle.std.specs.Prelude.{◌≡◌, ◌++◌, OnOk, IfOk, map, option_map};
+ghost use Rattle.pq_thrift.specs.Value.{struct, binary, int16, int64, view, field_view};
+ghost use Rattle.footer_write.specs.Parts.{part_view, present, one_part};
+ghost use Rattle.footer_write.specs.FooterValue.{bytes_value};
+
+use pq_thrift::Thrift;
+use std::alloc::{AllocError, Global};
+
+/// A field's id, and its value if it stands.
+pub type Part = (u8, Option<Thrift>);
+
+fn push_part(
+    fields: &mut Vec<(i16, Thrift)>,
+    id: u8,
+    value: Option<Thrift>,
+) -> Result<(), AllocError>
+    ensures { OnOk result (map field_view fields.new.items ≡ map field_view fields.old.items ++ one_part id (option_map view value)) }
+{
+    let Some(value) = value else {
+        return Ok(());
+    };
+    fields.push((i16::from(id), value))?;
+    Ok(())
+}
+
+/// The struct of the fields that stand.
+pub fn struct_of(alloc: Global, parts: Vec<Part>) -> Result<Thrift, AllocError>
+    ensures { IfOk result (λ v. view v ≡ struct (present (map part_view parts.items))) }
+{
+    let mut fields = Vec::with_capacity(alloc, parts.len())?;
+    for (id, value) in parts {
+        push_part(&mut fields, id, value)?;
+    }
+    Ok(Thrift::Struct(fields))
+}
+
+/// A text.
+pub fn text_from(alloc: Global, text: &str) -> Result<Thrift, AllocError>
+    ensures { IfOk result (λ v. view v ≡ binary text.now) }
+{
+    Ok(Thrift::Binary(Vec::from_slice(alloc, text.as_bytes())?))
+}
+
+/// Bytes, if there are some.
+pub fn bytes_from(alloc: Global, bytes: &Option<Vec<u8>>) -> Result<Option<Thrift>, AllocError>
+    ensures { IfOk result (λ v. option_map view v ≡ option_map bytes_value bytes.now) }
+{
+    match bytes {
+        Some(bytes) => Ok(Some(Thrift::Binary(Vec::from_slice(alloc, bytes)?))),
+        None => Ok(None),
+    }
+}
+
+/// A number, if there is one.
+pub fn i64_from(number: Option<i64>) -> Option<Thrift>
+    ensures { option_map view result ≡ option_map int64 number }
+{
+    match number {
+        Some(number) => Some(Thrift::I64(number)),
+        None => None,
+    }
+}
+
+/// A number, if there is one.
+pub fn i16_from(number: Option<i16>) -> Option<Thrift>
+    ensures { option_map view result ≡ option_map int16 number }
+{
+    match number {
+        Some(number) => Some(Thrift::I16(number)),
+        None => None,
+    }
+}

@@ -1,0 +1,17 @@
+use Rattle.std.proofs.Common.{◌≡◌, ℕ, List, ◌<◌, ◌≤◌, ◌-◌, ◌+◌, ◌^◌, ◌++◌, length, replicate, All}
+use Rattle.pq_runs.specs.Writing.{Extends, Wrote}
+use Rattle.level_runs.specs.Writing.{IsTight}
+use Rattle.level_runs.proofs.settle.settle.Given as goal
+
+abbrev pub decreases-loop-left : goal.decreases-loop-left
+decreases-loop-left l = l.left
+
+abbrev pub invariant-loop-left : goal.invariant-loop-left
+invariant-loop-left l = record {
+  most : l.left ≤ l.count;
+  room : length l.block < 504;
+  kept : Extends l.fn.out.items l.out.items;
+  below : All (λ v. v < 2 ^ l.width) l.block;
+  wrote : (start xs : List ℕ) → Wrote l.width start l.fn.out.items l.fn.block xs → Wrote l.width start l.out.items l.block (xs ++ replicate (l.count - l.left) l.level);
+  tight : (start done : ℕ) → IsTight l.width start (length l.fn.out.items) done → (more : ℕ) × (done + length l.fn.block + (l.count - l.left) ≡ more + length l.block) × IsTight l.width start (length l.out.items) more;
+}

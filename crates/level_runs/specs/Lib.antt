@@ -1,0 +1,6 @@
+pub mod Words
+pub mod Writing
+pub use Rattle.pq_numbers.specs.Bits
+pub use Rattle.pq_numbers.specs.Texts
+pub use Rattle.pq_runs.specs.Packing
+pub use Rattle.pq_runs.specs.Runs

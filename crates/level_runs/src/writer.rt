@@ -1,0 +1,124 @@
+//! A writer of runs of levels.
+
+ghost use Rattle.std.specs.Prelude.{◌≡◌, ◌<◌, ◌≤◌, ◌^◌, ◌+◌, ◌-◌, ◌*◌, ◌++◌, ℕ, List, [], ◌∷◌, length, replicate, OnOk, All};
+ghost use Rattle.pq_runs.specs.Runs.{Runs};
+ghost use Rattle.pq_runs.specs.Writing.{Extends, Wrote};
+ghost use Rattle.level_runs.specs.Writing.{Keeps, AppendsRuns, IsReady, Waiting};
+
+use crate::block::Block;
+use crate::runs::push_packed;
+use crate::settle::settle;
+use std::alloc::AllocError;
+use std::marker::Model;
+
+/// Writes levels of a width as runs behind what a vector holds. Copies wait for the next level and packed levels for whole groups, so
+/// nothing that was written is written anew, and nothing but the output takes memory.
+#[derive(Drop)]
+pub struct RunWriter {
+    width: u32,
+    block: Block,
+    level: u8,
+    count: u64,
+}
+
+impl Model for RunWriter {
+    ghost use Rattle.level_runs.specs.Writing.{Waiting, IsReady};
+
+    ghost Value = { Waiting };
+
+    ghost view = { λ r. record { width = r.width; block = r.block; level = r.level; count = r.count } };
+
+    ghost invariant = { λ r. IsReady (record { width = r.width; block = r.block; level = r.level; count = r.count }) };
+}
+
+// No more copies are taken at once, so that their number has no end of digits.
+const MOST_COPIES: u64 = 1 << 40;
+
+impl RunWriter {
+    /// A writer of levels of so many bits, from 1 to 8, to which nothing was given yet.
+    pub fn new(width: u32) -> Self
+        requires some { 1 ≤ width }
+        requires most { width ≤ 8 }
+        ensures width { result.width ≡ width }
+        ensures none { (start : List ℕ) → Keeps start start result [] }
+    {
+        RunWriter {
+            width,
+            block: Block::new(),
+            level: 0,
+            count: 0,
+        }
+    }
+
+    // At most MOST_COPIES copies of a level.
+    fn push_some(&mut self, out: &mut Vec<u8>, level: u8, count: u64) -> Result<(), AllocError>
+        requires low { level < 2 ^ self.old.width }
+        requires few { count ≤ 2 ^ 40 }
+        ensures width { self.new.width ≡ self.old.width }
+        ensures added { OnOk result ((start xs : List ℕ) → Keeps start out.old.items self.old xs → Keeps start out.new.items self.new (xs ++ replicate count level)) }
+        ensures kept { Extends out.old.items out.new.items }
+    {
+        if level == self.level && self.count < MOST_COPIES {
+            self.count += count;
+            return Ok(());
+        }
+        let settled = settle(out, &mut self.block, self.level, self.count, self.width);
+        if settled.is_err() {
+            self.block.clear();
+            return settled;
+        }
+        self.level = level;
+        self.count = count;
+        Ok(())
+    }
+
+    /// Takes so many copies of a level.
+    ///
+    /// # Errors
+    ///
+    /// Want of memory; the writer is then of no more use, and `out` has what it had in front.
+    pub fn push(&mut self, out: &mut Vec<u8>, level: u8, count: usize) -> Result<(), AllocError>
+        requires low { level < 2 ^ self.old.width }
+        ensures width { self.new.width ≡ self.old.width }
+        ensures added { OnOk result ((start xs : List ℕ) → Keeps start out.old.items self.old xs → Keeps start out.new.items self.new (xs ++ replicate count level)) }
+        ensures kept { Extends out.old.items out.new.items }
+    {
+        let mut left = count as u64;
+        while left > MOST_COPIES {
+            self.push_some(out, level, MOST_COPIES)?;
+            left -= MOST_COPIES;
+        }
+        self.push_some(out, level, left)
+    }
+
+    /// Writes what waits. What was appended since the start is then runs of all levels that were given.
+    ///
+    /// # Errors
+    ///
+    /// Want of memory; `out` has what it had in front.
+    pub fn finish(mut self, out: &mut Vec<u8>) -> Result<(), AllocError>
+        ensures ok { OnOk result ((start xs : List ℕ) → Keeps start out.old.items self xs → AppendsRuns self.width start out.new.items xs) }
+        ensures kept { Extends out.old.items out.new.items }
+    {
+        settle(out, &mut self.block, self.level, self.count, self.width)?;
+        push_last(out, &mut self.block, self.width)
+    }
+}
+
+// Writes the block, behind which nothing comes. Its last group is filled up.
+fn push_last(out: &mut Vec<u8>, block: &mut Block, width: u32) -> Result<(), AllocError>
+    requires fits { width ≤ 8 }
+    requires room { length block.old < 504 }
+    requires below { All (λ v. v < 2 ^ width) block.old }
+    ensures ok { OnOk result ((start xs : List ℕ) → Wrote width start out.old.items block.old xs → (text : List ℕ) × (out.new.items ≡ start ++ text) × Runs width text xs) }
+    ensures size { OnOk result (504 * length out.new.items ≤ 504 * length out.old.items + 63 * width * length block.old + 4032) }
+    ensures kept { Extends out.old.items out.new.items }
+{
+    if block.len() == 0 {
+        return Ok(());
+    }
+    while block.len() % 8 != 0 {
+        block.push(0);
+    }
+    push_packed(out, block.as_slice(), width)
+}

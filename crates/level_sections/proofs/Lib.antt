@@ -1,0 +1,4 @@
+pub mod Walked
+pub mod Within
+pub mod Texts
+pub mod Both

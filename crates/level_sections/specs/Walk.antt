@@ -1,0 +1,33 @@
+-- The levels that a walk over a path writes.
+use Rattle.std.specs.Prelude.{ℕ, ◌+◌, ◌*◌, ◌^◌, ◌<◌, ◌≤◌, List, map}
+use Rattle.shredding.specs.Parts.{Part, path_way}
+use Rattle.shredding.specs.Shred.{max_repetition, max_definition}
+use Rattle.levels.specs.Levels.{run, slot_pairs}
+use Rattle.level_sections.specs.declared.walk.Level.{Level}
+use Rattle.level_sections.specs.declared.walk.Level.TheVariants.{Repetition, Definition}
+use Rattle.level_sections.specs.declared.walk.Above.{Above}
+
+-- the level of a pair that is written
+abbrev pub level_of : Level → ℕ × ℕ → ℕ
+level_of Repetition pair = pair.0
+level_of Definition pair = pair.1
+
+-- the greatest level of a path
+abbrev pub greatest : Level → List Part → ℕ
+greatest Repetition parts = max_repetition (path_way parts)
+greatest Definition parts = max_definition (path_way parts)
+
+-- the levels of the slots of a path from one place to another, beneath what lies above
+abbrev pub walked : Level → List Part → Above → ℕ → ℕ → List ℕ
+walked level parts above place count = map (level_of level) (run (slot_pairs parts above.def above.depth) above.rep above.depth place count)
+
+-- levels of so many further parts are below 256
+pub record IsLow (above : Above) (count : ℕ) : Type 0 where
+  pub first : above.rep ≤ above.depth
+  pub def : above.def + 2 * count ≤ 256
+  pub depth : above.depth + count ≤ 128
+
+-- so many bits hold the levels above and so many more
+abbrev pub Holds : Level → Above → ℕ → ℕ → ℕ → Type 0
+Holds Repetition above lists levels width = above.depth + lists < 2 ^ width
+Holds Definition above lists levels width = above.def + levels < 2 ^ width

@@ -1,0 +1,14 @@
+//! The level sections of data pages (Parquet format, "Data Pages" and "Nested Encoding"), written from paths of nested parts.
+#![tactic(auto)]
+
+mod flat;
+mod prefix;
+mod section;
+mod sections;
+mod walk;
+
+pub use flat::write_def_levels;
+pub use sections::write_rep_and_def;
+
+#[cfg(test)]
+mod tests;

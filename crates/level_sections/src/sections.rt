@@ -1,0 +1,70 @@
+//! The level sections of a page.
+ghost use Rattle.std.specs.Prelude.{◌≡◌, ◌⊎◌, ◌↔◌, ℕ, ◌+◌, ◌-◌, ◌*◌, ◌^◌, ◌<◌, ◌≤◌, ◌∷◌, [], length, map, IfOk, OnOk, IfErr, Err};
+ghost use Rattle.shredding.specs.Slot.{Value};
+ghost use Rattle.shredding.specs.Parts.{IsPath, path_way};
+ghost use Rattle.levels.specs.Nested.{parts_of, nested_column};
+ghost use Rattle.levels.specs.Levels.{path_pairs};
+ghost use Rattle.pq_files.specs.Room.{level_room, max_size};
+ghost use Rattle.pq_runs.specs.Writing.{Extends};
+ghost use Rattle.level_sections.specs.Sections.{AppendsSections, AppendsLevels, AppendsBoth};
+ghost use Rattle.level_sections.specs.Walk.{level_of, greatest};
+
+use crate::section::push_section;
+use crate::walk::Level;
+use columns_core::{Error, Result, V};
+use levels::{Nested, num_values};
+use pq_container::Version;
+use std::alloc::AllocError;
+
+// With more pairs the level sections could pass the 32-bit sizes of a page's header: 2,048 bytes and two a pair.
+pub const MOST_PAIRS: usize = 1_073_740_799;
+
+// Appends both sections, and gives their lengths.
+fn push_both(
+    version: Version,
+    nested: &[Nested],
+    buffer: &mut Vec<u8>,
+) -> std::result::Result<(usize, usize), AllocError>
+    requires well { IsPath (parts_of nested.now) }
+    requires parts { length nested.now ≤ 128 }
+    requires few { length (path_pairs (parts_of nested.now)) < 2 ^ 30 }
+    ensures ok { IfOk result (λ sizes. AppendsBoth version (parts_of nested.now) buffer.old.items buffer.new.items sizes.0 sizes.1) }
+    ensures kept { Extends buffer.old.items buffer.new.items }
+{
+    let repetition = push_section(buffer, nested, Level::Repetition, version)?;
+    let definition = push_section(buffer, nested, Level::Definition, version)?;
+    Ok((repetition, definition))
+}
+
+/// Appends the section of a path's repetition levels and that of its definition levels, as a data page of the version has them, and
+/// gives their lengths, the four bytes in front of each in version 1 included. A level whose maximum is 0 has no section.
+///
+/// The levels are those of the column of the slots that the path stands for (Dremel paper, "Nested columnar storage"; Parquet format,
+/// "Data Pages", "Nested Encoding"). The path is well formed and has at most 128 parts.
+///
+/// # Errors
+///
+/// V3 exactly where 2,048 and twice the level pairs pass 2^31 - 1. Want of memory. The buffer is then as before.
+pub fn write_rep_and_def(
+    page_version: Version,
+    nested: &[Nested],
+    buffer: &mut Vec<u8>,
+) -> Result<(usize, usize)>
+    requires well { IsPath (parts_of nested.now) }
+    requires parts { length nested.now ≤ 128 }
+    ensures ok { (values : ℕ → Value) → IfOk result (λ sizes. AppendsSections page_version (path_way (parts_of nested.now)) (nested_column values nested.now) buffer.old.items buffer.new.items sizes) }
+    ensures too_large { (values : ℕ → Value) → (result ≡ Err (Error.Overflow V.V3)) ↔ (max_size < level_room (length (nested_column values nested.now))) }
+    ensures err { IfErr result (λ e. ((e ≡ Error.Memory) ⊎ (e ≡ Error.Overflow V.V3)) × (buffer.new.items ≡ buffer.old.items)) }
+{
+    if num_values(nested) > MOST_PAIRS {
+        return Err(Error::Overflow(V::V3));
+    }
+    let before = buffer.len();
+    match push_both(page_version, nested, buffer) {
+        Ok(sizes) => Ok(sizes),
+        Err(_) => {
+            buffer.truncate(before);
+            Err(Error::Memory)
+        }
+    }
+}

@@ -1,0 +1,133 @@
+//! A walk over a path, stretch by stretch.
+ghost use Rattle.std.specs.Prelude.{◌≡◌, ℕ, ◌+◌, ◌-◌, ◌*◌, ◌^◌, ◌<◌, ◌≤◌, ◌++◌, List, length, map, OnOk, IfOk};
+ghost use Rattle.shredding.specs.Parts.{IsPath, slot_count, path_way};
+ghost use Rattle.shredding.specs.Shred.{max_repetition, max_definition};
+ghost use Rattle.levels.specs.Nested.{parts_of};
+ghost use Rattle.levels.specs.Stretch.{like_pairs};
+ghost use Rattle.pq_runs.specs.Writing.{Extends};
+ghost use Rattle.level_runs.specs.Writing.{Keeps};
+ghost use Rattle.level_sections.specs.Walk.{level_of, walked, IsLow, Holds};
+
+use level_runs::RunWriter;
+use levels::{Nested, Stretch, stretch_at};
+use std::alloc::AllocError;
+
+// Which level of a pair is written.
+#[derive(Clone, Copy, Drop)]
+pub enum Level {
+    Repetition,
+    Definition,
+}
+
+// What lies above slots: the repetition level of the first one, and how many definition levels and lists are there.
+#[derive(Clone, Copy, Drop)]
+pub struct Above {
+    pub rep: u32,
+    pub def: u32,
+    pub depth: u32,
+}
+
+// So many pairs of one definition level.
+fn push_pairs(
+    out: &mut Vec<u8>,
+    writer: &mut RunWriter,
+    level: Level,
+    above: Above,
+    count: usize,
+) -> Result<(), AllocError>
+    requires some { 0 < count }
+    requires first { above.rep ≤ above.depth }
+    requires def { above.def < 256 }
+    requires depth { above.depth < 256 }
+    requires holds { Holds level above 0 0 writer.old.width }
+    ensures width { writer.new.width ≡ writer.old.width }
+    ensures added { OnOk result ((start xs : List ℕ) → Keeps start out.old.items writer.old xs → Keeps start out.new.items writer.new (xs ++ map (level_of level) (like_pairs above.rep above.depth above.def count))) }
+    ensures kept { Extends out.old.items out.new.items }
+{
+    match level {
+        Level::Definition => writer.push(out, above.def as u8, count),
+        Level::Repetition => {
+            writer.push(out, above.rep as u8, 1)?;
+            writer.push(out, above.depth as u8, count - 1)
+        }
+    }
+}
+
+// The levels of the stretch at a place, and the place behind it.
+#[cycle(walk)]
+fn step(
+    out: &mut Vec<u8>,
+    writer: &mut RunWriter,
+    level: Level,
+    parts: &[Nested],
+    above: Above,
+    place: usize,
+    to: usize,
+) -> Result<usize, AllocError>
+    requires well { IsPath (parts_of parts.now) }
+    requires some { place < to }
+    requires within { to ≤ slot_count (parts_of parts.now) }
+    requires low { IsLow above (length parts.now) }
+    requires holds { Holds level above (max_repetition (path_way (parts_of parts.now))) (max_definition (path_way (parts_of parts.now))) writer.old.width }
+    ensures width { writer.new.width ≡ writer.old.width }
+    ensures after { IfOk result (λ next. (place < next) × (next ≤ to)) }
+    ensures added { IfOk result (λ next. (start xs : List ℕ) → Keeps start out.old.items writer.old xs → Keeps start out.new.items writer.new (xs ++ walked level (parts_of parts.now) above place (next - place))) }
+    ensures kept { Extends out.old.items out.new.items }
+{
+    match stretch_at(parts, place, to) {
+        Stretch::Ends(up, end) => {
+            let here = Above {
+                def: above.def + up,
+                ..above
+            };
+            push_pairs(out, writer, level, here, end - place)?;
+            Ok(end)
+        }
+        Stretch::Below(rest, up, end) => {
+            let here = Above {
+                def: above.def + up,
+                ..above
+            };
+            walk(out, writer, level, rest, here, place, end)?;
+            Ok(end)
+        }
+        Stretch::Items(rest, up, first, last) => {
+            let here = Above {
+                rep: above.rep,
+                def: above.def + up,
+                depth: above.depth + 1,
+            };
+            walk(out, writer, level, rest, here, first, last)?;
+            Ok(place + 1)
+        }
+    }
+}
+
+// The levels of the slots from one place to another.
+#[cycle(walk)]
+pub fn walk(
+    out: &mut Vec<u8>,
+    writer: &mut RunWriter,
+    level: Level,
+    parts: &[Nested],
+    above: Above,
+    from: usize,
+    to: usize,
+) -> Result<(), AllocError>
+    requires well { IsPath (parts_of parts.now) }
+    requires ordered { from ≤ to }
+    requires within { to ≤ slot_count (parts_of parts.now) }
+    requires low { IsLow above (length parts.now) }
+    requires holds { Holds level above (max_repetition (path_way (parts_of parts.now))) (max_definition (path_way (parts_of parts.now))) writer.old.width }
+    ensures width { writer.new.width ≡ writer.old.width }
+    ensures added { OnOk result ((start xs : List ℕ) → Keeps start out.old.items writer.old xs → Keeps start out.new.items writer.new (xs ++ walked level (parts_of parts.now) above from (to - from))) }
+    ensures kept { Extends out.old.items out.new.items }
+{
+    let mut place = from;
+    let mut here = above;
+    while place < to {
+        place = step(out, writer, level, parts, here, place, to)?;
+        here.rep = here.depth;
+    }
+    Ok(())
+}

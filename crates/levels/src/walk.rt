@@ -1,0 +1,124 @@
+//! Slots of a path that are alike, taken at once.
+ghost use Rattle.std.specs.Prelude.{◌≡◌, ℕ, ◌+◌, ◌-◌, ◌<◌, ◌≤◌, ◌∷◌, length, slice_index_or, false};
+ghost use Rattle.shredding.specs.Parts.{IsPath, FitsAbove, FitTogether, MaskFits, is_present, list_part, slot_count};
+ghost use Rattle.levels.specs.Nested.{parts_of};
+ghost use Rattle.levels.specs.Stretch.{AreAlike, IsStretch};
+
+use crate::here::{bit, is_present, item_range};
+use crate::nested::{ListNested, Nested};
+use columns_core::{Bitmap, Offset};
+
+/// Slots of a path from one place on that are alike, each with the definition levels that they add.
+#[derive(Clone, Copy, Drop)]
+pub enum Stretch<'a> {
+    /// To this place each slot has one pair: nulls, values, or a list without items.
+    Ends(u32, usize),
+    /// To this place the slots go on in the next part, at the same places.
+    Below(&'a [Nested], u32, usize),
+    /// One list with items: the slots of the next part from one place to another.
+    Items(&'a [Nested], u32, usize, usize),
+}
+
+// Where bits that are alike end.
+fn alike_end(mask: &Bitmap, there: bool, from: usize, to: usize) -> usize
+    requires ordered { from ≤ to }
+    requires within { to ≤ length mask.now }
+    ensures after { from ≤ result }
+    ensures within { result ≤ to }
+    ensures alike { AreAlike (λ i. slice_index_or mask.now i false) there from result }
+{
+    let mut end = from;
+    while end < to {
+        if mask.get_bit(end) != there {
+            break;
+        }
+        end += 1;
+    }
+    end
+}
+
+// Whether the slot at a place is there, and where those end that are like it.
+fn alike(
+    is_optional: bool,
+    mask: &Option<Bitmap>,
+    count: usize,
+    place: usize,
+    to: usize,
+) -> (bool, usize)
+    requires fits { MaskFits mask.now count }
+    requires some { place < to }
+    requires within { to ≤ count }
+    ensures after { place < result.1 }
+    ensures within { result.1 ≤ to }
+    ensures alike { AreAlike (λ i. is_present is_optional mask.now i) result.0 place result.1 }
+{
+    if !is_optional {
+        return (true, to);
+    }
+    match mask {
+        None => (true, to),
+        Some(mask) => {
+            let there = mask.get_bit(place);
+            (there, alike_end(mask, there, place + 1, to))
+        }
+    }
+}
+
+// The stretch at a place of a list over the rest of its path. Lists that are there are taken one by one.
+fn stretch_of_list<'a, O: Offset>(
+    list: &ListNested<O>,
+    rest: &'a [Nested],
+    place: usize,
+    to: usize,
+) -> Stretch<'a>
+    requires fits { FitsAbove (list_part list.now.is_optional list.now.validity list.now.offsets) (parts_of rest.now) }
+    requires beneath { FitTogether (parts_of rest.now) }
+    requires some { place < to }
+    requires within { to ≤ length list.now.offsets - 1 }
+    ensures { IsStretch (list_part list.now.is_optional list.now.validity list.now.offsets ∷ parts_of rest.now) (length rest.now + 1) place to result }
+{
+    let lists = list.offsets.len_proxy();
+    if !is_present(list.is_optional, &list.validity, lists, place) {
+        let (_, end) = alike(list.is_optional, &list.validity, lists, place, to);
+        return Stretch::Ends(0, end);
+    }
+    let up = bit(list.is_optional);
+    let (first, end) = item_range(&list.offsets, place);
+    if first == end {
+        Stretch::Ends(up, place + 1)
+    } else {
+        Stretch::Items(rest, up + 1, first, end)
+    }
+}
+
+/// The stretch of a path from a place on, which ends at a place not behind `to`.
+pub fn stretch_at(parts: &[Nested], place: usize, to: usize) -> Stretch<'_>
+    requires well { IsPath (parts_of parts.now) }
+    requires some { place < to }
+    requires within { to ≤ slot_count (parts_of parts.now) }
+    ensures { IsStretch (parts_of parts.now) (length parts.now) place to result }
+{
+    let Some((part, rest)) = parts.split_first() else {
+        unreachable!()
+    };
+    match part {
+        Nested::Primitive(mask, is_optional, count) => {
+            let (there, end) = alike(*is_optional, mask, *count, place, to);
+            if there {
+                Stretch::Ends(bit(*is_optional), end)
+            } else {
+                Stretch::Ends(0, end)
+            }
+        }
+        Nested::List(list) => stretch_of_list(list, rest, place, to),
+        Nested::LargeList(list) => stretch_of_list(list, rest, place, to),
+        Nested::Struct(mask, is_optional, count) => {
+            let (there, end) = alike(*is_optional, mask, *count, place, to);
+            if there {
+                Stretch::Below(rest, bit(*is_optional), end)
+            } else {
+                Stretch::Ends(0, end)
+            }
+        }
+    }
+}

@@ -1,0 +1,9 @@
+pub mod Ascending
+pub mod Examples
+pub mod Laws
+pub mod Parse
+pub mod Proved
+pub mod Ranges
+pub mod Reading
+pub mod Spelling
+pub mod Tags

@@ -1,0 +1,21 @@
+//! A schema as bytes: the trait of such codecs, and a plain codec of all types that is proved against its grammar.
+#![tactic(auto)]
+
+mod codec;
+mod fault;
+mod laws;
+mod leaves;
+mod meta;
+mod numbers;
+mod plain;
+mod reading;
+mod tag;
+mod writing;
+
+pub use codec::SchemaCodec;
+pub use fault::CodecFault;
+pub use laws::{as_worked, read_is_written, written_is_read};
+pub use plain::PlainCodec;
+
+#[cfg(test)]
+mod tests;

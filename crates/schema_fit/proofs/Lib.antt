@@ -1,0 +1,4 @@
+pub mod Bones
+pub mod Rests
+pub mod Behind
+pub mod Fields

@@ -1,0 +1,6 @@
+pub mod Examples
+pub mod Fits
+pub mod PageTable
+pub mod Places
+pub mod Skeleton
+pub mod Walk

@@ -1,0 +1,4 @@
+pub mod Answers
+pub mod Examples
+pub mod FromTree
+pub mod Leaves

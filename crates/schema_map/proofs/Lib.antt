@@ -1,0 +1,3 @@
+mod Bones
+mod Leaves
+mod Fields

@@ -1,0 +1,9 @@
+pub mod Conditions
+pub mod Depth
+pub mod Encodes
+pub mod Examples
+pub mod Faults
+pub mod Leaves
+pub mod Length
+pub mod StoredViews
+pub mod Table

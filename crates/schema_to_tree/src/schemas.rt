@@ -1,0 +1,34 @@
+//! The tree of a schema.
+ghost use Rattle.std.specs.Prelude.{◌≡◌, IfOk, IfErr, codes};
+ghost use Rattle.columns_core.specs.View.{schema_view};
+ghost use Rattle.pq_container.specs.TreeViews as trees;
+ghost use Rattle.schema_to_tree.specs.Table.{schema_of};
+ghost use Rattle.schema_to_tree.specs.Conditions.{AreWritten, RefusesSchema};
+
+use crate::depth::{fields_nesting_to, fields_tree_depth_to};
+use crate::times::have_bad_time64;
+use crate::trees::{MOST, field_trees};
+use columns_base::{A, Error, N, Result};
+use columns_core::Schema;
+use pq_container::SchemaDescriptor;
+use std::alloc::Global;
+
+/// The trees of a schema's fields, in order, under the root `root` (Parquet format, "Metadata"). Each field is refused as by
+/// `to_parquet_type`, but A6 goes before N5 over all fields, and N7 counts the tree from its root.
+pub fn to_parquet_schema(alloc: Global, schema: &Schema) -> Result<SchemaDescriptor>
+    ensures ok { IfOk result (λ s. (trees.schema_view s ≡ schema_of (schema_view schema.now).fields) × AreWritten (schema_view schema.now).fields) }
+    ensures err { IfErr result (RefusesSchema (schema_view schema.now).fields) }
+{
+    if fields_nesting_to(&schema.fields, MOST + 1) > MOST {
+        return Err(Error::NotYetImplemented(N::N7));
+    }
+    if fields_tree_depth_to(&schema.fields, MOST) >= MOST {
+        return Err(Error::NotYetImplemented(N::N7));
+    }
+    if have_bad_time64(&schema.fields) {
+        return Err(Error::InvalidArgumentError(A::A6));
+    }
+    let fields = field_trees(alloc, &schema.fields)?;
+    let name = String::from_str(alloc, "root")?;
+    SchemaDescriptor::new(alloc, name, fields)
+}
