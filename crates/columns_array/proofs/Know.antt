@@ -170,7 +170,7 @@ width_type t w e = absurd (no_width e)
     no_width : None ≡ Some w → ⊥
     no_width e = cc
 
-whole_fits : (w k : ℕ) → k / w * w ≤ k
+pub whole_fits : (w k : ℕ) → k / w * w ≤ k
 whole_fits w k = omega (arith, div-add-mod' k w)
 
 pub widths_sound : (t : TypeTree) (bs : List ℕ) (m : Mask) → MaskFits m (fixed_count (base t) bs) → byte_width (base t) ≡ Some (fixed_width (base t))

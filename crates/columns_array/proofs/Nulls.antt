@@ -80,3 +80,7 @@ bit_kept bits i h = ap not (kept_bit bits i h)
 
 pub mask_bit : (a : ArrayTree) (bits : List Bool) (i : ℕ) → IsSound a → mask_of a ≡ Some bits → i < tree_len a → i < length bits
 mask_bit a bits i s e h = mask_long bits (tree_len a) i (subst (λ m. MaskFits m (tree_len a)) e (sound_mask a s)) h
+
+pub none_counted : (f : ℕ → Slot) → 0 ≡ count_by is_null (slots_from f 0 0)
+unfolding slots_from
+none_counted f = refl

@@ -1,4 +1,5 @@
 pub mod Boxed
+pub mod Cells
 pub mod Chunks
 pub mod Examples
 pub mod Falls

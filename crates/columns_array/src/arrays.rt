@@ -1,12 +1,15 @@
 //! The enum over all arrays, and the arrays that hold arrays.
 mod boxes;
+mod cells;
 pub(crate) mod clone;
 mod dictionary;
+mod equal;
 mod fixed_size_list;
 mod keys;
 mod large_list;
 mod list;
 mod map;
+mod nulls;
 mod structs;
 
 use columns_core::{Bitmap, DataType, DaysMs, OffsetsBuffer};

@@ -12,4 +12,6 @@ pub use chunk::Chunk;
 pub use laws::as_worked;
 
 #[cfg(test)]
+mod equal_tests;
+#[cfg(test)]
 mod tests;

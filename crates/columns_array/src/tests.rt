@@ -8,11 +8,11 @@ use std::test::Fail;
 
 type TestResult = std::result::Result<(), Fail>;
 
-fn item(alloc: Global, data_type: DataType) -> Answer<Box<Field>> {
+pub(crate) fn item(alloc: Global, data_type: DataType) -> Answer<Box<Field>> {
     Ok(Box::new(alloc, field(alloc, data_type)?)?)
 }
 
-fn field(alloc: Global, data_type: DataType) -> Answer<Field> {
+pub(crate) fn field(alloc: Global, data_type: DataType) -> Answer<Field> {
     Ok(Field {
         name: String::from_str(alloc, "item")?,
         data_type,
@@ -21,7 +21,7 @@ fn field(alloc: Global, data_type: DataType) -> Answer<Field> {
     })
 }
 
-fn mask(alloc: Global, bits: &[bool]) -> Answer<Option<Bitmap>> {
+pub(crate) fn mask(alloc: Global, bits: &[bool]) -> Answer<Option<Bitmap>> {
     Ok(Some(Bitmap::from_slice(alloc, bits)?))
 }
 
@@ -34,7 +34,7 @@ fn numbers(alloc: Global) -> Answer<ArrayBox> {
 }
 
 /// [1, null], null, [3], over more items than the last offset says.
-fn lists(alloc: Global) -> Answer<ArrayBox> {
+pub(crate) fn lists(alloc: Global) -> Answer<ArrayBox> {
     let data_type = DataType::List(item(alloc, DataType::Int32)?);
     let offsets = OffsetsBuffer::try_from_vec(Vec::from_array(alloc, [0, 2, 2, 3])?)?;
     let validity = mask(alloc, &[true, false, true])?;
@@ -43,7 +43,7 @@ fn lists(alloc: Global) -> Answer<ArrayBox> {
 }
 
 /// The same lists under large offsets.
-fn large_lists(alloc: Global) -> Answer<ArrayBox> {
+pub(crate) fn large_lists(alloc: Global) -> Answer<ArrayBox> {
     let data_type = DataType::LargeList(item(alloc, DataType::Int32)?);
     let offsets = OffsetsBuffer::try_from_vec(Vec::from_array(alloc, [0i64, 2, 2, 3])?)?;
     let validity = mask(alloc, &[true, false, true])?;
@@ -52,7 +52,7 @@ fn large_lists(alloc: Global) -> Answer<ArrayBox> {
 }
 
 /// [1, null], [3, 4], null over [5, 6].
-fn pairs(alloc: Global) -> Answer<ArrayBox> {
+pub(crate) fn pairs(alloc: Global) -> Answer<ArrayBox> {
     let data_type = DataType::FixedSizeList(item(alloc, DataType::Int32)?, 2);
     let validity = mask(alloc, &[true, true, false])?;
     let array = FixedSizeListArray::try_new(alloc, data_type, numbers(alloc)?, validity)?;
@@ -60,7 +60,7 @@ fn pairs(alloc: Global) -> Answer<ArrayBox> {
 }
 
 /// The keys 1, 0, null and 1, over an entry that is 7 and one that is null.
-fn keyed(alloc: Global) -> Answer<ArrayBox> {
+pub(crate) fn keyed(alloc: Global) -> Answer<ArrayBox> {
     let entries = PrimitiveArray::try_new(
         alloc,
         DataType::Int64,
@@ -85,7 +85,7 @@ fn keyed(alloc: Global) -> Answer<ArrayBox> {
 }
 
 /// {1}, null and {3} of the first three numbers.
-fn structs(alloc: Global) -> Answer<ArrayBox> {
+pub(crate) fn structs(alloc: Global) -> Answer<ArrayBox> {
     let mut values = Vec::new(alloc);
     let mut first = numbers(alloc)?;
     if first.len() >= 3 {

@@ -1,14 +1,14 @@
 -- The footer's value can be written: each element of a list has the type that is stated for it.
-use Rattle.std.proofs.Common.{◌≡◌, ℕ, ◌<◌, List, [], ◌∷◌, map, Option, Some, None, option_map, refl, arith}
-use Rattle.pq_thrift.specs.Value.{Value, int16, int32, int64, binary, list, struct, Fields, no_fields, values_of}
-use Rattle.pq_thrift.specs.Spelling.{IsStruct, IsOfType, IsWritable, AreWritable, AreFieldsWritable}
+use Rattle.std.proofs.Common.{ℕ, List, [], ◌∷◌, map, Option, Some, None, option_map, refl, arith}
+use Rattle.pq_thrift.specs.Value.{Value, int16, int32, int64, binary, Fields, values_of}
+use Rattle.pq_thrift.specs.Spelling.{IsOfType, IsWritable, AreWritable, AreFieldsWritable}
 use Rattle.pq_container.specs.declared.types.Statistics.{Statistics}
 use Rattle.pq_container.specs.Footer.{Key}
 use Rattle.pq_container.specs.Physical.{Physical}
-use Rattle.pq_container.specs.Tree.{Leaf, Element, preorder_of, columns_of}
+use Rattle.pq_container.specs.Tree.{Leaf, preorder_of, columns_of}
 use Rattle.pq_container.specs.TreeViews.{schema_view, pairs_view}
 use Rattle.pq_container.specs.Types.{Converted, Logical, Info}
-use Rattle.pq_files.specs.Written.{at, at_some, i32, structs, one, empty, number_of_converted, logical_value, length_of, scale_of, precision_of, annotations, element_of, element_value, key_value, keys_value}
+use Rattle.pq_files.specs.Written.{at_some, i32, one, empty, number_of_converted, logical_value, length_of, scale_of, precision_of, element_of, element_value, key_value, keys_value}
 use Rattle.footer_write.specs.declared.types.ThriftColumnMetaData.{ThriftColumnMetaData}
 use Rattle.footer_write.specs.declared.types.ThriftColumnChunk.{ThriftColumnChunk}
 use Rattle.footer_write.specs.declared.types.ThriftRowGroup.{ThriftRowGroup}

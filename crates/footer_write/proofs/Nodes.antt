@@ -1,8 +1,8 @@
 -- The nodes of trees as they are written.
-use Rattle.std.proofs.Common.{◌≡◌, ℕ, suc, ◌+◌, ◌<◌, ◌≤◌, ◌^◌, List, [], ◌∷◌, ◌++◌, length, map, Option, Some, None, Global, refl, ap, subst, sym, ◌∙◌, append_assoc, arith, rules, Result, Ok, Err, OnOk}
+use Rattle.std.proofs.Common.{◌≡◌, suc, ◌<◌, ◌≤◌, ◌^◌, List, [], ◌∷◌, ◌++◌, length, map, Option, Some, None, Global, refl, ap, subst, sym, ◌∙◌, append_assoc, arith, rules, Result, Ok, Err, OnOk}
 use Rattle.std.specs.declared.vec.Vec.{Vec}
 use Rattle.pq_thrift.specs.declared.value.Thrift.{Thrift}
-use Rattle.pq_thrift.specs.Value.{Value, binary, struct, no_fields, view, values_view, values_of, value}
+use Rattle.pq_thrift.specs.Value.{binary, struct, no_fields, view, values_view, values_of}
 use Rattle.pq_container.specs.declared.types.ConvertedType.{ConvertedType}
 use Rattle.pq_container.specs.declared.types.LogicalType.{LogicalType}
 use Rattle.pq_container.specs.declared.types.FieldInfo.{FieldInfo}

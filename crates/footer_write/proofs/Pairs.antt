@@ -1,5 +1,5 @@
 -- A list of pairs that has one.
-use Rattle.std.proofs.Common.{◌≡◌, ℕ, ◌<◌, List, [], ◌∷◌, length, map, Option, Some, refl, arith}
+use Rattle.std.proofs.Common.{◌≡◌, ◌<◌, List, [], ◌∷◌, length, map, Some, refl, arith}
 use Rattle.pq_container.specs.Footer.{Key}
 use Rattle.pq_files.specs.Written.{structs, key_value, keys_value}
 

@@ -1,11 +1,10 @@
 -- The nodes that are written are read again, but for their ids.
-use Rattle.std.proofs.Common.{◌≡◌, ℕ, zero, suc, ◌≤◌, ℤ, pos, Bool, true, false, List, [], ◌∷◌, ◌++◌, map, Option, Some, None, option_map, Global, refl, ap, sym, subst, ◌∙◌}
-use Rattle.std.specs.Prelude.{string_bytes, IsUtf8}
+use Rattle.std.proofs.Common.{◌≡◌, ℕ, suc, ℤ, pos, List, [], ◌∷◌, ◌++◌, map, Option, Some, None, option_map, Global, refl, ap, sym, subst}
+use Rattle.std.specs.Prelude.{IsUtf8}
 use Rattle.std.specs.List.{AllByRecursion as All'}
 use Rattle.std.specs.declared.vec.Vec.{Vec}
 use Rattle.std.proofs.lemmas.Str.{IsUtf8-string_bytes}
-use Rattle.pq_thrift.specs.Value.{Value, int32, binary, struct, Fields, no_fields, values_of, Values}
-use Rattle.columns_base.specs.declared.physical.PhysicalType.{PhysicalType}
+use Rattle.pq_thrift.specs.Value.{Value, int32, binary, struct, Fields, no_fields, values_of}
 use Rattle.pq_container.specs.declared.types.ConvertedType.{ConvertedType}
 use Rattle.pq_container.specs.declared.types.ConvertedType.TheVariants as C
 use Rattle.pq_container.specs.declared.types.LogicalType.{LogicalType}
@@ -13,21 +12,19 @@ use Rattle.pq_container.specs.declared.types.LogicalType.TheVariants as L
 use Rattle.pq_container.specs.declared.types.TimeUnit.TheVariants as U
 use Rattle.pq_container.specs.declared.types.IntegerType.TheVariants as I
 use Rattle.pq_container.specs.declared.types.FieldInfo.{FieldInfo}
-use Rattle.pq_container.specs.declared.types.PrimitiveType.{PrimitiveType}
-use Rattle.pq_container.specs.declared.types.ParquetType.{ParquetType, ind-ParquetType, roll-ParquetType, map-ParquetType, PrimitiveType as PrimitiveType', GroupType as GroupType'}
+use Rattle.pq_container.specs.declared.types.ParquetType.{ParquetType, ind-ParquetType, roll-ParquetType, map-ParquetType}
 use Rattle.pq_container.specs.declared.types.ParquetType.TheOpen.{ParquetType-F}
 use Rattle.pq_container.specs.declared.types.ParquetType.TheShapes.{former-ParquetType-GroupType-3}
 use Rattle.pq_container.specs.declared.types.ParquetType.TheViews.{rolls-PrimitiveType, rolls-GroupType}
-use Rattle.pq_container.specs.Elements.{RawElement, HasElement, IsNatural, IsPhysical, number_of_repetition, converted_of, logical_of, IsNode, SpellsNode}
+use Rattle.pq_container.specs.Elements.{RawElement, HasElement, IsNatural, IsPhysical, number_of_repetition, converted_of, logical_of, SpellsNode}
 use Rattle.pq_container.specs.Ids.{Each}
 use Rattle.pq_container.specs.Physical.{Physical, number_of_physical}
 use Rattle.pq_container.specs.Tree.{Tree, leaf, group, Trees, no_trees, tree, Element, count_trees, preorder, preorder_of}
-use Rattle.pq_container.specs.TreeViews.{info_view, leaf_view, tree_view, trees_view}
+use Rattle.pq_container.specs.TreeViews.{info_view, tree_view, trees_view}
 use Rattle.pq_container.specs.Types.{Converted, Logical, Info}
-use Rattle.pq_container.specs.Views.{physical_view, converted_view, logical_view}
-use Rattle.pq_files.specs.Written.{at, at_some, i32, number_of_converted, logical_value, length_of, scale_of, precision_of, annotations, element_of, element_value}
-use Rattle.footer_write.specs.Fits.{PhysicalFits, IsNoDecimal, TreeFits, TreesFit}
-use Rattle.footer_write.specs.Reads.{without_id, tree_without_ids, without_ids}
+use Rattle.pq_container.specs.Views.{converted_view, logical_view}
+use Rattle.pq_files.specs.Written.{at, at_some, i32, number_of_converted, logical_value, length_of, scale_of, precision_of, element_of, element_value}
+use Rattle.footer_write.specs.Reads.{without_id, without_numbers, bare, tree_told, trees_told, HasLength, TreeHasLengths, HasLengths}
 use Rattle.footer_write.proofs.Nodes.{view_leaf, view_group}
 
 -- ---- fields that may be absent
@@ -124,8 +121,8 @@ size_is : (p : Physical) → length_of p ≡ option_map int32 (size_in p)
 size_is (Physical.fixed n) = refl
 size_is p = refl
 
-physical_is : (p : Physical) → PhysicalFits p → IsPhysical (Some (pos (number_of_physical p))) (size_in p) (Some p)
-physical_is (Physical.fixed n) h = (refl, h.0, refl)
+physical_is : (p : Physical) → HasLength p → IsPhysical (Some (pos (number_of_physical p))) (size_in p) (Some p)
+physical_is (Physical.fixed n) h = (refl, h, refl)
 physical_is p h = refl
 
 abbrev pub scale_in : Option Converted → Option ℤ
@@ -257,7 +254,7 @@ pub record KnownInfo (i : Info) : Type 0 where
 known_info : (f : FieldInfo) (c : Option ConvertedType) (l : Option LogicalType) → KnownInfo (info_view f c l)
 known_info f c l = record { text = IsUtf8-string_bytes f.name; converted = known_converted c; logical = known_logical l }
 
-leaf_says : (p : Physical) (i : Info) → KnownInfo i → PhysicalFits p → SpellsNode (element_of (Some p) 0 i) (record { physical = Some p; children = 0; info = without_id i })
+leaf_says : (p : Physical) (i : Info) → KnownInfo i → HasLength p → SpellsNode (element_of (Some p) 0 i) (record { physical = Some p; children = 0; info = without_id i })
 leaf_says p i k h =
     let same : element_of (Some p) 0 i ≡ struct (leaf_fields (pos (number_of_physical p)) (size_in p) (number_of_repetition i.repetition) i.name (converted_in i.converted) (scale_in i.converted) (precision_in i.converted) (logical_in i.logical)) =
     λ j.
@@ -284,16 +281,31 @@ leaf_says p i k h =
       },
     )
 
-no_numbers : (c : Option Converted) → IsNoDecimal c → (precision_number c ≡ 0) × (scale_number c ≡ 0)
-no_numbers (Some (Converted.decimal p s)) h = absurd h
-no_numbers c h = (refl, refl)
+-- of a group no numbers are written
+known_bare : (c : Option Converted) → KnownConverted c → without_numbers c ≡ converted_of (converted_in c) 0 0
+known_bare None h = refl
+known_bare (Some (Converted.decimal p s)) h = refl
+known_bare (Some Converted.utf8) h = h
+known_bare (Some Converted.map) h = h
+known_bare (Some Converted.map_key_value) h = h
+known_bare (Some Converted.list) h = h
+known_bare (Some Converted.enum) h = h
+known_bare (Some Converted.date) h = h
+known_bare (Some Converted.time_millis) h = h
+known_bare (Some Converted.time_micros) h = h
+known_bare (Some Converted.timestamp_millis) h = h
+known_bare (Some Converted.timestamp_micros) h = h
+known_bare (Some (Converted.unsigned w)) h = h
+known_bare (Some (Converted.signed w)) h = h
+known_bare (Some Converted.json) h = h
+known_bare (Some Converted.bson) h = h
+known_bare (Some Converted.interval) h = h
 
-group_says : (n : ℕ) (i : Info) → KnownInfo i → IsNoDecimal i.converted → SpellsNode (element_of None n i) (record { physical = None; children = n; info = without_id i })
-group_says n i k h =
+group_says : (n : ℕ) (i : Info) → KnownInfo i → SpellsNode (element_of None n i) (record { physical = None; children = n; info = bare i })
+group_says n i k =
     let same : element_of None n i ≡ struct (group_fields (number_of_repetition i.repetition) i.name (pos n) (converted_in i.converted) (logical_in i.logical)) =
     λ j. struct (at 3 (int32 (number_of_repetition i.repetition)) (at 4 (binary i.name) (at 5 (i32 n) (at_some 6 (converted_is i.converted j) (at_some 10 (logical_is i.logical j) no_fields))))) in
-    let none = no_numbers i.converted h in
-    subst (λ v. SpellsNode v (record { physical = None; children = n; info = without_id i })) (sym same) (
+    subst (λ v. SpellsNode v (record { physical = None; children = n; info = bare i })) (sym same) (
       group_raw (number_of_repetition i.repetition) i.name (pos n) (converted_in i.converted) (logical_in i.logical),
       group_has (number_of_repetition i.repetition) i.name (pos n) (converted_in i.converted) (logical_in i.logical) k.text,
       record {
@@ -306,7 +318,7 @@ group_says n i k h =
         scale = 0;
         has_precision = refl;
         has_scale = refl;
-        converted = k.converted ∙ (λ j. converted_of (converted_in i.converted) (none.0 j) (none.1 j));
+        converted = known_bare i.converted k.converted;
         logical = k.logical;
       },
     )
@@ -349,7 +361,7 @@ pub known_trees : (ts : List ParquetType) → KnownTrees (trees_view ts)
 known_trees [] = tt
 known_trees (t ∷ ts) = (known_tree t, known_trees ts)
 
-pub same_count : (ts : Trees) → count_trees (without_ids ts) ≡ count_trees ts
+pub same_count : (ts : Trees) → count_trees (trees_told ts) ≡ count_trees ts
 same_count no_trees = refl
 same_count (tree t ts) = ap suc (same_count ts)
 
@@ -360,11 +372,11 @@ each-append (x ∷ xs) ys [] fs h k = absurd h
 each-append (x ∷ xs) ys (e ∷ es) fs h k = (h.0, each-append xs ys es fs h.1 k)
 
 mutual
-  tree_says : (t : Tree) → KnownTree t → TreeFits t → Each SpellsNode (values_of (map element_value (preorder t))) (preorder (tree_without_ids t))
-  tree_says (leaf info p) k h = (leaf_says p info k h.2, tt)
+  tree_says : (t : Tree) → KnownTree t → TreeHasLengths t → Each SpellsNode (values_of (map element_value (preorder t))) (preorder (tree_told t))
+  tree_says (leaf info p) k h = (leaf_says p info k h, tt)
   tree_says (group info ts) k h =
-      (subst (λ n. SpellsNode (element_of None (count_trees ts) info) (record { physical = None; children = n; info = without_id info })) (sym (same_count ts)) (group_says (count_trees ts) info k.0 h.0), trees_say ts k.1 h.2)
+      (subst (λ n. SpellsNode (element_of None (count_trees ts) info) (record { physical = None; children = n; info = bare info })) (sym (same_count ts)) (group_says (count_trees ts) info k.0), trees_say ts k.1 h)
 
-  pub trees_say : (ts : Trees) → KnownTrees ts → TreesFit ts → Each SpellsNode (values_of (map element_value (preorder_of ts))) (preorder_of (without_ids ts))
+  pub trees_say : (ts : Trees) → KnownTrees ts → HasLengths ts → Each SpellsNode (values_of (map element_value (preorder_of ts))) (preorder_of (trees_told ts))
   trees_say no_trees k h = tt
-  trees_say (tree t ts) k h = each-append (preorder t) (preorder_of ts) (preorder (tree_without_ids t)) (preorder_of (without_ids ts)) (tree_says t k.0 h.0) (trees_say ts k.1 h.1)
+  trees_say (tree t ts) k h = each-append (preorder t) (preorder_of ts) (preorder (tree_told t)) (preorder_of (trees_told ts)) (tree_says t k.0 h.0) (trees_say ts k.1 h.1)

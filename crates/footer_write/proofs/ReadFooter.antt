@@ -2,23 +2,22 @@
 use Rattle.std.proofs.Common.{◌≡◌, ℕ, ℤ, pos, List, [], ◌∷◌, map, Option, Some, None, option_map, Global, String, refl, sym, subst}
 use Rattle.std.specs.Prelude.{string_bytes, IsUtf8, Vec}
 use Rattle.std.proofs.lemmas.Str.{IsUtf8-string_bytes}
-use Rattle.pq_thrift.specs.Value.{Value, Values, int16, int32, int64, binary, list, struct, Fields, no_fields, values_of}
+use Rattle.pq_thrift.specs.Value.{Value, int16, int32, int64, binary, list, struct, Fields, no_fields, values_of}
 use Rattle.pq_container.specs.declared.types.KeyValue.{KeyValue}
 use Rattle.pq_container.specs.declared.types.Statistics.{Statistics}
-use Rattle.pq_container.specs.Elements.{RawElement, SpellsRoot}
-use Rattle.pq_container.specs.Footer.{ChunkStatistics, ChunkMeta, GroupMeta, HasStatistics, SaysStatistics, HasColumnMeta, SpellsChunk, HasGroup, SpellsGroup, SpellsKey, HasKeys, SpellsTree, HasFooter, SpellsFooter, Key}
+use Rattle.pq_container.specs.Elements.{SpellsRoot}
+use Rattle.pq_container.specs.Footer.{ChunkMeta, HasStatistics, HasColumnMeta, SpellsChunk, HasGroup, SpellsGroup, SpellsKey, HasKeys, SpellsTree, HasFooter, SpellsFooter}
 use Rattle.pq_container.specs.Ids.{Each}
-use Rattle.pq_container.specs.Tree.{Leaf, columns_of, count_trees}
+use Rattle.pq_container.specs.Tree.{count_trees}
 use Rattle.pq_container.specs.TreeViews.{schema_view, pairs_view}
 use Rattle.pq_container.specs.Views.{statistics_view, bytes_view, key_view}
-use Rattle.pq_files.specs.Written.{at, at_some, i32, structs, one, empty, elements_of, key_value, keys_value, tree_root}
+use Rattle.pq_files.specs.Written.{at, at_some, i32, structs, elements_of, key_value, keys_value, tree_root}
 use Rattle.footer_write.specs.declared.types.ThriftColumnMetaData.{ThriftColumnMetaData}
 use Rattle.footer_write.specs.declared.types.ThriftColumnChunk.{ThriftColumnChunk}
 use Rattle.footer_write.specs.declared.types.ThriftRowGroup.{ThriftRowGroup}
 use Rattle.footer_write.specs.declared.types.ThriftFileMetaData.{ThriftFileMetaData}
-use Rattle.footer_write.specs.Fits.{TreesFit}
-use Rattle.footer_write.specs.FooterValue.{text_value, bytes_value, statistics_value, column_value, chunk_value, group_value, orders_value, footer_value}
-use Rattle.footer_write.specs.Reads.{without_ids, schema_told, chunk_told, group_told, footer_told}
+use Rattle.footer_write.specs.FooterValue.{text_value, bytes_value, statistics_value, chunk_value, group_value, orders_value, footer_value}
+use Rattle.footer_write.specs.Reads.{HasLengths, schema_told, chunk_told, group_told, footer_told}
 use Rattle.footer_write.proofs.ReadAgain.{known_trees, same_count, trees_say}
 
 each_made : {A B : Type 0} (con : A → Value) (f : B → A) (xs : List B) → Each (λ v a. v ≡ con a) (values_of (map (λ x. con (f x)) xs)) (map f xs)
@@ -131,7 +130,7 @@ root_says name n u = (
   record { is_group = refl; counts = refl; is_named = refl; precision = 0; scale = 0; has_precision = refl; has_scale = refl; annotation = None; logical = refl },
 )
 
-tree_says : (m : ThriftFileMetaData) → IsUtf8 m.schema.name → TreesFit (schema_view m.schema).fields → SpellsTree (elements_of (schema_view m.schema)) (schema_told m)
+tree_says : (m : ThriftFileMetaData) → IsUtf8 m.schema.name → HasLengths (schema_view m.schema).fields → SpellsTree (elements_of (schema_view m.schema)) (schema_told m)
 tree_says m u h =
     let ts = (schema_view m.schema).fields in
     record {
@@ -153,5 +152,5 @@ footer_has m None keys is_tree =
 footer_has m (Some v) keys is_tree =
     record { version = (Some m.version, refl); kind = 12; elements = _; has_elements = refl; tree = is_tree; num_rows = (Some m.num_rows, refl); group_kind = 12; groups = _; has_groups = refl; are = each_said SpellsGroup group_value group_told group_says m.row_groups.items; keys = keys; plain = refl }
 
-pub footer_says : (m : ThriftFileMetaData) → IsUtf8 m.schema.name → TreesFit (schema_view m.schema).fields → SpellsFooter (footer_value m) (footer_told m)
+pub footer_says : (m : ThriftFileMetaData) → IsUtf8 m.schema.name → HasLengths (schema_view m.schema).fields → SpellsFooter (footer_value m) (footer_told m)
 footer_says m u h = footer_has m (keys_value (pairs_view m.key_value_metadata)) (pairs_say m.key_value_metadata) (tree_says m u h)

@@ -1,8 +1,12 @@
--- Schemas that a footer can tell of (Parquet format, parquet.thrift: SchemaElement): lengths, precisions and scales are 32-bit numbers, a fixed length is not 0, and an element has a precision and a scale where it is a leaf.
-use Rattle.std.specs.Prelude.{ℕ, ◌<◌, ◌≤◌, ◌^◌, Option, Some, None}
+-- What the 32-bit fields of a footer hold (Parquet format, parquet.thrift: SchemaElement, DecimalType; "File format": footer length).
+use Rattle.std.specs.Prelude.{ℕ, ◌<◌, ◌≤◌, ◌^◌, Option, Some}
 use Rattle.pq_container.specs.Physical.{Physical}
 use Rattle.pq_container.specs.Tree.{Tree, leaf, group, Trees, no_trees, tree}
-use Rattle.pq_container.specs.Types.{Converted, Logical, Info}
+use Rattle.pq_container.specs.TreeViews.{schema_view}
+use Rattle.pq_container.specs.Types.{Converted, Logical}
+use Rattle.pq_files.specs.Room.{max_size}
+use Rattle.footer_write.specs.declared.types.ThriftFileMetaData.{ThriftFileMetaData}
+use Rattle.footer_write.specs.Room.{footer_room}
 
 -- a number of 32 bits that is not negative
 abbrev pub IsSmall : ℕ → Type 0
@@ -17,19 +21,20 @@ LogicalFits (Some (Logical.decimal precision scale)) = IsSmall precision × IsSm
 LogicalFits _ = Unit {0}
 
 abbrev pub PhysicalFits : Physical → Type 0
-PhysicalFits (Physical.fixed n) = (1 ≤ n) × IsSmall n
+PhysicalFits (Physical.fixed n) = IsSmall n
 PhysicalFits _ = Unit {0}
 
--- a group has no precision and no scale
-abbrev pub IsNoDecimal : Option Converted → Type 0
-IsNoDecimal (Some (Converted.decimal precision scale)) = ⊥
-IsNoDecimal _ = Unit {0}
-
+-- Each number of a node that has a field: the fixed length and the precision and scale of a leaf, and those of a logical type. A group has no fields for the precision and scale of its converted type.
 abbrev mutual
   pub TreeFits : Tree → Type 0
   TreeFits (leaf info p) = ConvertedFits info.converted × LogicalFits info.logical × PhysicalFits p
-  TreeFits (group info ts) = IsNoDecimal info.converted × LogicalFits info.logical × TreesFit ts
+  TreeFits (group info ts) = LogicalFits info.logical × TreesFit ts
 
   pub TreesFit : Trees → Type 0
   TreesFit no_trees = Unit {0}
   TreesFit (tree t ts) = TreeFits t × TreesFit ts
+
+-- the room of the footer, and each number of its schema
+pub record FooterFits (m : ThriftFileMetaData) : Type 0 where
+  pub room : footer_room m ≤ max_size
+  pub numbers : TreesFit (schema_view m.schema).fields

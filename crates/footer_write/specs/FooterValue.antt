@@ -1,5 +1,5 @@
 -- The Thrift value of a footer (Parquet format, parquet.thrift: FileMetaData, RowGroup, ColumnChunk, ColumnMetaData, Statistics): exactly these ids, each once and ascending.
-use Rattle.std.specs.Prelude.{ℕ, List, map, Option, option_map, String, Vec, string_bytes}
+use Rattle.std.specs.Prelude.{ℕ, map, option_map, String, Vec, string_bytes}
 use Rattle.std.specs.Global.{Global}
 use Rattle.pq_thrift.specs.Value.{Value, int16, int32, int64, binary, list, struct, no_fields, values_of}
 use Rattle.pq_container.specs.declared.types.Statistics.{Statistics}

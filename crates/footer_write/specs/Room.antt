@@ -1,5 +1,5 @@
 -- How many bytes a footer may take.
-use Rattle.std.specs.Prelude.{ℕ, ◌+◌, ◌^◌, ◌-◌, List, length, sum_by, Option, Some, None, option_map, String, string_bytes}
+use Rattle.std.specs.Prelude.{ℕ, ◌+◌, length, sum_by, Option, Some, None, option_map, String, string_bytes}
 use Rattle.std.specs.Global.{Global}
 use Rattle.pq_container.specs.declared.types.Statistics.{Statistics}
 use Rattle.pq_container.specs.Tree.{Tree, leaf, group, Trees, no_trees, tree, preorder_of}

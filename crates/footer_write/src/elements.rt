@@ -8,7 +8,7 @@ ghost use Rattle.pq_container.specs.Types.{Logical};
 ghost use Rattle.pq_container.specs.TreeViews.{info_view, leaf_view, tree_view, trees_view, schema_view};
 ghost use Rattle.pq_container.specs.Views.{repetition_view, physical_view, converted_view, logical_view, unit_view, integer_view};
 ghost use Rattle.pq_files.specs.Written.{empty, one, time_fields, number_of_converted, number_of_unit, logical_value, length_of, scale_of, precision_of, element_of, element_value, elements_of, at, i32 as small};
-ghost use Rattle.footer_write.specs.Fits.{ConvertedFits, LogicalFits, PhysicalFits, IsNoDecimal, TreeFits, TreesFit};
+ghost use Rattle.footer_write.specs.Fits.{ConvertedFits, LogicalFits, PhysicalFits, TreeFits, TreesFit};
 ghost use Rattle.footer_write.specs.Room.{tree_room, trees_room};
 
 use crate::parts::{struct_of, text_from};

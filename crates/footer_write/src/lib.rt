@@ -4,14 +4,13 @@
 mod elements;
 mod footer;
 mod groups;
+mod numbers;
 mod parts;
 mod room;
 mod types;
-mod writable;
 mod write;
 
 pub use types::{ThriftColumnChunk, ThriftColumnMetaData, ThriftFileMetaData, ThriftRowGroup};
-pub use writable::is_writable;
 pub use write::write_metadata;
 
 #[cfg(test)]

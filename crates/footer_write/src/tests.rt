@@ -1,8 +1,8 @@
+use super::room::spend_footer;
 use super::{
-    ThriftColumnChunk, ThriftColumnMetaData, ThriftFileMetaData, ThriftRowGroup, is_writable,
-    write_metadata,
+    ThriftColumnChunk, ThriftColumnMetaData, ThriftFileMetaData, ThriftRowGroup, write_metadata,
 };
-use columns_base::PhysicalType;
+use columns_base::{Error, PhysicalType, S, V};
 use pq_container::{
     ConvertedType, FieldInfo, IntegerType, KeyValue, LogicalType, ParquetType, PrimitiveType,
     Repetition, SchemaDescriptor, Statistics, TimeUnit, read_footer_metadata,
@@ -104,6 +104,28 @@ fn footer(
     })
 }
 
+/// The footer of the rows `[1, 2]`, null, `[]`, `[null]`, with a pair and bounds where asked.
+fn lists_footer(
+    alloc: Global,
+    pairs: Option<Vec<KeyValue>>,
+    statistics: Option<Statistics>,
+) -> Result<ThriftFileMetaData, Fail> {
+    let element = leaf(alloc, "element", PhysicalType::Int32, None, None)?;
+    let elements = vec![in alloc; element]?;
+    let list = group(alloc, "list", Repetition::Repeated, None, None, elements)?;
+    let lists = vec![in alloc; list]?;
+    let converted = Some(ConvertedType::List);
+    let logical = Some(LogicalType::List);
+    let field = group(alloc, "a", Repetition::Optional, converted, logical, lists)?;
+    let column = column(alloc, &["a", "list", "element"], statistics)?;
+    footer(
+        alloc,
+        vec![in alloc; field]?,
+        vec![in alloc; column]?,
+        pairs,
+    )
+}
+
 /// The footer of the rows `[1, 2]`, null, `[]`, `[null]`, put together by hand.
 const FOOTER: &[u8] = b"\x15\x02\
 \x19\x4c\x48\x04root\x15\x02\x00\
@@ -120,17 +142,8 @@ const FOOTER: &[u8] = b"\x15\x02\
 #[test]
 fn a_footer_is_spelled_so(rt: HostRuntime) -> Result<(), Fail> {
     let alloc = rt.alloc();
-    let element = leaf(alloc, "element", PhysicalType::Int32, None, None)?;
-    let elements = vec![in alloc; element]?;
-    let list = group(alloc, "list", Repetition::Repeated, None, None, elements)?;
-    let lists = vec![in alloc; list]?;
-    let converted = Some(ConvertedType::List);
-    let logical = Some(LogicalType::List);
-    let field = group(alloc, "a", Repetition::Optional, converted, logical, lists)?;
-    let columns = vec![in alloc; column(alloc, &["a", "list", "element"], None)?]?;
-    let metadata = footer(alloc, vec![in alloc; field]?, columns, None)?;
+    let metadata = lists_footer(alloc, None, None)?;
     let mut out = Vec::from_slice(alloc, b"ab")?;
-    assert!(rt; is_writable(&metadata.schema));
     write_metadata(&metadata, &mut out)?;
     let mut expected = Vec::from_slice(alloc, b"ab")?;
     expected.extend_from_slice(FOOTER)?;
@@ -225,7 +238,6 @@ fn what_is_written_is_read_again(rt: HostRuntime) -> Result<(), Fail> {
     ]?;
     let metadata = footer(alloc, annotated(alloc)?, columns, Some(pairs))?;
     let mut out = Vec::new(alloc);
-    assert!(rt; is_writable(&metadata.schema));
     write_metadata(&metadata, &mut out)?;
     let read = read_footer_metadata(alloc, &out)?;
     assert_eq!(rt; read.schema_descr.name(), "root");
@@ -245,28 +257,144 @@ fn what_is_written_is_read_again(rt: HostRuntime) -> Result<(), Fail> {
     Ok(())
 }
 
+/// A footer of one field and no group.
+fn footer_of(alloc: Global, field: ParquetType) -> Result<ThriftFileMetaData, Fail> {
+    Ok(ThriftFileMetaData {
+        version: 1,
+        schema: SchemaDescriptor::new(alloc, text(alloc, "root")?, vec![in alloc; field]?)?,
+        num_rows: 0,
+        row_groups: Vec::new(alloc),
+        key_value_metadata: None,
+        created_by: String::new(alloc),
+    })
+}
+
 #[test]
-fn schemas_may_be_too_large(rt: HostRuntime) -> Result<(), Fail> {
+fn numbers_past_31_bits_have_no_field(rt: HostRuntime) -> Result<(), Fail> {
     let alloc = rt.alloc();
+    let fixed = PhysicalType::FixedLenByteArray(2_147_483_647);
+    let longer = PhysicalType::FixedLenByteArray(2_147_483_648);
+    let int32 = PhysicalType::Int32;
     let cases = [
-        (PhysicalType::FixedLenByteArray(1), None, true),
-        (PhysicalType::FixedLenByteArray(0), None, false),
-        (PhysicalType::FixedLenByteArray(2_147_483_648), None, false),
+        (fixed, None, None, true),
+        (longer, None, None, false),
         (
-            PhysicalType::Int32,
-            Some(ConvertedType::Decimal(9, 2_147_483_647)),
+            int32,
+            Some(ConvertedType::Decimal(2_147_483_647, 2_147_483_647)),
+            Some(LogicalType::Decimal(2_147_483_647, 2_147_483_647)),
             true,
         ),
         (
-            PhysicalType::Int32,
+            int32,
             Some(ConvertedType::Decimal(2_147_483_648, 0)),
+            None,
+            false,
+        ),
+        (
+            int32,
+            Some(ConvertedType::Decimal(9, 2_147_483_648)),
+            None,
+            false,
+        ),
+        (
+            int32,
+            None,
+            Some(LogicalType::Decimal(2_147_483_648, 0)),
+            false,
+        ),
+        (
+            int32,
+            None,
+            Some(LogicalType::Decimal(9, 2_147_483_648)),
             false,
         ),
     ];
-    for (physical_type, converted_type, expected) in cases {
-        let field = leaf(alloc, "a", physical_type, converted_type, None)?;
-        let schema = SchemaDescriptor::new(alloc, String::new(alloc), vec![in alloc; field]?)?;
-        assert_eq!(rt; is_writable(&schema), expected);
+    for (physical_type, converted_type, logical_type, is_told) in cases {
+        let field = leaf(alloc, "a", physical_type, converted_type, logical_type)?;
+        let metadata = footer_of(alloc, field)?;
+        let mut out = Vec::from_slice(alloc, b"ab")?;
+        let written = write_metadata(&metadata, &mut out);
+        if is_told {
+            written?;
+            let read = read_footer_metadata(alloc, &out[2..])?;
+            assert_eq!(rt; read.schema_descr.fields(), metadata.schema.fields());
+        } else {
+            assert_eq!(rt; written, Err(Error::Overflow(V::V3)));
+            assert_eq!(rt; out.as_slice(), b"ab".as_slice());
+        }
+    }
+    Ok(())
+}
+
+/// A footer of one leaf, `a`, whose fixed length is 0.
+const NO_LENGTH: &[u8] = b"\x15\x02\x19\x2c\x48\x04root\x15\x02\x00\
+\x15\x0e\x15\x00\x15\x02\x18\x01a\x00\
+\x16\x00\x19\x0c\x28\x00\x19\x1c\x1c\x00\x00\x00";
+
+#[test]
+fn a_fixed_length_of_0_is_written_and_not_read(rt: HostRuntime) -> Result<(), Fail> {
+    let alloc = rt.alloc();
+    let fixed = PhysicalType::FixedLenByteArray(0);
+    let metadata = footer_of(alloc, leaf(alloc, "a", fixed, None, None)?)?;
+    let mut out = Vec::new(alloc);
+    write_metadata(&metadata, &mut out)?;
+    assert_eq!(rt; out.as_slice(), NO_LENGTH);
+    match read_footer_metadata(alloc, &out) {
+        Ok(_read) => assert!(rt; false),
+        Err(error) => assert_eq!(rt; error, Error::OutOfSpec(S::S1)),
+    }
+    Ok(())
+}
+
+#[test]
+fn a_group_keeps_neither_precision_nor_scale(rt: HostRuntime) -> Result<(), Fail> {
+    let alloc = rt.alloc();
+    let cases = [(0, 0), (9, 2), (4_294_967_296, 4_294_967_296)];
+    for (precision, scale) in cases {
+        let inner = leaf(alloc, "i", PhysicalType::Int32, None, None)?;
+        let decimal = Some(ConvertedType::Decimal(precision, scale));
+        let inners = vec![in alloc; inner]?;
+        let field = group(alloc, "g", Repetition::Required, decimal, None, inners)?;
+        let metadata = footer_of(alloc, field)?;
+        let mut out = Vec::new(alloc);
+        write_metadata(&metadata, &mut out)?;
+        let read = read_footer_metadata(alloc, &out)?;
+        let inner = leaf(alloc, "i", PhysicalType::Int32, None, None)?;
+        let decimal = Some(ConvertedType::Decimal(0, 0));
+        let inners = vec![in alloc; inner]?;
+        let told = group(alloc, "g", Repetition::Required, decimal, None, inners)?;
+        let tolds = vec![in alloc; told]?;
+        assert_eq!(rt; read.schema_descr.fields(), tolds.as_slice());
+    }
+    Ok(())
+}
+
+fn pair(alloc: Global, key: &str, value: Option<String>) -> Result<Vec<KeyValue>, Fail> {
+    let key = text(alloc, key)?;
+    Ok(vec![in alloc; KeyValue { key, value }]?)
+}
+
+/// 4,096 and the four nodes (132, 129, 132, 135), the group (64), the chunk (256) and its path (9,
+/// 12, 15).
+const ROOM: usize = 4_980;
+
+#[test]
+fn the_room_is_this(rt: HostRuntime) -> Result<(), Fail> {
+    let alloc = rt.alloc();
+    let plain = lists_footer(alloc, None, None)?;
+    let bounded = lists_footer(alloc, None, Some(bounds(alloc)?))?;
+    let value = Some(text(alloc, "vw")?);
+    let keyed = lists_footer(alloc, Some(pair(alloc, "k", value)?), None)?;
+    let schema = lists_footer(alloc, Some(pair(alloc, "ARROW:schema", None)?), None)?;
+    let cases = [
+        (plain, ROOM),
+        (bounded, ROOM + 1),
+        (keyed, ROOM + 35),
+        (schema, ROOM + 96),
+    ];
+    for (metadata, room) in cases {
+        assert_eq!(rt; spend_footer(room, &metadata), Some(0));
+        assert_eq!(rt; spend_footer(room - 1, &metadata), None);
     }
     Ok(())
 }

@@ -1,14 +1,12 @@
 //! The call that writes a footer.
-ghost use Rattle.std.specs.Prelude.{◌≡◌, ◌<◌, ◌≤◌, ◌⊎◌, OnOk, OnErr, IfErr, Err, IsUtf8};
+ghost use Rattle.std.specs.Prelude.{◌≡◌, ◌⊎◌, ◌↔◌, IsTrue, OnOk, OnErr, IfErr, Err, IsUtf8};
 ghost use Rattle.columns_base.specs.declared.error.Error.TheVariants.{Memory, Overflow};
 ghost use Rattle.columns_base.specs.declared.error.V.TheVariants.{V3};
-ghost use Rattle.pq_container.specs.TreeViews.{schema_view};
-ghost use Rattle.pq_files.specs.Room.{max_size};
-ghost use Rattle.footer_write.specs.Fits.{TreesFit};
-ghost use Rattle.footer_write.specs.Room.{footer_room};
+ghost use Rattle.footer_write.specs.Fits.{FooterFits};
 ghost use Rattle.footer_write.specs.Written.{AppendsFooter};
 
 use crate::footer::footer_from;
+use crate::numbers::numbers_fit;
 use crate::room::spend_footer;
 use crate::types::ThriftFileMetaData;
 use columns_base::{Error, Result, V};
@@ -25,28 +23,37 @@ fn know_name(schema: &SchemaDescriptor)
     let _name = schema.name();
 }
 
+/// Whether the footer's room and the numbers of its schema pass no field.
+#[tactic(auto, using(crate::proofs::Rooms::room_is))]
+fn footer_fits(metadata: &ThriftFileMetaData) -> bool
+    ensures { IsTrue result ↔ FooterFits metadata.now }
+{
+    spend_footer(MAX_SIZE, metadata).is_some() && numbers_fit(&metadata.schema)
+}
+
 /// Appends a footer (Parquet format, `FileMetaData`): the ids that the struct has a field for and the
-/// orders of the columns, each once and ascending. Field ids of nodes are not written.
+/// orders of the columns, each once and ascending. Not written are the field ids of nodes, and the
+/// precision and scale of a group's converted type, which a reader takes for 0.
 ///
-/// `is_writable` tells whether a footer can tell of the schema.
+/// A reader refuses a footer with a fixed length of 0 (Parquet format, `type_length`). It is written
+/// all the same.
 ///
 /// # Errors
 ///
-/// - `Overflow(V3)`: the room of the footer, a bound of its bytes, passes 2,147,483,647. `out` is as
-///   before.
+/// - `Overflow(V3)`: the room of the footer, a bound of its bytes, passes 2,147,483,647, or a fixed
+///   length, a precision or a scale that is to be written does. `out` is as before.
 /// - `Memory`: memory ran out. `out` is as before.
 #[tactic(auto, using(crate::proofs::Rooms::room_is))]
 pub fn write_metadata(metadata: &ThriftFileMetaData, out: &mut Vec<u8>) -> Result<()>
-    requires { TreesFit (schema_view metadata.now.schema).fields }
     ensures ok { OnOk result (AppendsFooter metadata.now out.old.items out.new.items) }
-    ensures fits { OnOk result (footer_room metadata.now ≤ max_size) }
-    ensures passed { max_size < footer_room metadata.now → result ≡ Err (Overflow V3) }
-    ensures refused { IfErr result (λ e. (e ≡ Memory) ⊎ ((e ≡ Overflow V3) × (max_size < footer_room metadata.now))) }
+    ensures fits { OnOk result (FooterFits metadata.now) }
+    ensures passed { (¬ FooterFits metadata.now) → result ≡ Err (Overflow V3) }
+    ensures refused { IfErr result (λ e. (e ≡ Memory) ⊎ ((e ≡ Overflow V3) × (¬ FooterFits metadata.now))) }
     ensures err { OnErr result (out.new.items ≡ out.old.items) }
 {
-    let Some(_left) = spend_footer(MAX_SIZE, metadata) else {
+    if !footer_fits(metadata) {
         return Err(Error::Overflow(V::V3));
-    };
+    }
     know_name(&metadata.schema);
     let value = footer_from(*out.allocator(), metadata)?;
     write_thrift(&value, out)

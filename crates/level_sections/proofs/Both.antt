@@ -11,8 +11,9 @@ use Rattle.levels.proofs.Sizes.{length-path_pairs, total-leaf}
 use Rattle.levels.proofs.Columns.{repetitions-column, definitions-column, length-column}
 use Rattle.pq_container.specs.declared.version.Version.{Version}
 use Rattle.pq_files.specs.Room.{level_room}
-use Rattle.level_sections.specs.declared.walk.Level.TheVariants.{Repetition, Definition}
-use Rattle.level_sections.specs.Walk.{level_of, greatest}
+use Rattle.levels.specs.declared.walk.Level.TheVariants.{Repetition, Definition}
+use Rattle.levels.specs.Stretch.{level_of}
+use Rattle.level_sections.specs.Walk.{greatest}
 use Rattle.level_sections.specs.Sections.{HoldsLevels, AppendsOne, AppendsBoth, AppendsSections, AppendsLevels}
 use Rattle.level_sections.proofs.Within.{width-most, width-repetition}
 

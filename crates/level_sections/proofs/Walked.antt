@@ -1,14 +1,16 @@
 -- The levels of a walk, stretch by stretch.
-use Rattle.std.proofs.Common.{◌≡◌, ℕ, zero, suc, ◌+◌, ◌-◌, ◌<◌, ◌≤◌, List, [], ◌∷◌, ◌++◌, map, replicate, refl, arith, ap, sym, ◌∙◌, subst, append_assoc, append-nil}
+use Rattle.std.proofs.Common.{◌≡◌, ℕ, zero, suc, ◌-◌, ◌<◌, ◌≤◌, List, [], ◌∷◌, ◌++◌, map, replicate, refl, arith, ap, sym, ◌∙◌, subst, append_assoc, append-nil}
 use Rattle.std.proofs.lemmas.List.{map-append}
 use Rattle.shredding.specs.Parts.{Part, slot_count}
 use Rattle.levels.specs.Levels.{run, slot_pairs, path_pairs}
 use Rattle.levels.specs.Stretch.{like_pairs}
+use Rattle.levels.proofs.Runs.{run-split}
 use Rattle.level_runs.specs.Writing.{Keeps, Waiting}
-use Rattle.level_sections.specs.declared.walk.Level.{Level}
-use Rattle.level_sections.specs.declared.walk.Level.TheVariants.{Repetition, Definition}
+use Rattle.levels.specs.declared.walk.Level.{Level}
+use Rattle.levels.specs.declared.walk.Level.TheVariants.{Repetition, Definition}
 use Rattle.level_sections.specs.declared.walk.Above.{Above}
-use Rattle.level_sections.specs.Walk.{level_of, walked}
+use Rattle.levels.specs.Stretch.{level_of}
+use Rattle.level_sections.specs.Walk.{walked}
 
 map-replicate : (f : ℕ × ℕ → ℕ) (n : ℕ) (p : ℕ × ℕ) → map f (replicate n p) ≡ replicate n (f p)
 map-replicate f zero p = refl
@@ -32,32 +34,6 @@ repetitions_of rep depth def (suc count) some =
 pub repetitions-like : (level : Level) (rep depth def count : ℕ) → level ≡ Repetition → 0 < count → map (level_of level) (like_pairs rep depth def count) ≡ replicate 1 rep ++ replicate (count - 1) depth
 repetitions-like level rep depth def count e some =
     subst (λ (l : Level). map (level_of l) (like_pairs rep depth def count) ≡ replicate 1 rep ++ replicate (count - 1) depth) (sym e) (repetitions_of rep depth def count some)
-
-run-add : {A : Type 0} (piece : ℕ → ℕ → List A) (others place m n : ℕ) → run piece others others place (m + n) ≡ run piece others others place m ++ run piece others others (place + m) n
-unfolding run
-run-add piece others place zero n =
-    let a : 0 + n ≡ n = omega arith in
-    let b : place ≡ place + 0 = omega arith in
-    ap (λ (k : ℕ). run piece others others place k) a ∙ ap (λ (p : ℕ). run piece others others p n) b
-run-add piece others place (suc m) n =
-    let a : suc m + n ≡ suc (m + n) = omega arith in
-    let b : place + 1 + m ≡ place + suc m = omega arith in
-    ap (λ (k : ℕ). run piece others others place k) a
-    ∙ (ap (λ xs. piece others place ++ xs) (run-add piece others (place + 1) m n)
-    ∙ (sym (append_assoc (piece others place) (run piece others others (place + 1) m) (run piece others others (place + 1 + m) n))
-    ∙ ap (λ (p : ℕ). (piece others place ++ run piece others others (place + 1) m) ++ run piece others others p n) b))
-
-pub run-split : {A : Type 0} (piece : ℕ → ℕ → List A) (first others place next to : ℕ) → place < next → next ≤ to → run piece first others place (to - place) ≡ run piece first others place (next - place) ++ run piece others others next (to - next)
-unfolding run
-run-split piece first others place next to some within =
-    let a : to - place ≡ suc (next - place - 1 + (to - next)) = omega arith in
-    let b : next - place ≡ suc (next - place - 1) = omega arith in
-    let c : place + 1 + (next - place - 1) ≡ next = omega arith in
-    ap (λ (k : ℕ). run piece first others place k) a
-    ∙ (ap (λ xs. piece first place ++ xs) (run-add piece others (place + 1) (next - place - 1) (to - next))
-    ∙ (sym (append_assoc (piece first place) (run piece others others (place + 1) (next - place - 1)) (run piece others others (place + 1 + (next - place - 1)) (to - next)))
-    ∙ (ap (λ (p : ℕ). (piece first place ++ run piece others others (place + 1) (next - place - 1)) ++ run piece others others p (to - next)) c
-    ∙ ap (λ (k : ℕ). run piece first others place k ++ run piece others others next (to - next)) (sym b))))
 
 pub walked-none : (level : Level) (parts : List Part) (above : Above) (place count : ℕ) → count ≡ 0 → walked level parts above place count ≡ []
 unfolding run

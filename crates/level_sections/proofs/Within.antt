@@ -5,9 +5,10 @@ use Rattle.shredding.specs.Parts.{Part, leaf_part, list_part, struct_part, is_pr
 use Rattle.shredding.specs.Shred.{up, max_repetition, max_definition}
 use Rattle.pq_numbers.specs.Bits.{IsWidth}
 use Rattle.levels.specs.Levels.{run, run_or, one_pair, slot_pairs, path_pairs, bit}
-use Rattle.level_sections.specs.declared.walk.Level.{Level}
-use Rattle.level_sections.specs.declared.walk.Level.TheVariants.{Repetition, Definition}
-use Rattle.level_sections.specs.Walk.{level_of, greatest}
+use Rattle.levels.specs.declared.walk.Level.{Level}
+use Rattle.levels.specs.declared.walk.Level.TheVariants.{Repetition, Definition}
+use Rattle.levels.specs.Stretch.{level_of}
+use Rattle.level_sections.specs.Walk.{greatest}
 
 -- ---- below 256
 

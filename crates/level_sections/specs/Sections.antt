@@ -5,8 +5,9 @@ use Rattle.shredding.specs.Parts.{Part, leaf_part, path_slots}
 use Rattle.shredding.specs.Slot.{Value, value}
 use Rattle.shredding.specs.Shape.{Way, at_leaf}
 use Rattle.levels.specs.Levels.{path_pairs}
-use Rattle.level_sections.specs.Walk.{level_of, greatest}
-use Rattle.level_sections.specs.declared.walk.Level.TheVariants.{Repetition, Definition}
+use Rattle.levels.specs.Stretch.{level_of}
+use Rattle.level_sections.specs.Walk.{greatest}
+use Rattle.levels.specs.declared.walk.Level.TheVariants.{Repetition, Definition}
 use Rattle.shredding.specs.Shred.{Triple, column, max_repetition, max_definition}
 use Rattle.pq_container.specs.declared.version.Version.{Version}
 use Rattle.pq_container.specs.declared.version.Version.TheVariants.{V1, V2}

@@ -3,14 +3,10 @@ use Rattle.std.specs.Prelude.{ℕ, ◌+◌, ◌*◌, ◌^◌, ◌<◌, ◌≤◌
 use Rattle.shredding.specs.Parts.{Part, path_way}
 use Rattle.shredding.specs.Shred.{max_repetition, max_definition}
 use Rattle.levels.specs.Levels.{run, slot_pairs}
-use Rattle.level_sections.specs.declared.walk.Level.{Level}
-use Rattle.level_sections.specs.declared.walk.Level.TheVariants.{Repetition, Definition}
+use Rattle.levels.specs.Stretch.{level_of}
+use Rattle.levels.specs.declared.walk.Level.{Level}
+use Rattle.levels.specs.declared.walk.Level.TheVariants.{Repetition, Definition}
 use Rattle.level_sections.specs.declared.walk.Above.{Above}
-
--- the level of a pair that is written
-abbrev pub level_of : Level → ℕ × ℕ → ℕ
-level_of Repetition pair = pair.0
-level_of Definition pair = pair.1
 
 -- the greatest level of a path
 abbrev pub greatest : Level → List Part → ℕ

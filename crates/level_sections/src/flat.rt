@@ -9,9 +9,8 @@ ghost use Rattle.level_sections.specs.Sections.{AppendsLevels, flat_column, mask
 
 use crate::section::push_section;
 use crate::sections::MOST_PAIRS;
-use crate::walk::Level;
 use columns_core::{Bitmap, Error, Result, V};
-use levels::Nested;
+use levels::{Level, Nested};
 use pq_container::Version;
 
 // A mask that shares what is lent.

@@ -7,12 +7,12 @@ ghost use Rattle.levels.specs.Levels.{path_pairs};
 ghost use Rattle.pq_files.specs.Room.{level_room, max_size};
 ghost use Rattle.pq_runs.specs.Writing.{Extends};
 ghost use Rattle.level_sections.specs.Sections.{AppendsSections, AppendsLevels, AppendsBoth};
-ghost use Rattle.level_sections.specs.Walk.{level_of, greatest};
+ghost use Rattle.levels.specs.Stretch.{level_of};
+ghost use Rattle.level_sections.specs.Walk.{greatest};
 
 use crate::section::push_section;
-use crate::walk::Level;
 use columns_core::{Error, Result, V};
-use levels::{Nested, num_values};
+use levels::{Level, Nested, num_values};
 use pq_container::Version;
 use std::alloc::AllocError;
 

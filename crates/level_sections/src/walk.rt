@@ -3,21 +3,14 @@ ghost use Rattle.std.specs.Prelude.{◌≡◌, ℕ, ◌+◌, ◌-◌, ◌*◌, �
 ghost use Rattle.shredding.specs.Parts.{IsPath, slot_count, path_way};
 ghost use Rattle.shredding.specs.Shred.{max_repetition, max_definition};
 ghost use Rattle.levels.specs.Nested.{parts_of};
-ghost use Rattle.levels.specs.Stretch.{like_pairs};
 ghost use Rattle.pq_runs.specs.Writing.{Extends};
 ghost use Rattle.level_runs.specs.Writing.{Keeps};
-ghost use Rattle.level_sections.specs.Walk.{level_of, walked, IsLow, Holds};
+ghost use Rattle.levels.specs.Stretch.{level_of, like_pairs};
+ghost use Rattle.level_sections.specs.Walk.{walked, IsLow, Holds};
 
 use level_runs::RunWriter;
-use levels::{Nested, Stretch, stretch_at};
+use levels::{Level, Nested, Stretch, stretch_at};
 use std::alloc::AllocError;
-
-// Which level of a pair is written.
-#[derive(Clone, Copy, Drop)]
-pub enum Level {
-    Repetition,
-    Definition,
-}
 
 // What lies above slots: the repetition level of the first one, and how many definition levels and lists are there.
 #[derive(Clone, Copy, Drop)]
@@ -74,7 +67,7 @@ fn step(
     ensures added { IfOk result (λ next. (start xs : List ℕ) → Keeps start out.old.items writer.old xs → Keeps start out.new.items writer.new (xs ++ walked level (parts_of parts.now) above place (next - place))) }
     ensures kept { Extends out.old.items out.new.items }
 {
-    match stretch_at(parts, place, to) {
+    match stretch_at(parts, level, place, to) {
         Stretch::Ends(up, end) => {
             let here = Above {
                 def: above.def + up,
@@ -91,14 +84,14 @@ fn step(
             walk(out, writer, level, rest, here, place, end)?;
             Ok(end)
         }
-        Stretch::Items(rest, up, first, last) => {
+        Stretch::Items(rest, up, first, last, end) => {
             let here = Above {
                 rep: above.rep,
                 def: above.def + up,
                 depth: above.depth + 1,
             };
             walk(out, writer, level, rest, here, first, last)?;
-            Ok(place + 1)
+            Ok(end)
         }
     }
 }

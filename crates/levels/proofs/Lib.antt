@@ -1,8 +1,8 @@
 pub mod Rising
 pub mod Maxima
 pub mod Runs
+mod Same
 pub mod Sizes
-pub mod Looks
 pub mod Columns
 pub mod Stacks
 pub mod Stretches

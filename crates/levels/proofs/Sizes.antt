@@ -1,8 +1,10 @@
 -- The number of level pairs is the length of the pairs.
-use Rattle.std.proofs.Common.{◌≡◌, ℕ, zero, suc, ◌+◌, ◌-◌, ◌<◌, ◌≤◌, min, true, false, Bool, cond, Option, List, [], ◌∷◌, length, refl, arith, length-append, ◌∙◌}
+use Rattle.std.proofs.Common.{◌≡◌, ℕ, zero, suc, ◌+◌, ◌-◌, ◌<◌, ◌≤◌, min, true, false, Bool, cond, Option, List, [], ◌∷◌, length, map, replicate, refl, arith, ap, sym, length-append, ◌∙◌}
+use Rattle.std.proofs.lemmas.List.{length-map}
 use Rattle.shredding.specs.Parts.{Part, leaf_part, list_part, struct_part, is_present, item_start, item_count, slot_count, IsPath}
 use Rattle.levels.specs.Levels.{run, run_or, one_pair, slot_pairs, path_pairs, bit}
 use Rattle.levels.specs.Sizes.{total, total_or_one, slot_size}
+use Rattle.levels.specs.Stretch.{like_pairs}
 
 pub length-run : {A : Type 0} (piece : ℕ → ℕ → List A) (size : ℕ → ℕ) → ((rep i : ℕ) → length (piece rep i) ≡ size i) → (first others place count : ℕ) → length (run piece first others place count) ≡ total size place count
 unfolding run total
@@ -67,6 +69,44 @@ pub total-step : (size : ℕ → ℕ) (i to sum pairs new all max : ℕ) → i <
 total-step size i to sum pairs new all max below h p n =
     let more = total-more size i (to - i) (to - (i + 1)) (omega arith) in
     omega (arith, more)
+
+total-add : (size : ℕ → ℕ) (place m n : ℕ) → total size place (m + n) ≡ total size place m + total size (place + m) n
+unfolding total
+total-add size place zero n =
+    let a : 0 + n ≡ n = omega arith in
+    let b : place + 0 ≡ place = omega arith in
+    rw (a, b) (omega arith)
+total-add size place (suc m) n =
+    let a : suc m + n ≡ suc (m + n) = omega arith in
+    let b : place + suc m ≡ place + 1 + m = omega arith in
+    let more = total-add size (place + 1) m n in
+    rw (a, b) (omega (arith, more))
+
+-- the same for all places of a stretch
+pub total-steps : (size : ℕ → ℕ) (i end to sum pairs new all max : ℕ) → i < end → end ≤ to → min (sum + total size i (to - i)) max ≡ all → pairs ≡ min (total size i (end - i)) max → new ≡ min (sum + pairs) max → min (new + total size end (to - end)) max ≡ all
+total-steps size i end to sum pairs new all max some within h p n =
+    let a : to - i ≡ end - i + (to - end) = omega (arith, some, within) in
+    let b : i + (end - i) ≡ end = omega (arith, some) in
+    let more = rw b at (total-add size i (end - i) (to - end)) in
+    let whole : total size i (to - i) ≡ total size i (end - i) + total size end (to - end) = rw a more in
+    omega (arith, whole, h, p, n)
+
+length-replicate' : {A : Type 0} (n : ℕ) (x : A) → length (replicate n x) ≡ n
+length-replicate' zero x = refl
+length-replicate' (suc n) x = ap suc (length-replicate' n x)
+
+pub length-like : (rep depth def count : ℕ) → length (like_pairs rep depth def count) ≡ count
+unfolding like_pairs
+length-like rep depth def zero = refl
+length-like rep depth def (suc count) = ap suc (length-replicate' count (depth, def))
+
+pub length-slots : (parts : List Part) (def depth first others place count : ℕ) → length (run (slot_pairs parts def depth) first others place count) ≡ total (slot_size parts) place count
+length-slots parts def depth first others place count = length-run (slot_pairs parts def depth) (slot_size parts) (λ r j. length-slot_pairs parts def depth r j) first others place count
+
+-- a stretch has as many pairs as the slots that it stands for
+pub stretch-size : (f : ℕ × ℕ → ℕ) (parts : List Part) (place count : ℕ) (pairs : List (ℕ × ℕ)) → map f (run (slot_pairs parts 0 0) 0 0 place count) ≡ map f pairs → total (slot_size parts) place count ≡ length pairs
+stretch-size f parts place count pairs e =
+    sym (length-slots parts 0 0 0 0 place count) ∙ (sym (length-map (run (slot_pairs parts 0 0) 0 0 place count) f) ∙ (ap length e ∙ length-map pairs f))
 
 pub total-end : (size : ℕ → ℕ) (i to sum all max : ℕ) → to ≤ i → sum ≤ max → min (sum + total size i (to - i)) max ≡ all → sum ≡ all
 total-end size i to sum all max past fits h =

@@ -1,11 +1,15 @@
 -- Lemmas on the stack of cursors.
-use Rattle.std.proofs.Common.{◌≡◌, IfNone, MatchOption, Option, Some, None, IfSome, option_to_list, subst, ◌∙◌, ℕ, ◌+◌, ◌-◌, ◌<◌, ◌≤◌, List, [], ◌∷◌, ◌++◌, length, refl, arith, append_assoc, append-nil}
-use Rattle.shredding.specs.Parts.{Part, IsPath, slot_count}
+use Rattle.std.proofs.Common.{◌≡◌, IfNone, MatchOption, Option, Some, None, IfSome, option_to_list, subst, ◌∙◌, ℕ, ◌+◌, ◌-◌, ◌<◌, ◌≤◌, List, [], ◌∷◌, ◌++◌, length, refl, arith, append_assoc, append-nil, zero, suc, map, replicate, ap, sym}
+use Rattle.shredding.specs.Parts.{IsPath, slot_count}
 use Rattle.levels.specs.declared.nested.Nested.{Nested}
 use Rattle.levels.specs.declared.cursors.Cursor.{Cursor}
 use Rattle.levels.specs.Nested.{parts_of}
 use Rattle.levels.specs.Levels.{path_pairs, run, slot_pairs}
-use Rattle.levels.proofs.Runs.{run-none, run-more}
+use Rattle.std.proofs.lemmas.List.{map-append}
+use Rattle.levels.specs.declared.walk.Level.{Level}
+use Rattle.levels.specs.declared.walk.Level.TheVariants.{Repetition, Definition}
+use Rattle.levels.specs.Stretch.{level_of, like_pairs}
+use Rattle.levels.proofs.Runs.{run-none, run-split}
 use Rattle.levels.specs.Stack.{cursor_pairs, left, CursorFits, CursorsFit, room_after}
 
 pub left-push : (cs : List Cursor) (c : Cursor) → left (cs ++ c ∷ []) ≡ cursor_pairs c ++ left cs
@@ -44,21 +48,47 @@ pub cursor_pairs-none : (c : Cursor) → c.end ≤ c.place → cursor_pairs c �
 unfolding cursor_pairs
 cursor_pairs-none c h = run-none (slot_pairs (parts_of c.parts.now) c.def c.depth) c.depth c.depth c.place (c.end - c.place) (omega arith)
 
--- the first pair of the items of a list: what follows the first item goes on the stack
-pub first-items : (parts : List Part) (def up depth rep from to d : ℕ) (stack put new : List Cursor) (others : Cursor) → from < to → parts_of others.parts.now ≡ parts → others.def ≡ def + up → others.depth ≡ depth + 1 → others.place ≡ from + 1 → others.end ≡ to → left put ≡ cursor_pairs others ++ left stack → slot_pairs parts (def + up) (depth + 1) rep from ++ left put ≡ (rep, d) ∷ left new → run (slot_pairs parts (def + up) (depth + 1)) rep (depth + 1) from (to - from) ++ left stack ≡ (rep, d) ∷ left new
-unfolding cursor_pairs
-first-items parts def up depth rep from to d stack put new others some ep ed ek es ee p h =
-    let more = run-more (slot_pairs parts (def + up) (depth + 1)) rep (depth + 1) from (to - from) (to - (from + 1)) (omega arith) in
-    let q : left put ≡ run (slot_pairs parts (def + up) (depth + 1)) (depth + 1) (depth + 1) (from + 1) (to - (from + 1)) ++ left stack = rw (ep, ed, ek, es, ee) at p in
-    rw (more, append_assoc, ← q) h
+map-replicate : (f : ℕ × ℕ → ℕ) (n : ℕ) (p : ℕ × ℕ) → map f (replicate n p) ≡ replicate n (f p)
+map-replicate f zero p = refl
+map-replicate f (suc n) p = ap (λ xs. f p ∷ xs) (map-replicate f n p)
 
--- the first pair of a cursor: what follows its first slot goes back on the stack
-pub first-cursor : (c : Cursor) (old popped put new : List Cursor) (others : Cursor) (d : ℕ) → c.place < c.end → others.parts.now ≡ c.parts.now → others.def ≡ c.def → others.depth ≡ c.depth → others.place ≡ c.place + 1 → others.end ≡ c.end → left old ≡ cursor_pairs c ++ left popped → left put ≡ cursor_pairs others ++ left popped → slot_pairs (parts_of c.parts.now) c.def c.depth c.depth c.place ++ left put ≡ (c.depth, d) ∷ left new → left old ≡ (c.depth, d) ∷ left new
+repetitions_of : (rep depth def count more : ℕ) → count ≡ suc more → map (level_of Repetition) (like_pairs rep depth def count) ≡ rep ∷ replicate more depth
+unfolding like_pairs
+repetitions_of rep depth def count more e = rw e (ap (λ xs. rep ∷ xs) (map-replicate (level_of Repetition) more (depth, def)))
+
+definitions_of : (rep depth def count more : ℕ) → count ≡ suc more → map (level_of Definition) (like_pairs rep depth def count) ≡ def ∷ replicate more def
+unfolding like_pairs
+definitions_of rep depth def count more e = rw e (ap (λ xs. def ∷ xs) (map-replicate (level_of Definition) more (depth, def)))
+
+pub repetitions-like : (level : Level) (rep depth def count : ℕ) → level ≡ Repetition → 0 < count → map (level_of level) (like_pairs rep depth def count) ≡ rep ∷ replicate (count - 1) depth
+repetitions-like level rep depth def count e some = rw e (repetitions_of rep depth def count (count - 1) (omega (arith, some)))
+
+pub definitions-like : (level : Level) (rep depth def count : ℕ) → level ≡ Definition → 0 < count → map (level_of level) (like_pairs rep depth def count) ≡ def ∷ replicate (count - 1) def
+definitions-like level rep depth def count e some = rw e (definitions_of rep depth def count (count - 1) (omega (arith, some)))
+
+-- the levels of a stretch stand before those of what is left on the stack
+pub after-stretch : (level : Level) (c others : Cursor) (rep end : ℕ) (pairs : List (ℕ × ℕ)) (old put : List Cursor) → c.place < end → end ≤ c.end → others.parts.now ≡ c.parts.now → others.def ≡ c.def → others.depth ≡ c.depth → others.place ≡ end → others.end ≡ c.end → left put ≡ cursor_pairs others ++ left old → map (level_of level) (run (slot_pairs (parts_of c.parts.now) c.def c.depth) rep c.depth c.place (end - c.place)) ≡ map (level_of level) pairs → map (level_of level) (run (slot_pairs (parts_of c.parts.now) c.def c.depth) rep c.depth c.place (c.end - c.place) ++ left old) ≡ map (level_of level) pairs ++ map (level_of level) (left put)
 unfolding cursor_pairs
-first-cursor c old popped put new others d some ep ed ek es ee o p h =
-    let more = run-more (slot_pairs (parts_of c.parts.now) c.def c.depth) c.depth c.depth c.place (c.end - c.place) (c.end - (c.place + 1)) (omega arith) in
-    let q = rw (ep, ed, ek, es, ee) at p in
-    rw (o, more, append_assoc, ← q) h
+after-stretch level c others rep end pairs old put some within ep ed ek es ee p e =
+    let piece = slot_pairs (parts_of c.parts.now) c.def c.depth in
+    let front = run piece rep c.depth c.place (end - c.place) in
+    let back = run piece c.depth c.depth end (c.end - end) in
+    let q : left put ≡ back ++ left old = rw (ep, ed, ek, es, ee) at p in
+    ap (λ xs. map (level_of level) (xs ++ left old)) (run-split piece rep c.depth c.place end c.end some within)
+    ∙ (ap (map (level_of level)) (append_assoc front back (left old))
+    ∙ (map-append (level_of level) front (back ++ left old)
+    ∙ (ap (λ xs. xs ++ map (level_of level) (back ++ left old)) e
+    ∙ ap (λ xs. map (level_of level) pairs ++ map (level_of level) xs) (sym q))))
+
+-- the same where the stretch goes on below: what stands before what is left is found there
+pub below-stretch : (level : Level) (c others : Cursor) (rep end : ℕ) (pairs : List (ℕ × ℕ)) (old put new : List Cursor) (front : List ℕ) → c.place < end → end ≤ c.end → others.parts.now ≡ c.parts.now → others.def ≡ c.def → others.depth ≡ c.depth → others.place ≡ end → others.end ≡ c.end → left put ≡ cursor_pairs others ++ left old → map (level_of level) (run (slot_pairs (parts_of c.parts.now) c.def c.depth) rep c.depth c.place (end - c.place)) ≡ map (level_of level) pairs → map (level_of level) (pairs ++ left put) ≡ front ++ map (level_of level) (left new) → map (level_of level) (run (slot_pairs (parts_of c.parts.now) c.def c.depth) rep c.depth c.place (c.end - c.place) ++ left old) ≡ front ++ map (level_of level) (left new)
+below-stretch level c others rep end pairs old put new front some within ep ed ek es ee p e found =
+    after-stretch level c others rep end pairs old put some within ep ed ek es ee p e ∙ (sym (map-append (level_of level) pairs (left put)) ∙ found)
+
+-- a popped cursor's levels are the first of the stack
+pub taken : (level : Level) (c : Cursor) (old popped new : List Cursor) (front : List ℕ) → left old ≡ cursor_pairs c ++ left popped → map (level_of level) (run (slot_pairs (parts_of c.parts.now) c.def c.depth) c.depth c.depth c.place (c.end - c.place) ++ left popped) ≡ front ++ map (level_of level) (left new) → map (level_of level) (left old) ≡ front ++ map (level_of level) (left new)
+unfolding cursor_pairs
+taken level c old popped new front o h = ap (map (level_of level)) o ∙ h
 
 pub popped-fits : (room : ℕ) (old new : List Cursor) (r : Option Cursor) → CursorsFit room old → old ≡ new ++ option_to_list r → CursorsFit room new
 popped-fits room old new None h e = let n : old ≡ new = e ∙ append-nil new in subst (CursorsFit room) n h

@@ -1,11 +1,12 @@
 pub mod Nested
 pub mod Levels
 pub mod Sizes
-pub mod Here
 pub mod InBounds
 pub mod Ranges
 pub mod Stack
 pub mod Stretch
+pub mod Same
+pub mod Examples
 pub use Rattle.shredding.specs.Slot
 pub use Rattle.shredding.specs.Shape
 pub use Rattle.shredding.specs.Shred

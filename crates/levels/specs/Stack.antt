@@ -1,7 +1,8 @@
 -- The stack of cursors of the lazy machine.
-use Rattle.std.specs.Prelude.{ℕ, ◌+◌, ◌-◌, ◌*◌, ◌≤◌, ◌<◌, List, [], ◌∷◌, ◌++◌, length}
+use Rattle.std.specs.Prelude.{ℕ, ◌+◌, ◌-◌, ◌*◌, ◌≤◌, ◌<◌, List, [], ◌∷◌, ◌++◌, length, replicate}
 use Rattle.shredding.specs.Parts.{IsPath, slot_count}
 use Rattle.levels.specs.declared.cursors.Cursor.{Cursor}
+use Rattle.levels.specs.declared.cursors.Front.{Front}
 use Rattle.levels.specs.Nested.{parts_of}
 use Rattle.levels.specs.Levels.{run, slot_pairs}
 
@@ -34,3 +35,7 @@ CursorsFit room (c ∷ cs) = (length c.parts.now ≤ room) × CursorFits c × Cu
 unfoldable pub room_after : ℕ → List Cursor → ℕ
 room_after room [] = room
 room_after room (c ∷ cs) = room_after (length c.parts.now - 1) cs
+
+-- the levels that a front stands for
+abbrev pub front_levels : Front → List ℕ
+front_levels f = f.first ∷ replicate f.more f.other

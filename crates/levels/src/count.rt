@@ -5,10 +5,28 @@ ghost use Rattle.shredding.specs.Parts.{IsPath, slot_count};
 ghost use Rattle.levels.specs.Nested.{parts_of, nested_column};
 ghost use Rattle.levels.specs.Sizes.{total, slot_size};
 
-use crate::here::{Here, look};
 use crate::nested::{Nested, slot_count};
+use crate::walk::{Level, Stretch, stretch_at};
+
+// The number of level pairs of the stretch at a place, or the largest number, and the place behind it.
+#[cycle(count)]
+fn count_stretch(parts: &[Nested], place: usize, to: usize) -> (usize, usize)
+    requires well { IsPath (parts_of parts.now) }
+    requires some { place < to }
+    requires within { to ≤ slot_count (parts_of parts.now) }
+    ensures after { place < result.1 }
+    ensures within { result.1 ≤ to }
+    ensures pairs { result.0 ≡ min (total (slot_size (parts_of parts.now)) place (result.1 - place)) (2 ^ 64 - 1) }
+{
+    match stretch_at(parts, Level::Definition, place, to) {
+        Stretch::Ends(_, end) => (end - place, end),
+        Stretch::Below(rest, _, end) => (count(rest, place, end), end),
+        Stretch::Items(rest, _, first, last, end) => (count(rest, first, last), end),
+    }
+}
 
 // The number of level pairs of the slots from `from` to `to`, or the largest number.
+#[cycle(count)]
 fn count(parts: &[Nested], from: usize, to: usize) -> usize
     requires well { IsPath (parts_of parts.now) }
     requires ordered { from ≤ to }
@@ -19,13 +37,11 @@ fn count(parts: &[Nested], from: usize, to: usize) -> usize
         return to - from;
     }
     let mut sum: usize = 0;
-    for place in from..to {
-        let pairs = match look(parts, place) {
-            Here::End(_) => 1,
-            Here::Below(rest, _) => count(rest, place, place + 1),
-            Here::Items(rest, _, first, end) => count(rest, first, end),
-        };
+    let mut place = from;
+    while place < to {
+        let (pairs, end) = count_stretch(parts, place, to);
         sum = sum.saturating_add(pairs);
+        place = end;
     }
     sum
 }

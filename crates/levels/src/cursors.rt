@@ -1,12 +1,13 @@
 //! The lazy machine: a stack of cursors, the deepest last.
-ghost use Rattle.std.specs.Prelude.{◌≡◌, ℕ, ◌+◌, ◌-◌, ◌*◌, ◌^◌, ◌<◌, ◌≤◌, ◌∷◌, [], ◌++◌, length, IfOk, MatchOption, IfNone, IfSome, vec_capacity};
+ghost use Rattle.std.specs.Prelude.{◌≡◌, ℕ, ◌+◌, ◌-◌, ◌*◌, ◌^◌, ◌<◌, ◌≤◌, ◌∷◌, [], ◌++◌, length, map, IfOk, MatchOption, IfNone, IfSome, vec_capacity};
 ghost use Rattle.shredding.specs.Parts.{IsPath, slot_count};
 ghost use Rattle.levels.specs.Nested.{parts_of};
 ghost use Rattle.levels.specs.Levels.{run, slot_pairs, path_pairs};
-ghost use Rattle.levels.specs.Stack.{CursorFits, IsLow, left, cursor_pairs, CursorsFit, room_after};
+ghost use Rattle.levels.specs.Stack.{CursorFits, IsLow, left, cursor_pairs, CursorsFit, room_after, front_levels};
+ghost use Rattle.levels.specs.Stretch.{level_of, like_pairs};
 
-use crate::here::{Here, look};
 use crate::nested::Nested;
+use crate::walk::{Level, Stretch, stretch_at};
 
 // The slots from `place` to `end` of the rest of a path, beneath `def` definition levels and `depth` lists.
 #[derive(Clone, Copy, Drop)]
@@ -38,44 +39,97 @@ pub fn put<'a>(stack: &mut Vec<Cursor<'a>>, room: usize, cursor: Cursor<'a>)
     }
 }
 
-// The definition level of the first pair of a cursor's slot, leaving on the stack what follows in that slot.
-fn descend<'a>(stack: &mut Vec<Cursor<'a>>, room: usize, cursor: Cursor<'a>, rep: u32) -> u32
+// Levels in front of what is left on the stack: the first, and so many others of one value.
+#[derive(Clone, Copy, Drop)]
+pub struct Front {
+    pub first: u32,
+    pub other: u32,
+    pub more: usize,
+}
+
+// The levels of slots that each have one pair of a definition level.
+fn front_of(level: Level, rep: u32, depth: u32, def: u32, count: usize) -> Front
+    requires some { 0 < count }
+    ensures { map (level_of level) (like_pairs rep depth def count) ≡ front_levels result }
+{
+    let more = count - 1;
+    match level {
+        Level::Repetition => Front {
+            first: rep,
+            other: depth,
+            more,
+        },
+        Level::Definition => Front {
+            first: def,
+            other: def,
+            more,
+        },
+    }
+}
+
+// The levels in front of a cursor's slots, leaving on the stack those that follow.
+fn descend<'a>(
+    stack: &mut Vec<Cursor<'a>>,
+    room: usize,
+    cursor: Cursor<'a>,
+    rep: u32,
+    level: Level,
+) -> Front
     requires well { IsPath (parts_of cursor.parts.now) }
-    requires within { cursor.place < slot_count (parts_of cursor.parts.now) }
+    requires some { cursor.place < cursor.end }
+    requires within { cursor.end ≤ slot_count (parts_of cursor.parts.now) }
     requires low { IsLow cursor }
     requires fits { CursorsFit room stack.old.items }
-    requires below { length cursor.parts.now ≤ room_after room stack.old.items + 1 }
+    requires below { length cursor.parts.now ≤ room_after room stack.old.items }
     requires room { room ≤ vec_capacity stack.old }
     ensures fits { CursorsFit room stack.new.items }
     ensures room { room ≤ vec_capacity stack.new }
-    ensures first { slot_pairs (parts_of cursor.entry.parts.now) cursor.entry.def cursor.entry.depth rep cursor.entry.place ++ left stack.old.items ≡ (rep, result) ∷ left stack.new.items }
+    ensures front { map (level_of level) (run (slot_pairs (parts_of cursor.entry.parts.now) cursor.entry.def cursor.entry.depth) rep cursor.entry.depth cursor.entry.place (cursor.entry.end - cursor.entry.place) ++ left stack.old.items) ≡ front_levels result ++ map (level_of level) (left stack.new.items) }
 {
-    match look(cursor.parts, cursor.place) {
-        Here::End(up) => cursor.def + up,
-        Here::Below(rest, up) => {
+    match stretch_at(cursor.parts, level, cursor.place, cursor.end) {
+        Stretch::Ends(up, end) => {
+            let others = Cursor {
+                place: end,
+                ..cursor
+            };
+            put(stack, room, others);
+            front_of(
+                level,
+                rep,
+                cursor.depth,
+                cursor.def + up,
+                end - cursor.place,
+            )
+        }
+        Stretch::Below(rest, up, end) => {
+            let others = Cursor {
+                place: end,
+                ..cursor
+            };
             let below = Cursor {
                 parts: rest,
                 def: cursor.def + up,
                 depth: cursor.depth,
                 place: cursor.place,
-                end: cursor.end,
+                end,
             };
-            descend(stack, room, below, rep)
+            put(stack, room, others);
+            descend(stack, room, below, rep, level)
         }
-        Here::Items(rest, up, from, to) => {
-            let first = Cursor {
+        Stretch::Items(rest, up, from, to, end) => {
+            let others = Cursor {
+                place: end,
+                ..cursor
+            };
+            let items = Cursor {
                 parts: rest,
                 def: cursor.def + up,
                 depth: cursor.depth + 1,
                 place: from,
                 end: to,
             };
-            let others = Cursor {
-                place: from + 1,
-                ..first
-            };
             put(stack, room, others);
-            descend(stack, room, first, rep)
+            descend(stack, room, items, rep, level)
         }
     }
 }
@@ -94,20 +148,14 @@ fn pop<'a>(stack: &mut Vec<Cursor<'a>>, room: usize) -> Option<Cursor<'a>>
     stack.pop()
 }
 
-// Takes the next pair off the stack.
-pub fn take<'a>(stack: &mut Vec<Cursor<'a>>, room: usize) -> Option<(u32, u32)>
+// Takes the next levels off the stack.
+pub fn take<'a>(stack: &mut Vec<Cursor<'a>>, room: usize, level: Level) -> Option<Front>
     requires fits { CursorsFit room stack.old.items }
     requires room { room ≤ vec_capacity stack.old }
     ensures fits { CursorsFit room stack.new.items }
     ensures room { room ≤ vec_capacity stack.new }
-    ensures gives { MatchOption result ((left stack.old.items ≡ []) × (left stack.new.items ≡ [])) (λ pair. left stack.old.items ≡ pair ∷ left stack.new.items) }
+    ensures gives { MatchOption result ((left stack.old.items ≡ []) × (left stack.new.items ≡ [])) (λ front. map (level_of level) (left stack.old.items) ≡ front_levels front ++ map (level_of level) (left stack.new.items)) }
 {
     let cursor = pop(stack, room)?;
-    let others = Cursor {
-        place: cursor.place + 1,
-        ..cursor
-    };
-    put(stack, room, others);
-    let def = descend(stack, room, cursor, cursor.depth);
-    Some((cursor.depth, def))
+    Some(descend(stack, room, cursor, cursor.depth, level))
 }

@@ -6,40 +6,47 @@ ghost use Rattle.shredding.specs.Slot.{Value};
 ghost use Rattle.shredding.specs.Parts.{IsPath};
 ghost use Rattle.levels.specs.Nested.{parts_of, nested_column};
 ghost use Rattle.levels.specs.Levels.{path_pairs};
+ghost use Rattle.levels.specs.Stretch.{level_of};
 
 use crate::count::num_values;
 use crate::cursors::{Cursor, put, take};
 use crate::nested::{Nested, slot_count};
+use crate::walk::Level;
 use columns_base::Result;
 use std::alloc::Global;
 use std::marker::Model;
 
-// The level pairs of a path that are left.
+// The levels of a path that are left, of one kind.
 #[derive(Drop)]
-struct LevelPairs<'a> {
+struct PathLevels<'a> {
+    level: Level,
     stack: Vec<Cursor<'a>>,
     // the number of parts of the path, for which the stack has room
     room: usize,
+    // so many levels of one value stand before those of the stack
+    more: usize,
+    other: u32,
     remaining: usize,
 }
 
-impl<'a> Model for LevelPairs<'a> {
-    ghost use Rattle.std.specs.Prelude.{◌≡◌, List, ℕ, length, ◌≤◌, vec_capacity};
+impl<'a> Model for PathLevels<'a> {
+    ghost use Rattle.std.specs.Prelude.{◌≡◌, List, ℕ, ◌++◌, length, map, replicate, ◌≤◌, vec_capacity};
     ghost use Rattle.levels.specs.Stack.{left, CursorsFit};
+    ghost use Rattle.levels.specs.Stretch.{level_of};
 
-    ghost Value = { List (ℕ × ℕ) };
+    ghost Value = { List ℕ };
 
-    ghost view = { λ r. left r.stack.items };
+    ghost view = { λ r. replicate r.more r.other ++ map (level_of r.level) (left r.stack.items) };
 
-    ghost invariant = { λ r. CursorsFit r.room r.stack.items × (r.room ≤ vec_capacity r.stack) × (r.remaining ≡ length (left r.stack.items)) };
+    ghost invariant = { λ r. CursorsFit r.room r.stack.items × (r.room ≤ vec_capacity r.stack) × (r.remaining ≡ length (replicate r.more r.other ++ map (level_of r.level) (left r.stack.items))) };
 }
 
-impl<'a> LevelPairs<'a> {
-    fn new(alloc: Global, nested: &'a [Nested]) -> Result<Self>
+impl<'a> PathLevels<'a> {
+    fn new(alloc: Global, nested: &'a [Nested], level: Level) -> Result<Self>
         requires well { IsPath (parts_of nested.now) }
         requires parts { length nested.now ≤ 128 }
         requires count { (values : ℕ → Value) → length (nested_column values nested.now) < 2 ^ 64 }
-        ensures { IfOk result (λ pairs. pairs ≡ path_pairs (parts_of nested.now)) }
+        ensures { IfOk result (λ levels. levels ≡ map (level_of level) (path_pairs (parts_of nested.now))) }
     {
         let remaining = num_values(nested);
         let room = nested.len();
@@ -52,19 +59,29 @@ impl<'a> LevelPairs<'a> {
             end: slot_count(nested),
         };
         put(&mut stack, room, all);
-        Ok(LevelPairs {
+        Ok(PathLevels {
+            level,
             stack,
             room,
+            more: 0,
+            other: 0,
             remaining,
         })
     }
 
-    fn next(&mut self) -> Option<(u32, u32)>
-        ensures { MatchOption result ((self.old ≡ []) × (self.new ≡ [])) (λ pair. self.old ≡ pair ∷ self.new) }
+    fn next(&mut self) -> Option<u32>
+        ensures { MatchOption result ((self.old ≡ []) × (self.new ≡ [])) (λ level. self.old ≡ level ∷ self.new) }
     {
-        let pair = take(&mut self.stack, self.room)?;
+        if self.more > 0 {
+            self.more -= 1;
+            self.remaining -= 1;
+            return Some(self.other);
+        }
+        let front = take(&mut self.stack, self.room, self.level)?;
+        self.more = front.more;
+        self.other = front.other;
         self.remaining -= 1;
-        Some(pair)
+        Some(front.first)
     }
 
     fn len(&self) -> usize
@@ -78,15 +95,15 @@ impl<'a> LevelPairs<'a> {
 /// skipped. The number of levels left is known, and `next` takes no memory.
 #[derive(Drop)]
 pub struct RepLevelsIter<'a> {
-    pairs: LevelPairs<'a>,
+    levels: PathLevels<'a>,
 }
 
 impl<'a> Model for RepLevelsIter<'a> {
-    ghost use Rattle.std.specs.Prelude.{List, ℕ, map};
+    ghost use Rattle.std.specs.Prelude.{List, ℕ};
 
     ghost Value = { List ℕ };
 
-    ghost view = { λ r. map {A = ℕ × ℕ} (λ pair. pair.0) r.pairs };
+    ghost view = { λ r. r.levels };
 }
 
 impl<'a> RepLevelsIter<'a> {
@@ -97,8 +114,8 @@ impl<'a> RepLevelsIter<'a> {
         requires count { (values : ℕ → Value) → length (nested_column values nested.now) < 2 ^ 64 }
         ensures { (values : ℕ → Value) → IfOk result (λ levels. levels ≡ map (λ t. t.repetition) (nested_column values nested.now)) }
     {
-        let pairs = LevelPairs::new(alloc, nested)?;
-        Ok(RepLevelsIter { pairs })
+        let levels = PathLevels::new(alloc, nested, Level::Repetition)?;
+        Ok(RepLevelsIter { levels })
     }
 }
 
@@ -110,8 +127,7 @@ impl<'a> Iterator for RepLevelsIter<'a> {
     ghost remaining = { item_count (λ levels. levels) };
 
     fn next(&mut self) -> Option<u32> {
-        let (rep, _) = self.pairs.next()?;
-        Some(rep)
+        self.levels.next()
     }
 
     fn size_hint(&self) -> (usize, Option<usize>)
@@ -119,7 +135,7 @@ impl<'a> Iterator for RepLevelsIter<'a> {
         ensures upper { IfSome result.1 (UpTo (at_most (length self.now))) }
         ensures exact { result ≡ (length self.now, Some (length self.now)) }
     {
-        let count = self.pairs.len();
+        let count = self.levels.len();
         (count, Some(count))
     }
 }
@@ -128,7 +144,7 @@ impl<'a> ExactSizeIterator for RepLevelsIter<'a> {
     fn len(&self) -> usize
         ensures { result ≡ length self.now }
     {
-        self.pairs.len()
+        self.levels.len()
     }
 }
 
@@ -136,15 +152,15 @@ impl<'a> ExactSizeIterator for RepLevelsIter<'a> {
 /// skipped. The number of levels left is known, and `next` takes no memory.
 #[derive(Drop)]
 pub struct DefLevelsIter<'a> {
-    pairs: LevelPairs<'a>,
+    levels: PathLevels<'a>,
 }
 
 impl<'a> Model for DefLevelsIter<'a> {
-    ghost use Rattle.std.specs.Prelude.{List, ℕ, map};
+    ghost use Rattle.std.specs.Prelude.{List, ℕ};
 
     ghost Value = { List ℕ };
 
-    ghost view = { λ r. map {A = ℕ × ℕ} (λ pair. pair.1) r.pairs };
+    ghost view = { λ r. r.levels };
 }
 
 impl<'a> DefLevelsIter<'a> {
@@ -155,8 +171,8 @@ impl<'a> DefLevelsIter<'a> {
         requires count { (values : ℕ → Value) → length (nested_column values nested.now) < 2 ^ 64 }
         ensures { (values : ℕ → Value) → IfOk result (λ levels. levels ≡ map (λ t. t.definition) (nested_column values nested.now)) }
     {
-        let pairs = LevelPairs::new(alloc, nested)?;
-        Ok(DefLevelsIter { pairs })
+        let levels = PathLevels::new(alloc, nested, Level::Definition)?;
+        Ok(DefLevelsIter { levels })
     }
 }
 
@@ -168,8 +184,7 @@ impl<'a> Iterator for DefLevelsIter<'a> {
     ghost remaining = { item_count (λ levels. levels) };
 
     fn next(&mut self) -> Option<u32> {
-        let (_, def) = self.pairs.next()?;
-        Some(def)
+        self.levels.next()
     }
 
     fn size_hint(&self) -> (usize, Option<usize>)
@@ -177,7 +192,7 @@ impl<'a> Iterator for DefLevelsIter<'a> {
         ensures upper { IfSome result.1 (UpTo (at_most (length self.now))) }
         ensures exact { result ≡ (length self.now, Some (length self.now)) }
     {
-        let count = self.pairs.len();
+        let count = self.levels.len();
         (count, Some(count))
     }
 }
@@ -186,6 +201,6 @@ impl<'a> ExactSizeIterator for DefLevelsIter<'a> {
     fn len(&self) -> usize
         ensures { result ≡ length self.now }
     {
-        self.pairs.len()
+        self.levels.len()
     }
 }

@@ -3,6 +3,7 @@
 
 mod count;
 mod cursors;
+mod equal;
 mod here;
 mod in_bounds;
 mod iters;
@@ -14,11 +15,12 @@ mod walk;
 mod well_formed;
 
 pub use count::num_values;
+pub use equal::{is_same_list, is_same_nested};
 pub use in_bounds::is_in_bounds;
 pub use iters::{DefLevelsIter, RepLevelsIter};
 pub use nested::{ListNested, Nested, max_def_level, max_rep_level, slot_count};
-pub use ranges::{get_max_length, slice_nested_leaf};
-pub use walk::{Stretch, stretch_at};
+pub use ranges::{get_max_length, leaf_len, slice_nested_leaf};
+pub use walk::{Level, Stretch, stretch_at};
 pub use well_formed::is_well_formed;
 
 #[cfg(test)]

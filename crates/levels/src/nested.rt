@@ -31,7 +31,7 @@ impl<O: Offset> ListNested<O> {
 }
 
 /// A part of a path from a field to one of its leaves. Each has its mask, whether it is optional and its length, or offsets.
-#[derive(Debug, Drop)]
+#[derive(Debug, PartialEq, Eq, Drop)]
 pub enum Nested {
     /// The leaf, the last part of a path.
     Primitive(Option<Bitmap>, bool, usize),

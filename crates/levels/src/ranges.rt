@@ -18,8 +18,8 @@ fn range_of<O: Offset>(offsets: &OffsetsBuffer<O>) -> (usize, usize)
     (offsets.place(0), width)
 }
 
-// The number of slots of the last leaf.
-fn leaf_count(nested: &[Nested]) -> usize
+/// The number of slots of the leaf of a path, and 0 where the path has none.
+pub fn leaf_len(nested: &[Nested]) -> usize
     ensures { result ≡ leaf_count_or 0 (parts_of nested.now) }
 {
     let mut parts = nested;
@@ -39,7 +39,7 @@ pub fn slice_nested_leaf(nested: &[Nested]) -> (usize, usize)
     ensures { result ≡ leaf_range (parts_of nested.now) }
 {
     let mut parts = nested;
-    let mut deepest = (0, leaf_count(nested));
+    let mut deepest = (0, leaf_len(nested));
     while let Some((part, rest)) = parts.split_first() {
         match part {
             Nested::List(list) => deepest = range_of(&list.offsets),

@@ -31,28 +31,35 @@ fn mask(rt: &impl Abort, alloc: Global, bits: &[u8], len: usize) -> Result<Optio
     Ok(Some(Bitmap::from_bytes(alloc, bits.to_vec(alloc)?, len)?))
 }
 
+fn nested(rt: &impl Abort, alloc: Global, part: Part) -> Result<Nested, Fail> {
+    match part {
+        Part::Leaf(is_optional, bits, len) => Ok(Nested::Primitive(
+            mask(rt, alloc, bits, len)?,
+            is_optional,
+            len,
+        )),
+        Part::Struct(is_optional, bits, len) => Ok(Nested::Struct(
+            mask(rt, alloc, bits, len)?,
+            is_optional,
+            len,
+        )),
+        Part::List(is_optional, bits, offsets) => {
+            let offsets = OffsetsBuffer::try_from_vec(offsets.to_vec(alloc)?)?;
+            let validity = mask(rt, alloc, bits, offsets.len_proxy())?;
+            Ok(Nested::List(ListNested::new(offsets, validity, is_optional)))
+        }
+        Part::LargeList(is_optional, bits, offsets) => {
+            let offsets = OffsetsBuffer::try_from_vec(offsets.to_vec(alloc)?)?;
+            let validity = mask(rt, alloc, bits, offsets.len_proxy())?;
+            Ok(Nested::LargeList(ListNested::new(offsets, validity, is_optional)))
+        }
+    }
+}
+
 fn build(rt: &impl Abort, alloc: Global, parts: &[Part]) -> Result<Vec<Nested>, Fail> {
     let mut path = Vec::new(alloc);
     for part in parts {
-        let nested = match part {
-            Part::Leaf(is_optional, bits, len) => {
-                Nested::Primitive(mask(rt, alloc, bits, *len)?, *is_optional, *len)
-            }
-            Part::Struct(is_optional, bits, len) => {
-                Nested::Struct(mask(rt, alloc, bits, *len)?, *is_optional, *len)
-            }
-            Part::List(is_optional, bits, offsets) => {
-                let offsets = OffsetsBuffer::try_from_vec(offsets.to_vec(alloc)?)?;
-                let validity = mask(rt, alloc, bits, offsets.len_proxy())?;
-                Nested::List(ListNested::new(offsets, validity, *is_optional))
-            }
-            Part::LargeList(is_optional, bits, offsets) => {
-                let offsets = OffsetsBuffer::try_from_vec(offsets.to_vec(alloc)?)?;
-                let validity = mask(rt, alloc, bits, offsets.len_proxy())?;
-                Nested::LargeList(ListNested::new(offsets, validity, *is_optional))
-            }
-        };
-        path.push(nested)?;
+        path.push(nested(rt, alloc, *part)?)?;
     }
     Ok(path)
 }
@@ -69,7 +76,7 @@ fn levels(rt: &impl Abort, alloc: Global, path: &[Nested]) -> Result<(Vec<u32>, 
     Ok((rep.collect(alloc)?, def.collect(alloc)?))
 }
 
-const CASES: [Case; 14] = [
+const CASES: [Case; 19] = [
     Case {
         name: "a required list of required items",
         path: &[
@@ -186,6 +193,18 @@ const CASES: [Case; 14] = [
         def: &[2, 2, 2, 2, 2, 2],
     },
     Case {
+        name: "the values of a map, some of them null",
+        path: &[
+            Part::List(true, &[0b1011], &[0, 2, 3, 4, 6]),
+            Part::Struct(false, &[], 6),
+            Part::Leaf(true, &[0b11_0101], 6),
+        ],
+        max_rep: 1,
+        max_def: 3,
+        rep: &[0, 1, 0, 0, 0, 1],
+        def: &[3, 2, 3, 0, 3, 3],
+    },
+    Case {
         name: "masks of required parts are not looked at",
         path: &[
             Part::Struct(false, &[0], 2),
@@ -214,6 +233,45 @@ const CASES: [Case; 14] = [
         def: &[],
     },
     Case {
+        name: "a list of no rows over items that are there",
+        path: &[Part::LargeList(false, &[], &[5]), Part::Leaf(true, &[], 0)],
+        max_rep: 1,
+        max_def: 2,
+        rep: &[],
+        def: &[],
+    },
+    Case {
+        name: "a struct of a list, without rows",
+        path: &[
+            Part::Struct(true, &[], 0),
+            Part::List(true, &[], &[0]),
+            Part::Leaf(true, &[], 0),
+        ],
+        max_rep: 1,
+        max_def: 4,
+        rep: &[],
+        def: &[],
+    },
+    Case {
+        name: "a leaf without rows",
+        path: &[Part::Leaf(false, &[], 0)],
+        max_rep: 0,
+        max_def: 0,
+        rep: &[],
+        def: &[],
+    },
+    Case {
+        name: "lists that are all empty or null",
+        path: &[
+            Part::List(true, &[0b0110], &[3, 3, 3, 3, 3]),
+            Part::Leaf(true, &[], 0),
+        ],
+        max_rep: 1,
+        max_def: 3,
+        rep: &[0, 0, 0, 0],
+        def: &[0, 1, 1, 0],
+    },
+    Case {
         name: "a leaf alone",
         path: &[Part::Leaf(true, &[0b010], 3)],
         max_rep: 0,
@@ -231,9 +289,228 @@ fn gives_levels(rt: HostRuntime) -> Result<(), Fail> {
         let name = case.name;
         assert_eq!(rt; max_rep_level(&path), case.max_rep, "{name}");
         assert_eq!(rt; max_def_level(&path), case.max_def, "{name}");
+        assert!(rt; is_well_formed(&path), "{name}");
+        assert_eq!(rt; num_values(&path), case.rep.len(), "{name}");
         let (rep, def) = levels(&rt, alloc, &path)?;
         assert_eq!(rt; rep.as_slice(), case.rep, "{name}");
         assert_eq!(rt; def.as_slice(), case.def, "{name}");
+    }
+    Ok(())
+}
+
+// Paths that differ only in what lies beneath their nulls.
+const HIDDEN: [(&str, &[Part], &[Part]); 5] = [
+    (
+        "the items of a null list",
+        &[
+            Part::List(true, &[0b01], &[0, 2, 4]),
+            Part::Leaf(true, &[0b0001], 4),
+        ],
+        &[
+            Part::List(true, &[0b01], &[0, 2, 6]),
+            Part::Leaf(true, &[0b11_1101], 6),
+        ],
+    ),
+    (
+        "the value of a null struct",
+        &[
+            Part::Struct(true, &[0b101], 3),
+            Part::Leaf(true, &[0b001], 3),
+        ],
+        &[
+            Part::Struct(true, &[0b101], 3),
+            Part::Leaf(true, &[0b011], 3),
+        ],
+    ),
+    (
+        "the list of a null struct: null, empty or with items",
+        &[
+            Part::Struct(true, &[0b101], 3),
+            Part::List(true, &[0b101], &[0, 1, 1, 2]),
+            Part::Leaf(false, &[], 2),
+        ],
+        &[
+            Part::Struct(true, &[0b101], 3),
+            Part::List(true, &[0b111], &[7, 8, 10, 11]),
+            Part::Leaf(false, &[], 4),
+        ],
+    ),
+    (
+        "the lists of a null list",
+        &[
+            Part::LargeList(true, &[0b10], &[0, 0, 1]),
+            Part::List(true, &[0b1], &[0, 2]),
+            Part::Leaf(true, &[0b01], 2),
+        ],
+        &[
+            Part::LargeList(true, &[0b10], &[4, 6, 7]),
+            Part::List(true, &[0b101], &[0, 3, 9, 11]),
+            Part::Leaf(true, &[0b1111_1111, 0b010], 11),
+        ],
+    ),
+    (
+        "a null in a null",
+        &[
+            Part::Struct(true, &[0b10], 2),
+            Part::Struct(true, &[0b10], 2),
+            Part::Leaf(true, &[0b10], 2),
+        ],
+        &[
+            Part::Struct(true, &[0b10], 2),
+            Part::Struct(true, &[0b11], 2),
+            Part::Leaf(true, &[0b11], 2),
+        ],
+    ),
+];
+
+#[test]
+fn what_lies_beneath_nulls_is_not_looked_at(rt: HostRuntime) -> Result<(), Fail> {
+    let alloc = rt.alloc();
+    for (name, one, other) in HIDDEN {
+        let (rep, def) = levels(&rt, alloc, &build(&rt, alloc, one)?)?;
+        let (other_rep, other_def) = levels(&rt, alloc, &build(&rt, alloc, other)?)?;
+        assert_eq!(rt; rep.as_slice(), other_rep.as_slice(), "{name}");
+        assert_eq!(rt; def.as_slice(), other_def.as_slice(), "{name}");
+    }
+    Ok(())
+}
+
+// Two parts, and whether they are the same.
+const PAIRS: [(&str, Part, Part, bool); 15] = [
+    (
+        "the same leaf",
+        Part::Leaf(true, &[0b101], 3),
+        Part::Leaf(true, &[0b101], 3),
+        true,
+    ),
+    (
+        "bits behind the end of a mask",
+        Part::Leaf(true, &[0b0101], 3),
+        Part::Leaf(true, &[0b1101], 3),
+        true,
+    ),
+    (
+        "another mask",
+        Part::Leaf(true, &[0b101], 3),
+        Part::Leaf(true, &[0b111], 3),
+        false,
+    ),
+    (
+        "a full mask and none",
+        Part::Leaf(true, &[0b111], 3),
+        Part::Leaf(true, &[], 3),
+        false,
+    ),
+    (
+        "an optional and a required leaf",
+        Part::Leaf(true, &[], 3),
+        Part::Leaf(false, &[], 3),
+        false,
+    ),
+    (
+        "a longer leaf",
+        Part::Leaf(true, &[], 3),
+        Part::Leaf(true, &[], 4),
+        false,
+    ),
+    (
+        "a leaf and a struct",
+        Part::Leaf(true, &[], 3),
+        Part::Struct(true, &[], 3),
+        false,
+    ),
+    (
+        "the same struct",
+        Part::Struct(false, &[0b10], 2),
+        Part::Struct(false, &[0b10], 2),
+        true,
+    ),
+    (
+        "the same list",
+        Part::List(true, &[0b10], &[0, 2, 3]),
+        Part::List(true, &[0b10], &[0, 2, 3]),
+        true,
+    ),
+    (
+        "lists of the same lengths elsewhere",
+        Part::List(true, &[0b10], &[0, 2, 3]),
+        Part::List(true, &[0b10], &[1, 3, 4]),
+        false,
+    ),
+    (
+        "a list more",
+        Part::List(true, &[], &[0, 2]),
+        Part::List(true, &[], &[0, 2, 2]),
+        false,
+    ),
+    (
+        "another mask of lists",
+        Part::List(true, &[0b10], &[0, 2, 3]),
+        Part::List(true, &[0b11], &[0, 2, 3]),
+        false,
+    ),
+    (
+        "optional and required lists",
+        Part::LargeList(true, &[], &[0, 2]),
+        Part::LargeList(false, &[], &[0, 2]),
+        false,
+    ),
+    (
+        "a list and a large one",
+        Part::List(true, &[], &[0, 2]),
+        Part::LargeList(true, &[], &[0, 2]),
+        false,
+    ),
+    (
+        "the same large list",
+        Part::LargeList(true, &[0b1], &[4, 9]),
+        Part::LargeList(true, &[0b1], &[4, 9]),
+        true,
+    ),
+];
+
+#[test]
+fn tells_equal_parts(rt: HostRuntime) -> Result<(), Fail> {
+    let alloc = rt.alloc();
+    for (name, one, other, same) in PAIRS {
+        let one = nested(&rt, alloc, one)?;
+        let other = nested(&rt, alloc, other)?;
+        assert_eq!(rt; is_same_nested(&one, &other), same, "{name}");
+        assert_eq!(rt; is_same_nested(&other, &one), same, "{name}");
+        let copy = one.clone()?;
+        assert!(rt; copy == one, "{name}");
+    }
+    Ok(())
+}
+
+#[test]
+fn tells_equal_lists(rt: HostRuntime) -> Result<(), Fail> {
+    let alloc = rt.alloc();
+    let offsets = OffsetsBuffer::<i64>::try_from_vec([3, 5, 6].to_vec(alloc)?)?;
+    let mut cut = OffsetsBuffer::<i64>::try_from_vec([0, 3, 5, 6, 9].to_vec(alloc)?)?;
+    let whole = ListNested::new(cut.clone()?, None, true);
+    cut.slice(1, 2);
+    let one = ListNested::new(offsets, None, true);
+    let other = ListNested::new(cut, None, true);
+    assert!(rt; is_same_list(&one, &other));
+    assert!(rt; !is_same_list(&one, &whole));
+    let copy = one.clone()?;
+    assert!(rt; copy == other);
+    Ok(())
+}
+
+// A struct with nulls has the same path to each of its leaves.
+#[test]
+fn a_struct_over_two_leaves(rt: HostRuntime) -> Result<(), Fail> {
+    let alloc = rt.alloc();
+    let parts = [Part::Struct(true, &[0b1011], 4), Part::Leaf(false, &[], 4)];
+    let first = build(&rt, alloc, parts.as_slice())?;
+    let second = build(&rt, alloc, parts.as_slice())?;
+    assert!(rt; first.as_slice() == second.as_slice());
+    for path in [first, second] {
+        let (rep, def) = levels(&rt, alloc, &path)?;
+        assert_eq!(rt; rep.as_slice(), [0, 0, 0, 0].as_slice());
+        assert_eq!(rt; def.as_slice(), [1, 1, 0, 1].as_slice());
     }
     Ok(())
 }

@@ -1,22 +1,31 @@
-//! Slots of a path that are alike, taken at once.
-ghost use Rattle.std.specs.Prelude.{◌≡◌, ℕ, ◌+◌, ◌-◌, ◌<◌, ◌≤◌, ◌∷◌, length, slice_index_or, false};
-ghost use Rattle.shredding.specs.Parts.{IsPath, FitsAbove, FitTogether, MaskFits, is_present, list_part, slot_count};
+//! Slots of a path that are alike in one of their levels, taken at once.
+ghost use Rattle.std.specs.Prelude.{◌≡◌, List, ℕ, ◌+◌, ◌-◌, ◌<◌, ◌≤◌, ◌∷◌, length, slice_index_or, false};
+ghost use Rattle.shredding.specs.Parts.{Part, IsPath, FitsAbove, FitTogether, MaskFits, is_present, leaf_part, list_part, slot_count};
 ghost use Rattle.levels.specs.Nested.{parts_of};
-ghost use Rattle.levels.specs.Stretch.{AreAlike, IsStretch};
+ghost use Rattle.levels.specs.Stretch.{AreAlike, AreFull, IsStretch};
 
 use crate::here::{bit, is_present, item_range};
 use crate::nested::{ListNested, Nested};
 use columns_core::{Bitmap, Offset};
 
-/// Slots of a path from one place on that are alike, each with the definition levels that they add.
+/// Which level of a pair is asked for.
+#[derive(Clone, Copy, Debug, PartialEq, Eq, Drop)]
+pub enum Level {
+    /// The repetition level.
+    Repetition,
+    /// The definition level.
+    Definition,
+}
+
+/// Slots of a path from one place on that are alike in the level that is asked for, each with the definition levels that they add.
 #[derive(Clone, Copy, Drop)]
 pub enum Stretch<'a> {
     /// To this place each slot has one pair: nulls, values, or a list without items.
     Ends(u32, usize),
     /// To this place the slots go on in the next part, at the same places.
     Below(&'a [Nested], u32, usize),
-    /// One list with items: the slots of the next part from one place to another.
-    Items(&'a [Nested], u32, usize, usize),
+    /// Lists with items, to the place named last: the slots of the next part from one place to another.
+    Items(&'a [Nested], u32, usize, usize, usize),
 }
 
 // Where bits that are alike end.
@@ -64,10 +73,37 @@ fn alike(
     }
 }
 
-// The stretch at a place of a list over the rest of its path. Lists that are there are taken one by one.
-fn stretch_of_list<'a, O: Offset>(
+// Where lists end that are there and have items, from one that is so.
+fn full_end<O: Offset>(list: &ListNested<O>, place: usize, to: usize) -> usize
+    requires fits { MaskFits list.now.validity (length list.now.offsets - 1) }
+    requires some { place < to }
+    requires within { to ≤ length list.now.offsets - 1 }
+    requires full { AreFull list.now.is_optional list.now.validity list.now.offsets place (place + 1) }
+    ensures after { place < result }
+    ensures within { result ≤ to }
+    ensures full { AreFull list.now.is_optional list.now.validity list.now.offsets place result }
+{
+    let lists = list.offsets.len_proxy();
+    let mut end = place + 1;
+    while end < to {
+        let (first, last) = item_range(&list.offsets, end);
+        if first == last {
+            break;
+        }
+        if !is_present(list.is_optional, &list.validity, lists, end) {
+            break;
+        }
+        end += 1;
+    }
+    end
+}
+
+// The stretch at a place of lists with items. The items of lists side by side lie side by side, so their definition levels are taken at
+// once; repetition levels tell one list from the next.
+fn stretch_of_items<'a, O: Offset>(
     list: &ListNested<O>,
     rest: &'a [Nested],
+    level: Level,
     place: usize,
     to: usize,
 ) -> Stretch<'a>
@@ -75,43 +111,89 @@ fn stretch_of_list<'a, O: Offset>(
     requires beneath { FitTogether (parts_of rest.now) }
     requires some { place < to }
     requires within { to ≤ length list.now.offsets - 1 }
-    ensures { IsStretch (list_part list.now.is_optional list.now.validity list.now.offsets ∷ parts_of rest.now) (length rest.now + 1) place to result }
+    requires full { AreFull list.now.is_optional list.now.validity list.now.offsets place (place + 1) }
+    ensures { IsStretch level (list_part list.now.is_optional list.now.validity list.now.offsets ∷ parts_of rest.now) (length rest.now + 1) place to result }
+{
+    let up = bit(list.is_optional) + 1;
+    let end = match level {
+        Level::Repetition => place + 1,
+        Level::Definition => full_end(list, place, to),
+    };
+    let (first, _) = item_range(&list.offsets, place);
+    let (_, last) = item_range(&list.offsets, end - 1);
+    Stretch::Items(rest, up, first, last, end)
+}
+
+// The stretch at a place of a list over the rest of its path.
+fn stretch_of_list<'a, O: Offset>(
+    list: &ListNested<O>,
+    rest: &'a [Nested],
+    level: Level,
+    place: usize,
+    to: usize,
+) -> Stretch<'a>
+    requires fits { FitsAbove (list_part list.now.is_optional list.now.validity list.now.offsets) (parts_of rest.now) }
+    requires beneath { FitTogether (parts_of rest.now) }
+    requires some { place < to }
+    requires within { to ≤ length list.now.offsets - 1 }
+    ensures { IsStretch level (list_part list.now.is_optional list.now.validity list.now.offsets ∷ parts_of rest.now) (length rest.now + 1) place to result }
 {
     let lists = list.offsets.len_proxy();
     if !is_present(list.is_optional, &list.validity, lists, place) {
         let (_, end) = alike(list.is_optional, &list.validity, lists, place, to);
         return Stretch::Ends(0, end);
     }
-    let up = bit(list.is_optional);
     let (first, end) = item_range(&list.offsets, place);
     if first == end {
-        Stretch::Ends(up, place + 1)
+        Stretch::Ends(bit(list.is_optional), place + 1)
     } else {
-        Stretch::Items(rest, up + 1, first, end)
+        stretch_of_items(list, rest, level, place, to)
     }
 }
 
-/// The stretch of a path from a place on, which ends at a place not behind `to`.
-pub fn stretch_at(parts: &[Nested], place: usize, to: usize) -> Stretch<'_>
+// The stretch at a place of a leaf. The values and nulls of a leaf have the same repetition levels.
+fn stretch_of_leaf<'a>(
+    is_optional: bool,
+    mask: &Option<Bitmap>,
+    count: usize,
+    level: Level,
+    place: usize,
+    to: usize,
+) -> Stretch<'a>
+    requires fits { MaskFits mask.now count }
+    requires some { place < to }
+    requires within { to ≤ count }
+    ensures { (parts : List Part) → (n : ℕ) → IsStretch level (leaf_part is_optional mask.now count ∷ parts) n place to result }
+{
+    match level {
+        Level::Repetition => Stretch::Ends(0, to),
+        Level::Definition => {
+            let (there, end) = alike(is_optional, mask, count, place, to);
+            if there {
+                Stretch::Ends(bit(is_optional), end)
+            } else {
+                Stretch::Ends(0, end)
+            }
+        }
+    }
+}
+
+/// The stretch of a path from a place on, which ends at a place not behind `to`, as to a level.
+pub fn stretch_at(parts: &[Nested], level: Level, place: usize, to: usize) -> Stretch<'_>
     requires well { IsPath (parts_of parts.now) }
     requires some { place < to }
     requires within { to ≤ slot_count (parts_of parts.now) }
-    ensures { IsStretch (parts_of parts.now) (length parts.now) place to result }
+    ensures { IsStretch level (parts_of parts.now) (length parts.now) place to result }
 {
     let Some((part, rest)) = parts.split_first() else {
         unreachable!()
     };
     match part {
         Nested::Primitive(mask, is_optional, count) => {
-            let (there, end) = alike(*is_optional, mask, *count, place, to);
-            if there {
-                Stretch::Ends(bit(*is_optional), end)
-            } else {
-                Stretch::Ends(0, end)
-            }
+            stretch_of_leaf(*is_optional, mask, *count, level, place, to)
         }
-        Nested::List(list) => stretch_of_list(list, rest, place, to),
-        Nested::LargeList(list) => stretch_of_list(list, rest, place, to),
+        Nested::List(list) => stretch_of_list(list, rest, level, place, to),
+        Nested::LargeList(list) => stretch_of_list(list, rest, level, place, to),
         Nested::Struct(mask, is_optional, count) => {
             let (there, end) = alike(*is_optional, mask, *count, place, to);
             if there {

@@ -1,3 +1,4 @@
 mod Bones
 mod Leaves
 mod Fields
+mod Counts

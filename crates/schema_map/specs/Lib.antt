@@ -1,3 +1,4 @@
+pub mod Counts
 pub mod Examples
 pub mod Laws
 pub mod Rows

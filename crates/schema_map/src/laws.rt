@@ -1,4 +1,5 @@
 //! What is known of a field and the tree that it is written as.
+ghost use Rattle.schema_map.specs.Counts.{LeavesAreCounted};
 ghost use Rattle.schema_map.specs.Examples.{AreWorked};
 ghost use Rattle.schema_map.specs.Laws.{FittingFieldsAgree, RowsDecide, WrittenFieldsFit, WrittenSchemasFit};
 
@@ -22,6 +23,12 @@ pub fn rows_decide()
 /// A field that fits a tree agrees with it.
 pub fn fitting_fields_agree()
     ensures { FittingFieldsAgree }
+{}
+
+/// As many leaf types as `transverse` goes through, leaves of the tree that `to_parquet_type` gives, and columns that `n_columns`
+/// counts, where each leaf is of a type whose values pages have.
+pub fn leaves_are_counted()
+    ensures { LeavesAreCounted }
 {}
 
 /// Worked fields that fit the trees that they are written as, or do not.

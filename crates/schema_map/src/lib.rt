@@ -5,7 +5,8 @@
 mod laws;
 
 pub use laws::{
-    as_worked, fitting_fields_agree, rows_decide, written_fields_fit, written_schemas_fit,
+    as_worked, fitting_fields_agree, leaves_are_counted, rows_decide, written_fields_fit,
+    written_schemas_fit,
 };
 pub use schema_codec::{CodecFault, PlainCodec, SchemaCodec};
 pub use schema_fit::{agrees, fits};

@@ -82,7 +82,8 @@ impl DictionaryArray {
 
     /// Callers learn what holds of every such array.
     pub fn know(&self)
-        ensures { IsSound self.now }
+        ensures sound { IsSound self.now }
+        ensures parts { self.now ≡ dictionary_array (type_of self.now) (keys_in self.now) (child_of self.now) (mask_of self.now) }
     {
         let _ = &self.data_type;
     }

@@ -75,7 +75,8 @@ impl FixedSizeListArray {
 
     /// Callers learn what holds of every such array.
     pub fn know(&self)
-        ensures { IsSound self.now }
+        ensures sound { IsSound self.now }
+        ensures parts { self.now ≡ fixed_list_array (type_of self.now) (fixed_size (base (type_of self.now))) (tree_len self.now) (child_of self.now) (mask_of self.now) }
     {
         let _ = &self.data_type;
     }

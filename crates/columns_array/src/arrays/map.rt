@@ -72,6 +72,7 @@ impl MapArray {
     pub fn know(&self)
         ensures sound { IsSound self.now }
         ensures typed { map_item (base (type_of self.now)) ≡ Some (type_of (child_of self.now)) }
+        ensures parts { self.now ≡ list_array (type_of self.now) (offsets_of self.now) (child_of self.now) (mask_of self.now) }
     {
         let _ = &self.data_type;
     }

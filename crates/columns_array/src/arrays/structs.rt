@@ -88,7 +88,8 @@ impl StructArray {
 
     /// Callers learn what holds of every such array.
     pub fn know(&self)
-        ensures { IsSound self.now }
+        ensures sound { IsSound self.now }
+        ensures parts { self.now ≡ struct_array (type_of self.now) (children_of self.now) (mask_of self.now) }
     {
         let _ = &self.data_type;
     }

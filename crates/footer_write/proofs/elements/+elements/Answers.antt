@@ -1,5 +1,4 @@
-use Rattle.std.proofs.Common.{◌≡◌, length, map, ap, ◌∙◌, arith, subst, sym, ◌++◌, List, ◌∷◌, [], None}
-use Rattle.pq_thrift.specs.declared.value.Thrift.{Thrift}
+use Rattle.std.proofs.Common.{◌≡◌, length, map, ap, ◌∙◌, arith, ◌++◌, None}
 use Rattle.pq_thrift.specs.Value.{view}
 use Rattle.pq_container.specs.TreeViews.{trees_view, info_view}
 use Rattle.pq_container.specs.Tree.{preorder_of}

@@ -1,6 +1,6 @@
 use Rattle.std.proofs.Common.{◌≡◌, map, take}
-use Rattle.pq_thrift.specs.Value.{int32, view}
-use Rattle.footer_write.specs.FooterValue.{text_value, chunk_value, group_value}
+use Rattle.pq_thrift.specs.Value.{view}
+use Rattle.footer_write.specs.FooterValue.{chunk_value}
 use Rattle.footer_write.proofs.groups.chunks_from.Given as goal
 
 abbrev pub invariant-loop-chunk : goal.invariant-loop-chunk

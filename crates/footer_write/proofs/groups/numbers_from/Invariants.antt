@@ -1,6 +1,5 @@
 use Rattle.std.proofs.Common.{◌≡◌, map, take}
 use Rattle.pq_thrift.specs.Value.{int32, view}
-use Rattle.footer_write.specs.FooterValue.{text_value, chunk_value, group_value}
 use Rattle.footer_write.proofs.groups.numbers_from.Given as goal
 
 abbrev pub invariant-loop-number : goal.invariant-loop-number

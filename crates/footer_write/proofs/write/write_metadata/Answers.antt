@@ -1,4 +1,4 @@
-use Rattle.std.proofs.Common.{◌≡◌, subst, sym}
+use Rattle.std.proofs.Common.{subst, sym}
 use Rattle.pq_thrift.specs.Grammar.{Spells}
 use Rattle.pq_thrift.specs.Spelling.{IsWritable}
 use Rattle.footer_write.proofs.CanBeWritten.{footer_writable}
@@ -17,5 +17,5 @@ returns-clause-ok c =
     on_ok c.write_thrift.result
     (λ e.
     let spelled = subst (λ v. Spells e.0 v) c.in_ok-value.ensures e.1 in
-    record { text = e.0; parts = e.2; spells = spelled; reads = (footer_value m, spelled, footer_nests m, footer_says m c.know_name.ensures c.requires) })
+    record { text = e.0; parts = e.2; spells = spelled; reads = λ h. (footer_value m, spelled, footer_nests m, footer_says m c.know_name.ensures h) })
     c.write_thrift.ensures.spells

@@ -1,7 +1,7 @@
 use Rattle.std.proofs.Common.{arith, map, ◌-◌}
 use Rattle.levels.specs.Nested.{parts_of}
 use Rattle.levels.specs.Levels.{path_pairs}
-use Rattle.level_sections.specs.Walk.{level_of}
+use Rattle.levels.specs.Stretch.{level_of}
 use Rattle.level_sections.proofs.Within.{levels-most}
 use Rattle.level_sections.proofs.Texts.{one_alone}
 use Rattle.level_sections.proofs.section.push_alone.Goals as goal

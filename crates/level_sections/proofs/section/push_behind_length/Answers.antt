@@ -4,7 +4,7 @@ use Rattle.levels.specs.Nested.{part_of, parts_of}
 use Rattle.levels.specs.Levels.{path_pairs}
 use Rattle.pq_numbers.specs.Bits.{IsWidth}
 use Rattle.pq_runs.proofs.Packs.{kept_more}
-use Rattle.level_sections.specs.Walk.{level_of}
+use Rattle.levels.specs.Stretch.{level_of}
 use Rattle.level_sections.proofs.Within.{levels-most, width-most}
 use Rattle.level_sections.proofs.Texts.{one_behind, parted, text_small}
 use Rattle.level_sections.proofs.section.push_behind_length.Goals as goal

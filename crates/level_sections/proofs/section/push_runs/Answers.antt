@@ -3,7 +3,7 @@ use Rattle.std.proofs.lemmas.List.{length-map}
 use Rattle.levels.specs.Nested.{part_of, parts_of}
 use Rattle.levels.specs.Levels.{path_pairs}
 use Rattle.pq_runs.proofs.Steps.{finished}
-use Rattle.level_sections.specs.Walk.{level_of}
+use Rattle.levels.specs.Stretch.{level_of}
 use Rattle.level_runs.specs.Writing.{AppendsRuns}
 use Rattle.level_sections.proofs.Within.{greatest-below}
 use Rattle.level_sections.proofs.Walked.{walked-path}

@@ -5,7 +5,8 @@ use Rattle.pq_container.specs.declared.version.Version.TheVariants.{V1, V2}
 use Rattle.levels.specs.Nested.{parts_of}
 use Rattle.levels.specs.Levels.{path_pairs}
 use Rattle.level_sections.specs.Sections.{AppendsOne}
-use Rattle.level_sections.specs.Walk.{greatest, level_of}
+use Rattle.levels.specs.Stretch.{level_of}
+use Rattle.level_sections.specs.Walk.{greatest}
 use Rattle.level_sections.proofs.Within.{levels-below}
 use Rattle.level_sections.proofs.Texts.{one_none}
 use Rattle.level_sections.proofs.section.push_section.Goals as goal

@@ -1,30 +1,40 @@
 use Rattle.std.proofs.Common.{◌+◌, ◌-◌, arith, ◌∙◌}
 use Rattle.std.proofs.lemmas.List.{length-map}
 use Rattle.levels.specs.Nested.{part_of, parts_of}
-use Rattle.levels.specs.Sizes.{slot_size}
-use Rattle.levels.proofs.Sizes.{total-one, total-step, total-end, total-leaf}
+use Rattle.levels.specs.Stretch.{level_of}
+use Rattle.levels.specs.declared.walk.Level.TheVariants.{Definition}
+use Rattle.levels.proofs.Sizes.{total-steps, total-end, total-leaf, stretch-size, length-like, length-slots}
 use Rattle.levels.proofs.count.+count.Goals as goal
-use Rattle.levels.proofs.count.+count.Goals.{in-End, in-Below, in-Items}
 
-pub returns-then-parts-eq1 : goal.returns-then-parts-eq1
-returns-then-parts-eq1 t c =
+pub count_stretch-returns-in-Ends-clause-pairs : goal.count_stretch-returns-in-Ends-clause-pairs
+count_stretch-returns-in-Ends-clause-pairs t c =
+    let size = stretch-size (level_of Definition) (parts_of c.args.parts.now) c.args.place (c.in-Ends.end - c.args.place) _ (c.in-Ends.ensures.levels 0 0 0) ∙ length-like 0 0 (0 + c.in-Ends.field-0) (c.in-Ends.end - c.args.place) in
+    omega (arith, size, c.in-Ends.ensures.fits.1, c.ranges.to.fits)
+
+pub count_stretch-returns-in-Below-clause-pairs : goal.count_stretch-returns-in-Below-clause-pairs
+count_stretch-returns-in-Below-clause-pairs t c =
+    let size = stretch-size (level_of Definition) (parts_of c.args.parts.now) c.args.place (c.in-Below.end - c.args.place) _ (c.in-Below.ensures.levels 0 0 0) ∙ length-slots (parts_of c.in-Below.rest.now) (0 + c.in-Below.field-1) 0 0 0 c.args.place (c.in-Below.end - c.args.place) in
+    omega (arith, size, c.count.ensures)
+
+pub count_stretch-returns-in-Items-clause-pairs : goal.count_stretch-returns-in-Items-clause-pairs
+count_stretch-returns-in-Items-clause-pairs t c =
+    let size = stretch-size (level_of Definition) (parts_of c.args.parts.now) c.args.place (c.in-Items.end - c.args.place) _ (c.in-Items.ensures.levels 0 0 0) ∙ length-slots (parts_of c.in-Items.rest.now) (0 + c.in-Items.field-1) (0 + 1) 0 (0 + 1) c.in-Items.first (c.in-Items.last - c.in-Items.first) in
+    omega (arith, size, c.count-in-Items.ensures)
+
+pub count-returns-then-parts-eq1 : goal.count-returns-then-parts-eq1
+count-returns-then-parts-eq1 t c =
     let all = total-leaf (parts_of c.args.parts.now) c.args.from (c.args.to - c.args.from) c.requires.well (length-map c.args.parts.now part_of ∙ c.if-parts-eq1.true) in
     omega (arith, all)
 
-pub loop-place-preserved : goal.loop-place-preserved
-loop-place-preserved t c = record {
-  fits = omega arith;
-  sums = total-step _ _ _ _ _ _ _ _ c.loop-place-test.true c.loop-place.invariant.sums
-      (elim c.match-look.branch [
-        | in-End w ↦ let size = w.in-End.ensures.size in omega (arith, size, w.pairs-is)
-        | in-Below w ↦
-            let size = w.in-Below.ensures.size in
-            let one = total-one (slot_size (parts_of w.in-Below.rest.now)) c.loop-place.place (c.loop-place.place + 1 - c.loop-place.place) (omega arith) in
-            omega (arith, size, one, w.count-pairs.ensures, w.pairs-is)
-        | in-Items w ↦ let size = w.in-Items.ensures.size in omega (arith, size, w.count-pairs-in-Items.ensures, w.pairs-is)
-      ])
-      c.saturating_add-sum.ensures;
-}
+pub count-loop-place-preserved : goal.count-loop-place-preserved
+count-loop-place-preserved t c =
+    let e = c.count_stretch-pairs.ensures in
+    record {
+      after = omega (arith, c.loop-place.invariant.after, e.after);
+      before = e.within;
+      fits = omega arith;
+      sums = total-steps _ _ _ _ _ _ _ _ _ e.after e.within c.loop-place.invariant.sums e.pairs c.saturating_add-sum.ensures;
+    }
 
-pub returns : goal.returns
-returns t c = total-end _ _ _ _ _ _ c.loop-place-test.false c.loop-place.invariant.fits c.loop-place.invariant.sums
+pub count-returns : goal.count-returns
+count-returns t c = total-end _ _ _ _ _ _ c.loop-place-test.false c.loop-place.invariant.fits c.loop-place.invariant.sums

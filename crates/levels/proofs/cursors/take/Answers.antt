@@ -1,7 +1,7 @@
-use Rattle.std.proofs.Common.{refl}
-use Rattle.levels.proofs.Stacks.{first-cursor}
+use Rattle.levels.specs.Stack.{front_levels}
+use Rattle.levels.proofs.Stacks.{taken}
 use Rattle.levels.proofs.cursors.take.Goals as goal
 
 pub returns-clause-gives : goal.returns-clause-gives
 returns-clause-gives c =
-    first-cursor c.in_ok-cursor.cursor c.args.stack.now.items c.pop.new.stack.items c.put.new.stack.items c.descend-def.new.stack.items _ c.descend-def.result c.in_ok-cursor.ensures.cursor.some refl refl refl refl refl c.in_ok-cursor.ensures.left c.put.ensures.left c.descend-def.ensures.first
+    taken c.args.level c.in_ok-cursor.cursor c.args.stack.now.items c.pop.new.stack.items c.descend.new.stack.items (front_levels c.descend.result) c.in_ok-cursor.ensures.left c.descend.ensures.front

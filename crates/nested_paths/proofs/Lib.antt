@@ -1,0 +1,7 @@
+pub mod Sides
+pub mod Seen
+pub mod Ends
+pub mod Inners
+pub mod Walks
+pub mod Worked
+pub mod Levels

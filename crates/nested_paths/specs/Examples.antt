@@ -1,0 +1,68 @@
+-- Examples, computed when the crate is checked: paths, what is read of an array, and what does not go together.
+use Rattle.std.specs.Prelude.{◌≡◌, true, false, Some, None, List, [], ◌∷◌, Bool}
+use Rattle.shredding.specs.Parts.{leaf_part, list_part, struct_part}
+use Rattle.shredding.specs.Slot.{null}
+use Rattle.columns_base.specs.declared.error.Error.TheVariants.{NotYetImplemented}
+use Rattle.columns_base.specs.declared.error.N.TheVariants.{N5}
+use Rattle.columns_core.specs.Tree.{t_null}
+use Rattle.columns_slots.specs.Tree.{ArrayTree, struct_array, ArrayTrees, no_arrays, more_arrays}
+use Rattle.columns_slots.specs.Slots.{slots}
+use Rattle.columns_slots.specs.Worked.{number_slot, list_slot, five, lists, pairs, structs, keyed}
+use Rattle.pq_container.specs.Physical.{int32}
+use Rattle.pq_container.specs.Tree.{Tree, leaf, group, no_trees, tree}
+use Rattle.pq_container.specs.Types.{Repetition, required, optional, repeated, Info}
+use Rattle.nested_paths.specs.Leaves.{array_leaves}
+use Rattle.nested_paths.specs.Paths.{differs, misfit, paths}
+use Rattle.nested_paths.specs.Seen.{read_by}
+
+-- ---- nodes without names
+
+abbrev pub node : Repetition → Info
+node r = record { name = []; repetition = r; id = None; converted = None; logical = None }
+
+abbrev pub column : Repetition → Tree
+column r = leaf (node r) int32
+
+abbrev pub over_one : Repetition → Tree → Tree
+over_one r t = group (node r) (tree t no_trees)
+
+abbrev pub over_two : Repetition → Tree → Tree → Tree
+over_two r t u = group (node r) (tree t (tree u no_trees))
+
+abbrev pub list_node : Repetition → Tree → Tree
+list_node r item = over_one r (over_one repeated item)
+
+abbrev pub pair_node : Repetition → Tree
+pair_node r = over_two r (column required) (column required)
+
+-- a struct of these arrays
+abbrev pub struct_of : ArrayTrees → ArrayTree
+struct_of cs = struct_array t_null cs None
+
+abbrev pub five_bits : List Bool
+five_bits = true ∷ false ∷ true ∷ true ∷ true ∷ []
+
+pub record AreWorked : Type 0 where
+  -- ---- paths
+  pub flat : paths five (column optional) ≡ (leaf_part true (Some five_bits) 5 ∷ []) ∷ []
+  pub list :
+      paths lists (list_node optional (column required))
+      ≡ (list_part true (Some (true ∷ false ∷ true ∷ [])) (0 ∷ 2 ∷ 2 ∷ 3 ∷ []) ∷ leaf_part false (Some five_bits) 5 ∷ []) ∷ []
+  pub struct :
+      paths structs (pair_node required)
+      ≡ (struct_part false (Some (true ∷ false ∷ [])) 2 ∷ leaf_part false None 2 ∷ []) ∷ (struct_part false (Some (true ∷ false ∷ [])) 2 ∷ leaf_part false None 2 ∷ []) ∷ []
+  pub dictionary : array_leaves keyed ≡ keyed ∷ []
+  -- ---- masks of required nodes are not looked at
+  pub optional_leaf : slots (read_by five (column optional)) ≡ number_slot 1 ∷ null ∷ number_slot 3 ∷ number_slot 4 ∷ number_slot 5 ∷ []
+  pub required_leaf : slots (read_by five (column required)) ≡ number_slot 1 ∷ number_slot 2 ∷ number_slot 3 ∷ number_slot 4 ∷ number_slot 5 ∷ []
+  pub required_list : slots (read_by lists (list_node required (column required))) ≡ list_slot (1 ∷ 2 ∷ []) ∷ list_slot [] ∷ list_slot (3 ∷ []) ∷ []
+  -- ---- what does not go together
+  pub leaf_and_group : misfit five (pair_node required) ≡ differs
+  pub list_and_leaf : misfit lists (column optional) ≡ differs
+  pub list_and_required : misfit lists (over_one optional (over_one required (column optional))) ≡ differs
+  pub repeated_leaf : misfit five (column repeated) ≡ differs
+  pub fewer_fields : misfit structs (over_one required (column optional)) ≡ differs
+  pub fixed_list : misfit pairs (column optional) ≡ Some (NotYetImplemented N5)
+  -- the first of two
+  pub fixed_list_first : misfit (struct_of (more_arrays pairs (more_arrays five no_arrays))) (over_two required (column optional) (pair_node required)) ≡ Some (NotYetImplemented N5)
+  pub fields_first : misfit (struct_of (more_arrays pairs no_arrays)) (pair_node required) ≡ differs

@@ -1,0 +1,9 @@
+pub mod Examples
+pub mod Inner
+pub mod Leaves
+pub mod Nodes
+pub mod Paths
+pub mod Taken
+pub mod Seen
+pub mod Levels
+pub mod Laws

@@ -1,0 +1,19 @@
+//! What is known of the paths of an array.
+ghost use Rattle.nested_paths.specs.Examples.{AreWorked};
+ghost use Rattle.nested_paths.specs.Laws.{PathsAreSeen, PathsHaveLevels};
+
+/// The paths that `to_nested` gives, each with the leaf array that `to_leaves` gives at its place, stand for the slots of the array
+/// along the way to each leaf. Masks of required nodes are not looked at.
+pub fn paths_are_seen()
+    ensures { PathsAreSeen }
+{}
+
+/// There is a path for each leaf of the tree, in order, and its greatest levels are those of the leaf.
+pub fn paths_have_levels()
+    ensures { PathsHaveLevels }
+{}
+
+/// The definitions say of some arrays and trees what they should.
+pub fn as_worked()
+    ensures { AreWorked }
+{}
