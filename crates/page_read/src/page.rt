@@ -70,7 +70,7 @@ fn read_body(
 ///
 /// # Errors
 ///
-/// S4, S5 or S6 exactly where the body is no such page, or want of memory. Parquet format, data pages.
+/// An error exactly where the body is no such page (S4, S5 or S6, and no clause says which), or want of memory. Parquet format, data pages.
 pub fn read_plain_page(
     alloc: Global,
     body: &[u8],
