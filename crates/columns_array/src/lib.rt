@@ -10,8 +10,3 @@ pub use arrays::{
 };
 pub use chunk::Chunk;
 pub use laws::as_worked;
-
-#[cfg(test)]
-mod equal_tests;
-#[cfg(test)]
-mod tests;

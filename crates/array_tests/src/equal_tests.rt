@@ -1,6 +1,6 @@
 //! Equality and null counts, by tables of arrays that were built in different ways.
-use super::tests::{field, item, large_lists, lists, mask};
-use super::*;
+use super::build_tests::{field, item, large_lists, lists, mask};
+use columns_array::{ArrayBox, DictionaryArray, FixedSizeListArray, ListArray, StructArray};
 use columns_base::Result as Answer;
 use columns_core::{Bitmap, DataType, IntegerType, OffsetsBuffer};
 use columns_leaf::{DictionaryKeys, NullArray, PrimitiveArray, Utf8Array};

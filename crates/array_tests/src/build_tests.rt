@@ -1,6 +1,9 @@
 //! What no clause says: that each call succeeds where there is memory, and that the values stand where they should.
-use super::*;
-use columns_base::{A, Error, Result as Answer};
+use columns_array::{
+    ArrayBox, Chunk, DictionaryArray, FixedSizeListArray, LargeListArray, ListArray, MapArray,
+    StructArray,
+};
+use columns_base::{A, Error, Result as Answer, V};
 use columns_core::{Bitmap, DataType, Field, IntegerType, Metadata, OffsetsBuffer};
 use columns_leaf::{DictionaryKeys, NullArray, PrimitiveArray};
 use std::alloc::Global;
@@ -51,37 +54,12 @@ pub(crate) fn large_lists(alloc: Global) -> Answer<ArrayBox> {
     Ok(ArrayBox::LargeList(array))
 }
 
-/// [1, null], [3, 4], null over [5, 6].
+/// [1, null], null over [3, 4], [5, 6].
 pub(crate) fn pairs(alloc: Global) -> Answer<ArrayBox> {
     let data_type = DataType::FixedSizeList(item(alloc, DataType::Int32)?, 2);
-    let validity = mask(alloc, &[true, true, false])?;
+    let validity = mask(alloc, &[true, false, true])?;
     let array = FixedSizeListArray::try_new(alloc, data_type, numbers(alloc)?, validity)?;
     Ok(ArrayBox::FixedSizeList(array))
-}
-
-/// The keys 1, 0, null and 1, over an entry that is 7 and one that is null.
-pub(crate) fn keyed(alloc: Global) -> Answer<ArrayBox> {
-    let entries = PrimitiveArray::try_new(
-        alloc,
-        DataType::Int64,
-        Vec::from_array(alloc, [7i64, 8])?,
-        mask(alloc, &[true, false])?,
-    )?;
-    let keys = PrimitiveArray::try_new(
-        alloc,
-        DataType::UInt8,
-        Vec::from_array(alloc, [1u8, 0, 9, 1])?,
-        mask(alloc, &[true, true, false, true])?,
-    )?;
-    let value_type = Box::new(alloc, DataType::Int64)?;
-    let data_type = DataType::Dictionary(IntegerType::UInt8, value_type, false);
-    let array = DictionaryArray::try_new(
-        alloc,
-        data_type,
-        DictionaryKeys::UInt8(keys),
-        ArrayBox::Int64(entries),
-    )?;
-    Ok(ArrayBox::Dictionary(array))
 }
 
 /// {1}, null and {3} of the first three numbers.
@@ -101,39 +79,6 @@ pub(crate) fn structs(alloc: Global) -> Answer<ArrayBox> {
 
 fn is_refused<T>(answer: &Answer<T>) -> bool {
     matches!(answer, Err(Error::InvalidArgumentError(A::A8)))
-}
-
-/// The number of nulls by the array's own mask.
-fn masked(array: &ArrayBox) -> usize {
-    match array.validity() {
-        Some(mask) => mask.unset_bits(),
-        None => 0,
-    }
-}
-
-#[test]
-fn arrays_are_cut_twice_and_cloned(rt: HostRuntime) -> TestResult {
-    let alloc = rt.alloc();
-    for (made, count, nulls, after_cut, after_second) in [
-        (lists(alloc)?, 3, 1, 1, 0),
-        (large_lists(alloc)?, 3, 1, 1, 0),
-        (pairs(alloc)?, 3, 1, 1, 1),
-        (structs(alloc)?, 3, 1, 1, 0),
-        (keyed(alloc)?, 4, 1, 1, 1),
-    ] {
-        let mut array = made;
-        assert_eq!(rt; array.len(), count);
-        assert_eq!(rt; masked(&array), nulls);
-        if array.len() >= 3 {
-            array.slice(1, 2);
-            let copy = array.clone(alloc)?;
-            assert_eq!(rt; copy.len(), 2);
-            assert_eq!(rt; masked(&copy), after_cut);
-            array.slice(1, 1);
-            assert_eq!(rt; masked(&array), after_second);
-        }
-    }
-    Ok(())
 }
 
 #[test]
@@ -219,6 +164,88 @@ fn keys_of_no_entry_are_refused(rt: HostRuntime) -> TestResult {
     Ok(())
 }
 
+/// So many nulls.
+fn nulls(alloc: Global, count: usize) -> Answer<ArrayBox> {
+    let array = NullArray::try_new(alloc, DataType::Null, count)?;
+    Ok(ArrayBox::Null(array))
+}
+
+fn is_overflow<T>(answer: &Answer<T>) -> bool {
+    matches!(answer, Err(Error::Overflow(V::V1)))
+}
+
+#[test]
+fn more_items_than_offsets_count_are_refused(rt: HostRuntime) -> TestResult {
+    let alloc = rt.alloc();
+    for (count, refused) in [(0x7fff_ffff, false), (0x8000_0000, true)] {
+        let offsets = OffsetsBuffer::try_from_vec(Vec::from_array(alloc, [0i32, 1])?)?;
+        let entries = offsets.clone()?;
+        let data_type = DataType::List(item(alloc, DataType::Null)?);
+        let made = ListArray::try_new(alloc, data_type, offsets, nulls(alloc, count)?, None);
+        assert_eq!(rt; is_overflow(&made), refused);
+        assert_eq!(rt; made.is_ok(), !refused);
+        let data_type = DataType::Map(item(alloc, DataType::Null)?, false);
+        let made = MapArray::try_new(alloc, data_type, entries, nulls(alloc, count)?, None);
+        assert_eq!(rt; is_overflow(&made), refused);
+        assert_eq!(rt; made.is_ok(), !refused);
+    }
+    Ok(())
+}
+
+#[test]
+fn more_items_than_large_offsets_count_are_refused(rt: HostRuntime) -> TestResult {
+    let alloc = rt.alloc();
+    for (count, refused) in [
+        (0x7fff_ffff_ffff_ffff, false),
+        (0x8000_0000_0000_0000, true),
+    ] {
+        let offsets = OffsetsBuffer::try_from_vec(Vec::from_array(alloc, [0i64, 1])?)?;
+        let data_type = DataType::LargeList(item(alloc, DataType::Null)?);
+        let made = LargeListArray::try_new(alloc, data_type, offsets, nulls(alloc, count)?, None);
+        assert_eq!(rt; is_overflow(&made), refused);
+        assert_eq!(rt; made.is_ok(), !refused);
+    }
+    Ok(())
+}
+
+#[test]
+fn dictionaries_of_other_types_are_refused(rt: HostRuntime) -> TestResult {
+    let alloc = rt.alloc();
+    for (key_type, entries, refused) in [
+        (IntegerType::UInt8, DataType::Null, false),
+        (IntegerType::Int8, DataType::Null, true),
+        (IntegerType::UInt8, DataType::Boolean, true),
+    ] {
+        let keys = Vec::from_array(alloc, [0u8, 1])?;
+        let keys = PrimitiveArray::try_new(alloc, DataType::UInt8, keys, None)?;
+        let data_type = DataType::Dictionary(key_type, Box::new(alloc, entries)?, false);
+        let keys = DictionaryKeys::UInt8(keys);
+        let made = DictionaryArray::try_new(alloc, data_type, keys, nulls(alloc, 2)?);
+        assert_eq!(rt; is_refused(&made), refused);
+        assert_eq!(rt; made.is_ok(), !refused);
+    }
+    Ok(())
+}
+
+/// A struct of one field over an array of two nulls, under a mask.
+fn struct_of(alloc: Global, data_type: DataType, bits: &[bool]) -> Answer<Answer<StructArray>> {
+    let mut fields = Vec::new(alloc);
+    fields.push(field(alloc, data_type)?)?;
+    let mut values = Vec::new(alloc);
+    values.push(nulls(alloc, 2)?)?;
+    let validity = mask(alloc, bits)?;
+    Ok(StructArray::try_new(alloc, DataType::Struct(fields), values, validity))
+}
+
+#[test]
+fn structs_of_other_types_are_refused(rt: HostRuntime) -> TestResult {
+    let alloc = rt.alloc();
+    assert!(rt; struct_of(alloc, DataType::Null, &[true, false])?.is_ok());
+    assert!(rt; is_refused(&struct_of(alloc, DataType::Int8, &[true, false])?));
+    assert!(rt; is_refused(&struct_of(alloc, DataType::Null, &[true])?));
+    Ok(())
+}
+
 #[test]
 fn chunks_have_arrays_of_one_length(rt: HostRuntime) -> TestResult {
     let alloc = rt.alloc();
@@ -230,7 +257,7 @@ fn chunks_have_arrays_of_one_length(rt: HostRuntime) -> TestResult {
     assert_eq!(rt; copy.arrays().len(), 2);
     let mut arrays = Vec::new(alloc);
     arrays.push(lists(alloc)?)?;
-    arrays.push(keyed(alloc)?)?;
+    arrays.push(numbers(alloc)?)?;
     assert!(rt; is_refused(&Chunk::try_new(arrays)));
     Ok(())
 }
