@@ -10,7 +10,7 @@ use crate::nested::Nested;
 use crate::walk::{Level, Stretch, stretch_at};
 
 // The slots from `place` to `end` of the rest of a path, beneath `def` definition levels and `depth` lists.
-#[derive(Clone, Copy, Drop)]
+#[derive(Clone, Copy, Debug, Drop)]
 pub struct Cursor<'a> {
     pub parts: &'a [Nested],
     pub def: u32,

@@ -1,7 +1,8 @@
 //! The levels of a path, one after another.
-ghost use Rattle.std.specs.Prelude.{◌≡◌, ℕ, ◌^◌, ◌<◌, ◌≤◌, ◌∷◌, [], length, map, IfOk, IfSome, MatchOption};
+ghost use Rattle.std.specs.Prelude.{◌≡◌, ℕ, ◌^◌, ◌<◌, ◌≤◌, ◌∷◌, [], length, map, IfOk, IfErr, IfSome, MatchOption};
 ghost use Rattle.std.specs.Iterator.{YieldsFirst, item_count, at_most, UpTo};
 ghost use Rattle.std.specs.Iterator.SizeHint.{IsWithinCount};
+ghost use Rattle.columns_base.specs.declared.error.Error.TheVariants.{Memory};
 ghost use Rattle.shredding.specs.Slot.{Value};
 ghost use Rattle.shredding.specs.Parts.{IsPath};
 ghost use Rattle.levels.specs.Nested.{parts_of, nested_column};
@@ -17,7 +18,7 @@ use std::alloc::Global;
 use std::marker::Model;
 
 // The levels of a path that are left, of one kind.
-#[derive(Drop)]
+#[derive(Debug, Drop)]
 struct PathLevels<'a> {
     level: Level,
     stack: Vec<Cursor<'a>>,
@@ -46,7 +47,8 @@ impl<'a> PathLevels<'a> {
         requires well { IsPath (parts_of nested.now) }
         requires parts { length nested.now ≤ 128 }
         requires count { (values : ℕ → Value) → length (nested_column values nested.now) < 2 ^ 64 }
-        ensures { IfOk result (λ levels. levels ≡ map (level_of level) (path_pairs (parts_of nested.now))) }
+        ensures ok { IfOk result (λ levels. levels ≡ map (level_of level) (path_pairs (parts_of nested.now))) }
+        ensures err { IfErr result (λ e. e ≡ Memory) }
     {
         let remaining = num_values(nested);
         let room = nested.len();
@@ -93,7 +95,7 @@ impl<'a> PathLevels<'a> {
 
 /// The repetition levels of a path, in order: those of the column of the slots that the path stands for. What lies beneath a null is
 /// skipped. The number of levels left is known, and `next` takes no memory.
-#[derive(Drop)]
+#[derive(Debug, Drop)]
 pub struct RepLevelsIter<'a> {
     levels: PathLevels<'a>,
 }
@@ -108,11 +110,16 @@ impl<'a> Model for RepLevelsIter<'a> {
 
 impl<'a> RepLevelsIter<'a> {
     /// The repetition levels of a well-formed path of at most 128 parts with at most `usize::MAX` level pairs.
+    ///
+    /// # Errors
+    ///
+    /// `Memory`: memory ran out.
     pub fn new(alloc: Global, nested: &'a [Nested]) -> Result<Self>
         requires well { IsPath (parts_of nested.now) }
         requires parts { length nested.now ≤ 128 }
         requires count { (values : ℕ → Value) → length (nested_column values nested.now) < 2 ^ 64 }
-        ensures { (values : ℕ → Value) → IfOk result (λ levels. levels ≡ map (λ t. t.repetition) (nested_column values nested.now)) }
+        ensures ok { (values : ℕ → Value) → IfOk result (λ levels. levels ≡ map (λ t. t.repetition) (nested_column values nested.now)) }
+        ensures err { IfErr result (λ e. e ≡ Memory) }
     {
         let levels = PathLevels::new(alloc, nested, Level::Repetition)?;
         Ok(RepLevelsIter { levels })
@@ -150,7 +157,7 @@ impl<'a> ExactSizeIterator for RepLevelsIter<'a> {
 
 /// The definition levels of a path, in order: those of the column of the slots that the path stands for. What lies beneath a null is
 /// skipped. The number of levels left is known, and `next` takes no memory.
-#[derive(Drop)]
+#[derive(Debug, Drop)]
 pub struct DefLevelsIter<'a> {
     levels: PathLevels<'a>,
 }
@@ -165,11 +172,16 @@ impl<'a> Model for DefLevelsIter<'a> {
 
 impl<'a> DefLevelsIter<'a> {
     /// The definition levels of a well-formed path of at most 128 parts with at most `usize::MAX` level pairs.
+    ///
+    /// # Errors
+    ///
+    /// `Memory`: memory ran out.
     pub fn new(alloc: Global, nested: &'a [Nested]) -> Result<Self>
         requires well { IsPath (parts_of nested.now) }
         requires parts { length nested.now ≤ 128 }
         requires count { (values : ℕ → Value) → length (nested_column values nested.now) < 2 ^ 64 }
-        ensures { (values : ℕ → Value) → IfOk result (λ levels. levels ≡ map (λ t. t.definition) (nested_column values nested.now)) }
+        ensures ok { (values : ℕ → Value) → IfOk result (λ levels. levels ≡ map (λ t. t.definition) (nested_column values nested.now)) }
+        ensures err { IfErr result (λ e. e ≡ Memory) }
     {
         let levels = PathLevels::new(alloc, nested, Level::Definition)?;
         Ok(DefLevelsIter { levels })

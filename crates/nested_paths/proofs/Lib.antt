@@ -5,3 +5,4 @@ pub mod Inners
 pub mod Walks
 pub mod Worked
 pub mod Levels
+pub mod CutLeaves

@@ -1,6 +1,6 @@
 //! What is known of the paths of an array.
 ghost use Rattle.nested_paths.specs.Examples.{AreWorked};
-ghost use Rattle.nested_paths.specs.Laws.{PathsAreSeen, PathsHaveLevels};
+ghost use Rattle.nested_paths.specs.Laws.{CutLeavesAreSeen, PathsAreSeen, PathsHaveLevels};
 
 /// The paths that `to_nested` gives, each with the leaf array that `to_leaves` gives at its place, stand for the slots of the array
 /// along the way to each leaf. Masks of required nodes are not looked at.
@@ -11,6 +11,12 @@ pub fn paths_are_seen()
 /// There is a path for each leaf of the tree, in order, and its greatest levels are those of the leaf.
 pub fn paths_have_levels()
     ensures { PathsHaveLevels }
+{}
+
+/// A cut of a leaf array has the slots that the array had there, masks not looked at. So a path and its leaf that are cut together to some
+/// rows stand for these rows, also where the leaf is required and its array has a mask.
+pub fn cut_leaves_are_seen()
+    ensures { CutLeavesAreSeen }
 {}
 
 /// The definitions say of some arrays and trees what they should.

@@ -9,7 +9,7 @@ mod nodes;
 mod paths;
 mod tree_leaves;
 
-pub use laws::{as_worked, paths_are_seen, paths_have_levels};
+pub use laws::{as_worked, cut_leaves_are_seen, paths_are_seen, paths_have_levels};
 pub use leaves::to_leaves;
 pub use paths::to_nested;
 pub use tree_leaves::to_parquet_leaves;

@@ -7,6 +7,7 @@ use Rattle.columns_slots.proofs.Rows.{is_cut}
 use Rattle.levels.specs.InBounds.{IsInBounds, bounded_slots}
 use Rattle.levels.specs.Ranges.{leaf_count_or}
 use Rattle.nested_slice.specs.CutPath.{cut_parts, leaf_rows, AreRising}
+use Rattle.nested_slice.specs.Laws.{IsReadAsCut}
 use Rattle.nested_slice.proofs.Rows.{cuts_are_rows, array_cut}
 
 pub leaf_rows_within : (old : List Part) (a : ArrayTree) (o n first count : ℕ) → IsInBounds old → AreRising old → o + n ≤ slot_count old → tree_len a ≡ leaf_count_or 0 old → (first, count) ≡ leaf_rows old o n
@@ -22,6 +23,7 @@ pub record IsSliced (old new : List Part) (a b : ArrayTree) (o n : ℕ) : Type 0
   pub length : slot_count new ≡ n
   pub leaf : tree_len b ≡ leaf_count_or 0 new
   pub slots : path_slots (slot_at b) new ≡ take n (drop o (bounded_slots (slot_at a) old))
+  pub read : IsReadAsCut old new o n
   pub way : path_way new ≡ path_way old
   pub array : b ≡ cut a (leaf_rows old o n).0 (leaf_rows old o n).1
 
@@ -38,6 +40,7 @@ cut_sliced old a o n b r h l s =
       length = law.rows;
       leaf = whole.len ∙ sym law.leaf;
       slots = law.slots (slot_at a) (slot_at (cut a first count)) (array_cut a first count s within);
+      read = law.slots;
       way = law.way;
       array = refl;
     }

@@ -8,6 +8,7 @@ ghost use Rattle.levels.specs.Nested.{part_of, parts_of};
 ghost use Rattle.levels.specs.InBounds.{AreWithin, IsInBounds, bounded_slots};
 ghost use Rattle.levels.specs.Ranges.{leaf_count_or};
 ghost use Rattle.nested_slice.specs.CutPath.{cut_part, first_beneath, count_beneath, cut_parts, leaf_rows, is_large, part_mask, Rises, AreRising};
+ghost use Rattle.nested_slice.specs.Laws.{IsReadAsCut};
 
 use columns_array::ArrayBox;
 use columns_core::{Bitmap, Offset};
@@ -107,6 +108,7 @@ pub fn slice_parquet_array(
     ensures length { slot_count (parts_of nested.new) ≡ current_length }
     ensures leaf { tree_len (boxed primitive_array.new) ≡ leaf_count_or 0 (parts_of nested.new) }
     ensures slots { path_slots (slot_at (boxed primitive_array.new)) (parts_of nested.new) ≡ take current_length (drop current_offset (bounded_slots (slot_at (boxed primitive_array.old)) (parts_of nested.old))) }
+    ensures read { IsReadAsCut (parts_of nested.old) (parts_of nested.new) current_offset current_length }
     ensures parts { parts_of nested.new ≡ cut_parts (parts_of nested.old) current_offset current_length }
     ensures kinds { map is_large nested.new ≡ map is_large nested.old }
     ensures way { path_way (parts_of nested.new) ≡ path_way (parts_of nested.old) }

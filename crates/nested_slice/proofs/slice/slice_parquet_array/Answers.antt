@@ -14,4 +14,4 @@ returns c =
     let all =
     sliced (parts_of c.args.nested.now) (parts_of c.slice_parts-leaf.new.nested) (boxed c.args.primitive_array.now) (boxed c.slice.new.self) c.args.current_offset c.args.current_length
     _ _ c.requires.in_bounds done.rises c.requires.rows c.requires.leaf c.know.ensures done.parts done.leaf c.slice.ensures in
-    record { path = all.path; length = all.length; leaf = all.leaf; slots = all.slots; parts = done.parts; kinds = done.kinds; way = all.way; array = all.array }
+    record { path = all.path; length = all.length; leaf = all.leaf; slots = all.slots; read = all.read; parts = done.parts; kinds = done.kinds; way = all.way; array = all.array }

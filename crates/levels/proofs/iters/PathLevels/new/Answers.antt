@@ -24,5 +24,5 @@ invariant_of-result c =
     let whole = length-map (left c.put.new.stack.items) (level_of c.args.level) in
     (c.put.ensures.fits, c.put.ensures.room, rw (whole, all) (omega (arith, pairs, few, counted)))
 
-pub returns : goal.returns
-returns c = ap (map (level_of c.args.level)) (left-all c.args.nested.now _ c.in_ok-stack.stack.items c.put.new.stack.items c.in_ok-stack.ensures.items refl refl refl refl c.slot_count.ensures c.put.ensures.left)
+pub returns-clause-ok : goal.returns-clause-ok
+returns-clause-ok c = ap (map (level_of c.args.level)) (left-all c.args.nested.now _ c.in_ok-stack.stack.items c.put.new.stack.items c.in_ok-stack.ensures.items refl refl refl refl c.slot_count.ensures c.put.ensures.left)
