@@ -1,7 +1,9 @@
 -- A page by its body.
-use Rattle.std.proofs.Common.{◌≡◌, ℕ, zero, suc, ℤ, pos, List, [], ◌∷◌, map, length, Some, None, nat_eq, All, is_some, sym, ap, subst, ◌∙◌}
+use Rattle.std.proofs.Common.{◌≡◌, ℕ, zero, suc, ℤ, pos, List, [], ◌∷◌, map, length, ◌⊎◌, inl, inr, Some, None, nat_eq, All, is_some, sym, ap, subst, ◌∙◌}
 use Rattle.std.proofs.lemmas.List.{length-map}
 use Rattle.std.specs.Prelude.{filter_map, count_by}
+use Rattle.columns_base.specs.declared.error.Error.{Error}
+use Rattle.columns_base.specs.declared.error.Error.TheVariants.{Memory}
 use Rattle.shredding.specs.Slot.{Value, number}
 use Rattle.shredding.specs.Shred.{Triple}
 use Rattle.pq_container.specs.Header.{DataHeader, data_page}
@@ -15,7 +17,7 @@ use Rattle.pq_files.proofs.Triples.{count_present}
 use Rattle.pq_files.proofs.Unique.{every, levels_same}
 use Rattle.pq_numbers.specs.Texts.{Begins}
 use Rattle.shredding.specs.Triples.{triples_from, BeginsAtZero, ArePairs}
-use Rattle.page_read.specs.PlainPage.{IsPlainPage, IsPlainBody, BeginsWithRow}
+use Rattle.page_read.specs.PlainPage.{IsPlainPage, HasLevelPairs, called_for, IsPlainBody, BeginsWithRow, LacksLevelPairs, BeginsInRow, LacksValues, RefusesBody}
 use Rattle.page_read.proofs.Matched.{repetitions_of, definitions_of, values_of, are_present}
 
 begins : (ts : List Triple) → BeginsWithRow (map (λ t. t.repetition) ts) → BeginsRow ts
@@ -30,26 +32,26 @@ begins_back (t ∷ ts) h = h
 
 pub is_page : (l : Leaf) (h : DataHeader) (max_r max_d count : ℕ) (body rs ds : List ℕ) (vs : List Value) → IsPlainPage l h max_r max_d count → IsPlainBody max_r max_d count body rs ds vs → IsPage l None (data_page h) body (triples_from max_d rs ds vs)
 is_page l h max_r max_d count body rs ds vs is b =
-    let same : length rs ≡ length ds = b.as_many ∙ sym b.as_many_definitions in
+    let same : length rs ≡ length ds = b.pairs.as_many ∙ sym b.pairs.as_many_definitions in
     let reps = repetitions_of max_d rs ds vs same in
     let defs = definitions_of max_d rs ds vs same in
     let vals = values_of max_d rs ds vs same b.present in
     let ts : List Triple = triples_from max_d rs ds vs in
     record {
-      sections = record { repetition = b.repetition; definition = b.definition; values = b.section };
+      sections = record { repetition = b.pairs.repetition; definition = b.pairs.definition; values = b.section };
       split = record {
-        behind = b.behind;
-        repetition = subst (λ (m : ℕ). IsBehindLength m body b.repetition b.behind) (sym is.repetition) b.first;
-        definition = subst (λ (m : ℕ). IsBehindLength m b.behind b.definition b.section) (sym is.definition) b.second;
+        behind = b.pairs.behind;
+        repetition = subst (λ (m : ℕ). IsBehindLength m body b.pairs.repetition b.pairs.behind) (sym is.repetition) b.pairs.first;
+        definition = subst (λ (m : ℕ). IsBehindLength m b.pairs.behind b.pairs.definition b.section) (sym is.definition) b.pairs.second;
       };
       runs = is.runs;
-      repetitions = subst (λ (xs : List ℕ). HasLevels (max_repetition l) b.repetition xs) (sym reps) (subst (λ (m : ℕ). HasLevels m b.repetition rs) (sym is.repetition) b.repetitions);
-      definitions = subst (λ (xs : List ℕ). HasLevels (max_definition l) b.definition xs) (sym defs) (subst (λ (m : ℕ). HasLevels m b.definition ds) (sym is.definition) b.definitions);
+      repetitions = subst (λ (xs : List ℕ). HasLevels (max_repetition l) b.pairs.repetition xs) (sym reps) (subst (λ (m : ℕ). HasLevels m b.pairs.repetition rs) (sym is.repetition) b.pairs.repetitions);
+      definitions = subst (λ (xs : List ℕ). HasLevels (max_definition l) b.pairs.definition xs) (sym defs) (subst (λ (m : ℕ). HasLevels m b.pairs.definition ds) (sym is.definition) b.pairs.definitions);
       present = subst (λ (m : ℕ). All (λ t. is_some t.value ≡ nat_eq t.definition m) ts) (sym is.definition) (are_present max_d rs ds vs same b.present);
       encoding = plain;
       has_encoding = ap encoding_numbered is.encoding;
       values = subst (λ (xs : List Value). Begins (IsPlain l.physical) b.section xs) (sym vals) (subst (λ (p : Physical). Begins (IsPlain p) b.section vs) (sym is.physical) b.values);
-      counted = is.pairs ∙ sym b.as_many ∙ ap length (sym reps) ∙ length-map ts (λ (t : Triple). t.repetition);
+      counted = is.pairs ∙ sym b.pairs.as_many ∙ ap length (sym reps) ∙ length-map ts (λ (t : Triple). t.repetition);
       begins_row = begins ts (subst BeginsWithRow (sym reps) b.begins);
     }
 
@@ -65,16 +67,18 @@ is_body l h max_r max_d count body ts is p =
     let vs : List Value = filter_map (λ t. t.value) ts in
     let spelled : Begins (IsSpelled plain l None) p.sections.values vs = subst (λ (x : Encoding). Begins (IsSpelled x l None) p.sections.values vs) (sym e) p.values in
     record {
-      repetition = p.sections.repetition;
-      behind = p.split.behind;
-      definition = p.sections.definition;
       section = p.sections.values;
-      first = subst (λ (m : ℕ). IsBehindLength m body p.sections.repetition p.split.behind) is.repetition p.split.repetition;
-      second = subst (λ (m : ℕ). IsBehindLength m p.split.behind p.sections.definition p.sections.values) is.definition p.split.definition;
-      repetitions = subst (λ (m : ℕ). HasLevels m p.sections.repetition (map (λ t. t.repetition) ts)) is.repetition p.repetitions;
-      definitions = subst (λ (m : ℕ). HasLevels m p.sections.definition (map (λ t. t.definition) ts)) is.definition p.definitions;
-      as_many = length-map ts (λ (t : Triple). t.repetition) ∙ many;
-      as_many_definitions = length-map ts (λ (t : Triple). t.definition) ∙ many;
+      pairs = record {
+        repetition = p.sections.repetition;
+        behind = p.split.behind;
+        definition = p.sections.definition;
+        first = subst (λ (m : ℕ). IsBehindLength m body p.sections.repetition p.split.behind) is.repetition p.split.repetition;
+        second = subst (λ (m : ℕ). IsBehindLength m p.split.behind p.sections.definition p.sections.values) is.definition p.split.definition;
+        repetitions = subst (λ (m : ℕ). HasLevels m p.sections.repetition (map (λ t. t.repetition) ts)) is.repetition p.repetitions;
+        definitions = subst (λ (m : ℕ). HasLevels m p.sections.definition (map (λ t. t.definition) ts)) is.definition p.definitions;
+        as_many = length-map ts (λ (t : Triple). t.repetition) ∙ many;
+        as_many_definitions = length-map ts (λ (t : Triple). t.definition) ∙ many;
+      };
       begins = begins_back ts p.begins_row;
       values = subst (λ (x : Physical). Begins (IsPlain x) p.sections.values vs) is.physical spelled;
       present = subst (λ (m : ℕ). count_by (λ d. nat_eq d m) (map (λ t. t.definition) ts) ≡ length vs) is.definition (sym (count_present (max_definition l) ts (every _ ts p.present)));
@@ -94,43 +98,82 @@ pub record AreSections (max_r max_d : ℕ) (body repetition behind definition se
   pub first : IsBehindLength max_r body repetition behind
   pub second : IsBehindLength max_d behind definition section
 
-pub no_second : (max_r max_d count : ℕ) (body repetition behind : List ℕ) → IsBehindLength max_r body repetition behind → ((s r : List ℕ) → IsBehindLength max_d behind s r → ⊥) → (rs ds : List ℕ) (vs : List Value) → IsPlainBody max_r max_d count body rs ds vs → ⊥
-no_second max_r max_d count body repetition behind first none rs ds vs b =
+pub no_first : (max_r max_d count : ℕ) (body : List ℕ) → ((s r : List ℕ) → IsBehindLength max_r body s r → ⊥) → LacksLevelPairs max_r max_d count body
+no_first max_r max_d count body none rs ds section b = none b.repetition b.behind b.first
+
+pub no_second : (max_r max_d count : ℕ) (body repetition behind : List ℕ) → IsBehindLength max_r body repetition behind → ((s r : List ℕ) → IsBehindLength max_d behind s r → ⊥) → LacksLevelPairs max_r max_d count body
+no_second max_r max_d count body repetition behind first none rs ds section b =
     let e = behind_same max_r body b.repetition b.behind repetition behind b.first first in
-    none b.definition b.section (subst (λ (x : List ℕ). IsBehindLength max_d x b.definition b.section) e.1 b.second)
+    none b.definition section (subst (λ (x : List ℕ). IsBehindLength max_d x b.definition section) e.1 b.second)
 
 record Same (r d s x y z : List ℕ) : Type 0 where
   pub repetition : r ≡ x
   pub definition : d ≡ y
   pub section : s ≡ z
 
-split_same : (max_r max_d count : ℕ) (body repetition behind definition section rs ds : List ℕ) (vs : List Value) → AreSections max_r max_d body repetition behind definition section → (b : IsPlainBody max_r max_d count body rs ds vs) → Same b.repetition b.definition b.section repetition definition section
-split_same max_r max_d count body repetition behind definition section rs ds vs are b =
+split_same : (max_r max_d count : ℕ) (body repetition behind definition section rs ds left : List ℕ) → AreSections max_r max_d body repetition behind definition section → (b : HasLevelPairs max_r max_d count body rs ds left) → Same b.repetition b.definition left repetition definition section
+split_same max_r max_d count body repetition behind definition section rs ds left are b =
     let e = behind_same max_r body b.repetition b.behind repetition behind b.first are.first in
-    let f = behind_same max_d behind b.definition b.section definition section (subst (λ (x : List ℕ). IsBehindLength max_d x b.definition b.section) e.1 b.second) are.second in
+    let f = behind_same max_d behind b.definition left definition section (subst (λ (x : List ℕ). IsBehindLength max_d x b.definition left) e.1 b.second) are.second in
     record { repetition = e.0; definition = f.0; section = f.1 }
 
-pub no_repetitions : (max_r max_d count : ℕ) (body repetition behind definition section : List ℕ) → AreSections max_r max_d body repetition behind definition section → ((levels : List ℕ) → length levels ≡ count → HasLevels max_r repetition levels → ⊥) → (rs ds : List ℕ) (vs : List Value) → IsPlainBody max_r max_d count body rs ds vs → ⊥
-no_repetitions max_r max_d count body repetition behind definition section are none rs ds vs b =
-    let same = split_same max_r max_d count body repetition behind definition section rs ds vs are b in
+pub no_repetitions : (max_r max_d count : ℕ) (body repetition behind definition section : List ℕ) → AreSections max_r max_d body repetition behind definition section → ((levels : List ℕ) → length levels ≡ count → HasLevels max_r repetition levels → ⊥) → LacksLevelPairs max_r max_d count body
+no_repetitions max_r max_d count body repetition behind definition section are none rs ds left b =
+    let same = split_same max_r max_d count body repetition behind definition section rs ds left are b in
     none rs b.as_many (subst (λ (x : List ℕ). HasLevels max_r x rs) same.repetition b.repetitions)
 
-pub no_definitions : (max_r max_d count : ℕ) (body repetition behind definition section : List ℕ) → AreSections max_r max_d body repetition behind definition section → ((levels : List ℕ) → length levels ≡ count → HasLevels max_d definition levels → ⊥) → (rs ds : List ℕ) (vs : List Value) → IsPlainBody max_r max_d count body rs ds vs → ⊥
-no_definitions max_r max_d count body repetition behind definition section are none rs ds vs b =
-    let same = split_same max_r max_d count body repetition behind definition section rs ds vs are b in
+pub no_definitions : (max_r max_d count : ℕ) (body repetition behind definition section : List ℕ) → AreSections max_r max_d body repetition behind definition section → ((levels : List ℕ) → length levels ≡ count → HasLevels max_d definition levels → ⊥) → LacksLevelPairs max_r max_d count body
+no_definitions max_r max_d count body repetition behind definition section are none rs ds left b =
+    let same = split_same max_r max_d count body repetition behind definition section rs ds left are b in
     none ds b.as_many_definitions (subst (λ (x : List ℕ). HasLevels max_d x ds) same.definition b.definitions)
 
-pub no_row : (max_r max_d count : ℕ) (body repetition behind definition section xs : List ℕ) → AreSections max_r max_d body repetition behind definition section → HasLevels max_r repetition xs → length xs ≡ count → (BeginsWithRow xs → ⊥) → (rs ds : List ℕ) (vs : List Value) → IsPlainBody max_r max_d count body rs ds vs → ⊥
-no_row max_r max_d count body repetition behind definition section xs are has many none rs ds vs b =
-    let same = split_same max_r max_d count body repetition behind definition section rs ds vs are b in
-    let e : rs ≡ xs = levels_same max_r b.repetition repetition rs xs same.repetition b.repetitions has (b.as_many ∙ sym many) in
-    none (subst BeginsWithRow e b.begins)
+pub pairs_found : (max_r max_d count : ℕ) (body repetition behind definition section rs ds : List ℕ) → AreSections max_r max_d body repetition behind definition section → HasLevels max_r repetition rs → length rs ≡ count → HasLevels max_d definition ds → length ds ≡ count → HasLevelPairs max_r max_d count body rs ds section
+pairs_found max_r max_d count body repetition behind definition section rs ds are reps many defs many_too = record {
+  repetition = repetition;
+  behind = behind;
+  definition = definition;
+  first = are.first;
+  second = are.second;
+  repetitions = reps;
+  definitions = defs;
+  as_many = many;
+  as_many_definitions = many_too;
+}
 
-pub no_values : (max_r max_d count : ℕ) (body repetition behind definition section ys : List ℕ) → AreSections max_r max_d body repetition behind definition section → HasLevels max_d definition ys → length ys ≡ count → ((vs : List Value) → length vs ≡ count_by (λ d. nat_eq d max_d) ys → Begins (IsPlain int32) section vs → ⊥) → (rs ds : List ℕ) (vs : List Value) → IsPlainBody max_r max_d count body rs ds vs → ⊥
-no_values max_r max_d count body repetition behind definition section ys are has many none rs ds vs b =
-    let same = split_same max_r max_d count body repetition behind definition section rs ds vs are b in
-    let e : ds ≡ ys = levels_same max_d b.definition definition ds ys same.definition b.definitions has (b.as_many_definitions ∙ sym many) in
-    none vs (sym b.present ∙ ap (λ (x : List ℕ). count_by (λ d. nat_eq d max_d) x) e) (subst (λ (x : List ℕ). Begins (IsPlain int32) x vs) same.section b.values)
+-- ---- each reason excludes the others, and a body
+
+pairs_same : (max_r max_d count : ℕ) (body rs ds section xs ys left : List ℕ) → HasLevelPairs max_r max_d count body rs ds section → HasLevelPairs max_r max_d count body xs ys left → Same rs ds section xs ys left
+pairs_same max_r max_d count body rs ds section xs ys left a b =
+    let are : AreSections max_r max_d body b.repetition b.behind b.definition left = record { first = b.first; second = b.second } in
+    let same = split_same max_r max_d count body b.repetition b.behind b.definition left rs ds section are a in
+    record {
+      repetition = levels_same max_r a.repetition b.repetition rs xs same.repetition a.repetitions b.repetitions (a.as_many ∙ sym b.as_many);
+      definition = levels_same max_d a.definition b.definition ds ys same.definition a.definitions b.definitions (a.as_many_definitions ∙ sym b.as_many_definitions);
+      section = same.section;
+    }
+
+pub not_inside : (max_r max_d count : ℕ) (body rs ds section : List ℕ) → HasLevelPairs max_r max_d count body rs ds section → BeginsWithRow rs → BeginsInRow max_r max_d count body → ⊥
+not_inside max_r max_d count body rs ds section has row inside =
+    let same = pairs_same max_r max_d count body rs ds section inside.rs inside.ds inside.section has inside.pairs in
+    inside.inside (subst BeginsWithRow same.repetition row)
+
+pub not_lacking : (max_r max_d count : ℕ) (body rs ds : List ℕ) (vs : List Value) → IsPlainBody max_r max_d count body rs ds vs → LacksValues max_r max_d count body → ⊥
+not_lacking max_r max_d count body rs ds vs b lacks =
+    let same = pairs_same max_r max_d count body rs ds b.section lacks.rs lacks.ds lacks.section b.pairs lacks.pairs in
+    lacks.none vs (sym b.present ∙ ap (λ (x : List ℕ). called_for max_d x) same.definition) (subst (λ (x : List ℕ). Begins (IsPlain int32) x vs) same.section b.values)
+
+-- a body that is refused holds nothing
+pub no_body : (max_r max_d count : ℕ) (body : List ℕ) (e : Error) → RefusesBody max_r max_d count body e → (e ≡ Memory) ⊎ ((rs ds : List ℕ) (vs : List Value) → IsPlainBody max_r max_d count body rs ds vs → ⊥)
+no_body max_r max_d count body e refused = elim refused [
+  | inl memory ↦ inl memory
+  | inr other ↦ elim other [
+    | inl levels ↦ inr (λ rs ds vs b. levels.1 rs ds b.section b.pairs)
+    | inr more ↦ elim more [
+      | inl inside ↦ inr (λ rs ds vs b. not_inside max_r max_d count body rs ds b.section b.pairs b.begins inside.1)
+      | inr lacks ↦ inr (λ rs ds vs b. not_lacking max_r max_d count body rs ds vs b lacks.1)
+    ]
+  ]
+]
 
 -- ---- the levels of a body are pairs
 
@@ -140,9 +183,9 @@ zero_first (r ∷ rs) h = h
 
 pub are_pairs : (max_r max_d count : ℕ) (body rs ds : List ℕ) (zs : List ℤ) → IsPlainBody max_r max_d count body rs ds (map number zs) → ArePairs max_r max_d rs ds (length zs)
 are_pairs max_r max_d count body rs ds zs b = record {
-  even = b.as_many ∙ sym b.as_many_definitions;
-  repeated = b.repetitions.within;
-  defined = b.definitions.within;
+  even = b.pairs.as_many ∙ sym b.pairs.as_many_definitions;
+  repeated = b.pairs.repetitions.within;
+  defined = b.pairs.definitions.within;
   present = b.present ∙ length-map zs number;
   begins = zero_first rs b.begins;
 }

@@ -3,4 +3,5 @@ pub mod Plain32
 pub mod SectionsLemmas
 pub mod Bodies
 pub mod Passed
+pub mod Reasons
 pub mod RowsFound

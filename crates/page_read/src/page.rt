@@ -1,6 +1,7 @@
 //! A data page of version 1 with plain INT32 values.
 ghost use Rattle.std.specs.Prelude.{◌≡◌, ◌⊎◌, ℕ, List, None, length, map, All, count_by, nat_eq, IfOk, IfErr, IsTrue, ◌↔◌};
 ghost use Rattle.columns_base.specs.declared.error.Error.{Error};
+ghost use Rattle.columns_base.specs.declared.error.S.{S};
 ghost use Rattle.shredding.specs.Shape.{IsInRange, signed};
 ghost use Rattle.shredding.specs.Triples.{ArePairs};
 ghost use Rattle.shredding.specs.Shred.{Triple};
@@ -9,7 +10,7 @@ ghost use Rattle.pq_container.specs.Header.{DataHeader, data_page};
 ghost use Rattle.pq_container.specs.Tree.{Leaf};
 ghost use Rattle.pq_files.specs.Page.{IsPage};
 ghost use Rattle.page_read.specs.LevelPairs.{triples};
-ghost use Rattle.page_read.specs.PlainPage.{IsPlainPage, IsPlainBody, BeginsWithRow};
+ghost use Rattle.page_read.specs.PlainPage.{IsPlainPage, IsPlainBody, BeginsWithRow, RefusesBody, ComesWhere, LacksLevelPairs, BeginsInRow, LacksValues};
 
 use crate::levels::read_levels;
 use crate::pairs::LevelPairs;
@@ -44,7 +45,7 @@ fn read_body(
 ) -> Result<LevelPairs>
     ensures ok { IfOk result (λ pairs. IsPlainBody max_repetition max_definition count body.now pairs.repetition_levels.items pairs.definition_levels.items (map number pairs.values.items)) }
     ensures in_range { IfOk result (λ pairs. All (IsInRange (signed 32)) (map number pairs.values.items)) }
-    ensures refused { IfErr result (λ e. (e ≡ Error.Memory) ⊎ ((rs ds : List ℕ) (vs : List Value) → IsPlainBody max_repetition max_definition count body.now rs ds vs → ⊥)) }
+    ensures refused { IfErr result (RefusesBody max_repetition max_definition count body.now) }
 {
     let Some((repetition, rest)) = take_section(max_repetition, body) else {
         return Err(Error::OutOfSpec(S::S4));
@@ -70,7 +71,9 @@ fn read_body(
 ///
 /// # Errors
 ///
-/// An error exactly where the body is no such page (S4, S5 or S6, and no clause says which), or want of memory. Parquet format, data pages.
+/// S4 exactly where a section of levels lies outside of the body, has too few levels or one that passes its maximum. S5 exactly where
+/// the levels are there and the first pair goes on with a row. S6 exactly where a row begins and the section of values begins with
+/// fewer plain numbers than definition levels are the maximum. Or want of memory. Parquet format, data pages.
 pub fn read_plain_page(
     alloc: Global,
     body: &[u8],
@@ -82,6 +85,10 @@ pub fn read_plain_page(
     ensures pairs { IfOk result (λ pairs. ArePairs max_repetition max_definition pairs.repetition_levels.items pairs.definition_levels.items (length pairs.values.items)) }
     ensures in_range { IfOk result (λ pairs. All (IsInRange (signed 32)) (map number pairs.values.items)) }
     ensures refused { IfErr result (λ e. (e ≡ Error.Memory) ⊎ ((l : Leaf) (h : DataHeader) (ts : List Triple) → IsPlainPage l h max_repetition max_definition count → IsPage l None (data_page h) body.now ts → ⊥)) }
+    ensures levels { ComesWhere (Error.OutOfSpec S.S4) (LacksLevelPairs max_repetition max_definition count body.now) result }
+    ensures inside { ComesWhere (Error.OutOfSpec S.S5) (BeginsInRow max_repetition max_definition count body.now) result }
+    ensures values { ComesWhere (Error.OutOfSpec S.S6) (LacksValues max_repetition max_definition count body.now) result }
+    ensures err { IfErr result (λ e. (e ≡ Error.Memory) ⊎ (e ≡ Error.OutOfSpec S.S4) ⊎ (e ≡ Error.OutOfSpec S.S5) ⊎ (e ≡ Error.OutOfSpec S.S6)) }
 {
     read_body(alloc, body, max_repetition, max_definition, count)
 }
