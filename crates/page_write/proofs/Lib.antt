@@ -5,3 +5,4 @@ pub mod Behind
 pub mod Made
 pub mod Sections
 pub mod Sizes
+pub mod Front

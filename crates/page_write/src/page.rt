@@ -1,6 +1,6 @@
 //! Data pages of a nested column of numbers.
 
-ghost use Rattle.std.specs.Prelude.{◌≡◌, ◌+◌, ◌*◌, ◌<◌, ◌≤◌, ◌^◌, length, All, IfErr, OnOk};
+ghost use Rattle.std.specs.Prelude.{◌≡◌, ◌+◌, ◌*◌, ◌<◌, ◌≤◌, ◌^◌, length, take, All, IfErr, OnOk, OnErr};
 ghost use Rattle.pq_files.specs.Packed.{AreLevels};
 ghost use Rattle.pq_files.specs.Room.{room};
 ghost use Rattle.page_write.specs.Appended.{numbers, behind_length};
@@ -44,6 +44,7 @@ fn push_page_of(
     requires some { 0 < length column.repetitions.now }
     requires room { room (length column.repetitions.now) (4 * length column.values.now) < 2 ^ 31 }
     ensures memory { IfErr result (λ e. e ≡ Error.Memory) }
+    ensures front { OnErr result (take (length out.old.items) out.new.items ≡ out.old.items) }
     ensures ok { OnOk result (AppendsPage column.entry.max_repetition column.entry.max_definition (page_out (triples_from column.entry.max_definition column.entry.repetitions.now column.entry.definitions.now (numbers column.entry.values.now))) out.old.items out.new.items) }
 {
     let size = section_size(column.max_repetition, repetition)
@@ -61,16 +62,21 @@ fn push_page_of(
 ///
 /// # Errors
 ///
-/// Want of memory. What `out` holds behind its old bytes is then left open.
+/// Want of memory; `out` is then as before.
 pub fn push_data_page(alloc: Global, out: &mut Vec<u8>, column: Int32Column<'_>) -> Result<()>
     requires pairs { ArePairs column.max_repetition column.max_definition column.repetitions.now column.definitions.now (length column.values.now) }
     requires some { 0 < length column.repetitions.now }
     requires room { room (length column.repetitions.now) (4 * length column.values.now) < 2 ^ 31 }
     ensures memory { IfErr result (λ e. e ≡ Error.Memory) }
+    ensures kept { OnErr result (out.new.items ≡ out.old.items) }
     ensures ok { OnOk result (AppendsPage column.entry.max_repetition column.entry.max_definition (page_out (triples_from column.entry.max_definition column.entry.repetitions.now column.entry.definitions.now (numbers column.entry.values.now))) out.old.items out.new.items) }
 {
     let repetition = level_section(alloc, column.max_repetition, column.repetitions)?;
     let definition = level_section(alloc, column.max_definition, column.definitions)?;
-    push_page_of(alloc, out, column, &repetition, &definition)?;
+    let start = out.len();
+    if let Err(error) = push_page_of(alloc, out, column, &repetition, &definition) {
+        out.truncate(start);
+        return Err(error);
+    }
     Ok(())
 }

@@ -11,12 +11,17 @@ use std::alloc::AllocError;
 ///
 /// # Errors
 ///
-/// Want of memory. What `out` holds behind its old bytes is then left open.
+/// Want of memory; `out` is then as before.
 pub fn push_plain_i32(out: &mut Vec<u8>, values: &[i32]) -> Result<(), AllocError>
-    ensures { OnOk result (AppendsPlain int32 out.old.items out.new.items (numbers values.now)) }
+    ensures ok { OnOk result (AppendsPlain int32 out.old.items out.new.items (numbers values.now)) }
+    ensures kept { OnErr result (out.new.items ≡ out.old.items) }
 {
+    let start = out.len();
     for value in values {
-        push_i32(out, *value)?;
+        if let Err(error) = push_i32(out, *value) {
+            out.truncate(start);
+            return Err(error);
+        }
     }
     Ok(())
 }

@@ -19,15 +19,21 @@ pub fn section_size(max: u32, section: &[u8]) -> usize
 ///
 /// # Errors
 ///
-/// Want of memory. What `out` holds behind its old bytes is then left open.
+/// Want of memory; `out` is then as before.
 pub fn push_section(out: &mut Vec<u8>, max: u32, section: &[u8]) -> Result<(), AllocError>
     requires short { length section.now < 2 ^ 32 }
     requires none { max ≡ 0 → section.now ≡ [] }
-    ensures { OnOk result (AppendsSection max out.old.items out.new.items section.now) }
+    ensures ok { OnOk result (AppendsSection max out.old.items out.new.items section.now) }
+    ensures kept { OnErr result (out.new.items ≡ out.old.items) }
 {
     if max == 0 {
         return Ok(());
     }
+    let start = out.len();
     push_u32(out, section.len() as u32)?;
-    out.extend_from_slice(section)
+    if let Err(error) = out.extend_from_slice(section) {
+        out.truncate(start);
+        return Err(error);
+    }
+    Ok(())
 }

@@ -1,6 +1,6 @@
 //! The footer (Parquet format, parquet.thrift, `FileMetaData`).
 
-ghost use Rattle.std.specs.Prelude.{◌≡◌, ◌≤◌, ◌<◌, ◌^◌, length, IfOk, IfErr, OnOk, IsUtf8};
+ghost use Rattle.std.specs.Prelude.{◌≡◌, ◌≤◌, ◌<◌, ◌^◌, length, IfOk, IfErr, OnOk, OnErr, IsUtf8};
 ghost use Rattle.pq_thrift.specs.Value.{view};
 ghost use Rattle.pq_files.specs.Written.{one, empty};
 ghost use Rattle.row_file.specs.ListColumn.{longest_name};
@@ -110,7 +110,7 @@ fn footer_value(alloc: Global, footer: ListFooter<'_>) -> Result<Thrift, AllocEr
 ///
 /// # Errors
 ///
-/// Want of memory. What `file` holds behind its old bytes is then left open.
+/// Want of memory; `file` is then as before.
 pub fn push_footer(alloc: Global, file: &mut Vec<u8>, footer: ListFooter<'_>) -> Outcome<()>
     requires field_name { length footer.field_name.now ≤ longest_name }
     requires item_name { length footer.item_name.now ≤ longest_name }
@@ -118,12 +118,16 @@ pub fn push_footer(alloc: Global, file: &mut Vec<u8>, footer: ListFooter<'_>) ->
     ensures field_text { IsUtf8 footer.entry.field_name.now }
     ensures item_text { IsUtf8 footer.entry.item_name.now }
     ensures memory { IfErr result (λ e. e ≡ Error.Memory) }
+    ensures kept { OnErr result (file.new.items ≡ file.old.items) }
     ensures ok { OnOk result (AppendsFooter footer.entry.field_name.now footer.entry.item_name.now footer.entry.pairs footer.entry.rows footer.entry.size file.old.items file.new.items) }
 {
     let start = file.len();
     let value = footer_value(alloc, footer)?;
     write_thrift(&value, file)?;
     let size = (file.len() - start) as u32;
-    push_u32(file, size)?;
+    if let Err(error) = push_u32(file, size) {
+        file.truncate(start);
+        return Err(error.into());
+    }
     Ok(())
 }

@@ -17,4 +17,4 @@ returns-clause-ok c =
     let fits : room (length column.repetitions.now) (4 * length vs) < 2 ^ 31 = omega (arith, count, c.requires.room) in
     let size : c.section_size.result + c.section_size-2.result + 4 * length column.values.now ≡ behind_length column.max_repetition (length c.args.repetition.now) + behind_length column.max_definition (length c.args.definition.now) + 4 * length vs = omega (arith, c.section_size.ensures, c.section_size-2.ensures, count) in
     let header = subst (λ (n : ℕ). AppendsHeader (length column.repetitions.now) n c.args.out.now.items c.push_data_page_header.new.out.items) size c.in_ok-push_data_page_header.ensures.ok in
-    page_made column.max_repetition column.max_definition column.repetitions.now column.definitions.now vs c.args.repetition.now c.args.definition.now c.args.out.now.items c.push_data_page_header.new.out.items c.push_section.new.out.items c.push_section-2.new.out.items c.push_plain_i32.new.out.items pairs c.requires.repetition c.requires.definition c.requires.short c.requires.some fits header c.in_ok-push_section.ensures c.in_ok-push_section-2.ensures c.in_ok-push_plain_i32.ensures
+    page_made column.max_repetition column.max_definition column.repetitions.now column.definitions.now vs c.args.repetition.now c.args.definition.now c.args.out.now.items c.push_data_page_header.new.out.items c.push_section.new.out.items c.push_section-2.new.out.items c.push_plain_i32.new.out.items pairs c.requires.repetition c.requires.definition c.requires.short c.requires.some fits header c.in_ok-push_section.ensures.ok c.in_ok-push_section-2.ensures.ok c.in_ok-push_plain_i32.ensures.ok

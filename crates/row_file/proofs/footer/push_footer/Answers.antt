@@ -17,7 +17,7 @@ overflow_cast-size c =
 pub returns-clause-ok : goal.returns-clause-ok
 returns-clause-ok c =
     let e = c.in_ok-write_thrift.ensures.spells in
-    let n = c.in_ok-push_u32.ensures.ok in
+    let n = c.in_default.ensures.ok in
     let size : c.len.result - c.len-start.result ≡ length e.0 = omega (arith, ap length e.2, length-append c.args.file.now.items e.0, c.len.ensures, c.len-start.ensures) in
     record {
       footer = e.0;
