@@ -57,7 +57,7 @@ is_page l h max_r max_d count body rs ds vs is b =
 
 -- ---- and back
 
-encoding_is : (z : ℤ) (e : Encoding) → z ≡ pos 0 → encoding_numbered z ≡ Some e → plain ≡ e
+pub encoding_is : (z : ℤ) (e : Encoding) → z ≡ pos 0 → encoding_numbered z ≡ Some e → plain ≡ e
 encoding_is z e zero_is known = cc (ap encoding_numbered zero_is, known)
 
 pub is_body : (l : Leaf) (h : DataHeader) (max_r max_d count : ℕ) (body : List ℕ) (ts : List Triple) → IsPlainPage l h max_r max_d count → IsPage l None (data_page h) body ts → IsPlainBody max_r max_d count body (map (λ t. t.repetition) ts) (map (λ t. t.definition) ts) (filter_map (λ t. t.value) ts)

@@ -4,4 +4,5 @@ pub mod SectionsLemmas
 pub mod Bodies
 pub mod Passed
 pub mod Reasons
+pub mod PageErrors
 pub mod RowsFound

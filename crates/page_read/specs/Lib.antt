@@ -2,3 +2,4 @@ pub mod Follows
 pub mod LevelPairs
 pub mod PlainPage
 pub mod Rows
+pub mod PageErrors

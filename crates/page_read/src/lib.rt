@@ -2,6 +2,7 @@
 #![tactic(auto)]
 
 mod follows;
+mod laws;
 mod levels;
 mod page;
 mod pairs;
@@ -10,6 +11,7 @@ mod sections;
 mod values;
 
 pub use follows::go_on;
+pub use laws::errors_are_reasons;
 pub use levels::read_levels;
 pub use page::read_plain_page;
 pub use pairs::LevelPairs;

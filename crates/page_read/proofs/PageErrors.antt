@@ -1,0 +1,121 @@
+-- The pairs of a body are those of its page.
+use Rattle.std.proofs.Common.{◌≡◌, ◌⊎◌, ℕ, zero, suc, ◌+◌, cond, List, [], ◌∷◌, map, length, inl, inr, None, Bool, true, false, nat_eq, All, refl, sym, ap, subst, ◌∙◌, arith}
+use Rattle.std.proofs.lemmas.List.{length-map}
+use Rattle.std.proofs.lemmas.List.Elements.{All-cons, All-nil}
+use Rattle.std.proofs.lemmas.List.Sums.{sum_by-cons}
+use Rattle.std.specs.Prelude.{count_by}
+use Rattle.shredding.specs.Slot.{Value}
+use Rattle.shredding.specs.Shred.{Triple}
+use Rattle.shredding.specs.Triples.{value_if, left_if, triples_from}
+use Rattle.pq_container.specs.Header.{DataHeader}
+use Rattle.pq_container.specs.Physical.{Physical, int32}
+use Rattle.pq_container.specs.Tree.{Leaf, max_definition, max_repetition}
+use Rattle.pq_files.specs.Levels.{HasLevels, IsBehindLength}
+use Rattle.pq_files.specs.Page.{Encoding, plain, encoding_numbered, IsSpelled}
+use Rattle.pq_files.specs.PageReasons.{HasPairs, S6, called_by}
+use Rattle.pq_files.specs.Plain.{IsPlain}
+use Rattle.pq_numbers.specs.Texts.{Begins}
+use Rattle.page_read.specs.PlainPage.{IsPlainPage, HasLevelPairs, called_for, BeginsWithRow, BeginsInRow, LacksValues}
+use Rattle.page_read.specs.PageErrors.{raw_page, ErrorsAreReasons}
+use Rattle.page_read.proofs.Bodies.{encoding_is}
+use Rattle.page_read.proofs.Matched.{repetitions_of, definitions_of}
+
+no_value : (b : Bool) → value_if b [] ≡ None
+no_value true = refl
+no_value false = refl
+
+none_left : (b : Bool) → left_if b [] ≡ []
+none_left true = refl
+none_left false = refl
+
+-- triples without values
+no_values : (max : ℕ) (rs ds : List ℕ) (vs : List Value) → vs ≡ [] → All (λ t. t.value ≡ None) (triples_from max rs ds vs)
+no_values max [] ds vs e = All-nil (λ t. t.value ≡ None)
+no_values max (r ∷ rs) [] vs e = All-nil (λ t. t.value ≡ None)
+no_values max (r ∷ rs) (d ∷ ds) vs e =
+    All-cons (λ t. t.value ≡ None) (record { repetition = r; definition = d; value = value_if (nat_eq d max) vs }) (triples_from max rs ds (left_if (nat_eq d max) vs))
+    (ap (λ (xs : List Value). value_if (nat_eq d max) xs) e ∙ no_value (nat_eq d max))
+    (no_values max rs ds (left_if (nat_eq d max) vs) (ap (λ (xs : List Value). left_if (nat_eq d max) xs) e ∙ none_left (nat_eq d max)))
+
+count_map : (m : ℕ) (ts : List Triple) → count_by (λ t. nat_eq t.definition m) ts ≡ count_by (λ d. nat_eq d m) (map (λ t. t.definition) ts)
+count_map m [] = refl
+count_map m (t ∷ ts) = sum_by-cons (λ u. cond (nat_eq u.definition m) 1 0) t ts ∙ ap (λ (n : ℕ). cond (nat_eq t.definition m) 1 0 + n) (count_map m ts) ∙ sym (sum_by-cons (λ d. cond (nat_eq d m) 1 0) t.definition (map (λ u. u.definition) ts))
+
+abbrev has_pairs : (l : Leaf) (h : DataHeader) (max_r max_d count : ℕ) (body rs ds section : List ℕ) → IsPlainPage l h max_r max_d count → HasLevelPairs max_r max_d count body rs ds section → HasPairs l (raw_page h body) (triples_from max_d rs ds [])
+has_pairs l h max_r max_d count body rs ds section is b =
+    let same : length rs ≡ length ds = b.as_many ∙ sym b.as_many_definitions in
+    let reps = repetitions_of max_d rs ds [] same in
+    let defs = definitions_of max_d rs ds [] same in
+    let ts : List Triple = triples_from max_d rs ds [] in
+    let many : length ts ≡ h.num_values = sym (length-map ts (λ (t : Triple). t.repetition)) ∙ ap length reps ∙ b.as_many ∙ sym is.pairs in (
+      record {
+        sections = record { repetition = b.repetition; definition = b.definition; values = section };
+        split = record {
+          behind = b.behind;
+          repetition = subst (λ (m : ℕ). IsBehindLength m body b.repetition b.behind) (sym is.repetition) b.first;
+          definition = subst (λ (m : ℕ). IsBehindLength m b.behind b.definition section) (sym is.definition) b.second;
+        };
+        repetitions = subst (λ (xs : List ℕ). HasLevels (max_repetition l) b.repetition xs) (sym reps) (subst (λ (m : ℕ). HasLevels m b.repetition rs) (sym is.repetition) b.repetitions);
+        definitions = subst (λ (xs : List ℕ). HasLevels (max_definition l) b.definition xs) (sym defs) (subst (λ (m : ℕ). HasLevels m b.definition ds) (sym is.definition) b.definitions);
+        none = no_values max_d rs ds [] refl;
+        few = omega (arith, many);
+      },
+      many,
+    )
+
+has_level_pairs : (l : Leaf) (h : DataHeader) (max_r max_d count : ℕ) (body : List ℕ) (ts : List Triple) → IsPlainPage l h max_r max_d count → (has : HasPairs l (raw_page h body) ts) → HasLevelPairs max_r max_d count body (map (λ t. t.repetition) ts) (map (λ t. t.definition) ts) has.0.sections.values
+has_level_pairs l h max_r max_d count body ts is has =
+    let p = has.0 in
+    let many : length ts ≡ count = has.1 ∙ is.pairs in
+    record {
+      repetition = p.sections.repetition;
+      behind = p.split.behind;
+      definition = p.sections.definition;
+      first = subst (λ (m : ℕ). IsBehindLength m body p.sections.repetition p.split.behind) is.repetition p.split.repetition;
+      second = subst (λ (m : ℕ). IsBehindLength m p.split.behind p.sections.definition p.sections.values) is.definition p.split.definition;
+      repetitions = subst (λ (m : ℕ). HasLevels m p.sections.repetition (map (λ t. t.repetition) ts)) is.repetition p.repetitions;
+      definitions = subst (λ (m : ℕ). HasLevels m p.sections.definition (map (λ t. t.definition) ts)) is.definition p.definitions;
+      as_many = length-map ts (λ (t : Triple). t.repetition) ∙ many;
+      as_many_definitions = length-map ts (λ (t : Triple). t.definition) ∙ many;
+    }
+
+row_or_not : (rs : List ℕ) → BeginsWithRow rs ⊎ (BeginsWithRow rs → ⊥)
+row_or_not [] = inl tt
+row_or_not (zero ∷ rs) = inl refl
+row_or_not (suc r ∷ rs) = inr (λ e. absurd (omega (arith, e)))
+
+lacking : (l : Leaf) (h : DataHeader) (max_r max_d count : ℕ) (body : List ℕ) → IsPlainPage l h max_r max_d count → LacksValues max_r max_d count body → S6 l None (raw_page h body)
+lacking l h max_r max_d count body is v =
+    let same : length v.rs ≡ length v.ds = v.pairs.as_many ∙ sym v.pairs.as_many_definitions in
+    let ts : List Triple = triples_from max_d v.rs v.ds [] in
+    let called : called_by l ts ≡ called_for max_d v.ds = count_map (max_definition l) ts ∙ ap (λ (xs : List ℕ). called_for (max_definition l) xs) (definitions_of max_d v.rs v.ds [] same) ∙ ap (λ (m : ℕ). called_for m v.ds) is.definition in
+    record {
+      pairs = ts;
+      has = has_pairs l h max_r max_d count body v.rs v.ds v.section is v.pairs;
+      encoding = plain;
+      has_encoding = ap encoding_numbered is.encoding;
+      is_read = tt;
+      has_entries = λ e. absurd (cc e);
+      none = λ vs many b. v.none vs (many ∙ called) (subst (λ (p : Physical). Begins (IsPlain p) v.section vs) is.physical b);
+    }
+
+values : (l : Leaf) (h : DataHeader) (max_r max_d count : ℕ) (body : List ℕ) → IsPlainPage l h max_r max_d count → S6 l None (raw_page h body) → BeginsInRow max_r max_d count body ⊎ LacksValues max_r max_d count body
+values l h max_r max_d count body is s =
+    let rs : List ℕ = map (λ t. t.repetition) s.pairs in
+    let ds : List ℕ = map (λ t. t.definition) s.pairs in
+    let section : List ℕ = s.has.0.sections.values in
+    let pairs : HasLevelPairs max_r max_d count body rs ds section = has_level_pairs l h max_r max_d count body s.pairs is s.has in
+    let e : plain ≡ s.encoding = encoding_is h.encoding s.encoding is.encoding s.has_encoding in
+    let called : called_for max_d ds ≡ called_by l s.pairs = ap (λ (m : ℕ). called_for m ds) (sym is.definition) ∙ sym (count_map (max_definition l) s.pairs) in
+    let none : (vs : List Value) → length vs ≡ called_for max_d ds → Begins (IsPlain int32) section vs → ⊥ = λ vs many b. s.none vs (many ∙ called) (subst (λ (x : Encoding). Begins (IsSpelled x l None) section vs) e (subst (λ (p : Physical). Begins (IsPlain p) section vs) (sym is.physical) b)) in
+    elim (row_or_not rs) [
+      | inl row ↦ inr (record { rs = rs; ds = ds; section = section; pairs = pairs; begins = row; none = none })
+      | inr inside ↦ inl (record { rs = rs; ds = ds; section = section; pairs = pairs; inside = inside })
+    ]
+
+pub errors_are_reasons : ErrorsAreReasons
+errors_are_reasons = record {
+  levels = λ l h max_r max_d count body is. ((λ lacks. (is.runs, λ ts has. lacks _ _ _ (has_level_pairs l h max_r max_d count body ts is has))), (λ s rs ds section b. s.1 _ (has_pairs l h max_r max_d count body rs ds section is b)));
+  lacking = lacking;
+  values = values;
+}
