@@ -86,7 +86,7 @@ is_body l h max_r max_d count body ts is p =
 
 -- ---- a body has one split and one list of each kind of levels
 
-behind_same : (max : ℕ) (bytes s r t q : List ℕ) → IsBehindLength max bytes s r → IsBehindLength max bytes t q → (s ≡ t) × (r ≡ q)
+pub behind_same : (max : ℕ) (bytes s r t q : List ℕ) → IsBehindLength max bytes s r → IsBehindLength max bytes t q → (s ≡ t) × (r ≡ q)
 behind_same zero bytes s r t q a b = (a.0 ∙ sym b.0, sym a.1 ∙ b.1)
 behind_same (suc max) bytes s r t q a b =
     let x = behind_length max bytes s r a in

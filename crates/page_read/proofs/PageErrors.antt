@@ -1,7 +1,7 @@
 -- The pairs of a body are those of its page.
-use Rattle.std.proofs.Common.{◌≡◌, ◌⊎◌, ℕ, zero, suc, ◌+◌, cond, List, [], ◌∷◌, map, length, inl, inr, None, Bool, true, false, nat_eq, All, refl, sym, ap, subst, ◌∙◌, arith}
+use Rattle.std.proofs.Common.{◌≡◌, ◌⊎◌, ℕ, zero, suc, ◌+◌, ◌≤◌, cond, List, [], ◌∷◌, ◌++◌, map, length, inl, inr, None, Bool, true, false, nat_eq, All, refl, sym, ap, subst, ◌∙◌, append_assoc, arith}
 use Rattle.std.proofs.lemmas.List.{length-map}
-use Rattle.std.proofs.lemmas.List.Elements.{All-cons, All-nil}
+use Rattle.std.proofs.lemmas.List.Elements.{All-cons, All-nil, recursion_from_All}
 use Rattle.std.proofs.lemmas.List.Sums.{sum_by-cons}
 use Rattle.std.specs.Prelude.{count_by}
 use Rattle.shredding.specs.Slot.{Value}
@@ -12,12 +12,15 @@ use Rattle.pq_container.specs.Physical.{Physical, int32}
 use Rattle.pq_container.specs.Tree.{Leaf, max_definition, max_repetition}
 use Rattle.pq_files.specs.Levels.{HasLevels, IsBehindLength}
 use Rattle.pq_files.specs.Page.{Encoding, plain, encoding_numbered, IsSpelled}
-use Rattle.pq_files.specs.PageReasons.{HasPairs, S6, called_by}
+use Rattle.pq_files.specs.PageReasons.{HasPairs, GoesOn, S6, called_by}
 use Rattle.pq_files.specs.Plain.{IsPlain}
 use Rattle.pq_numbers.specs.Texts.{Begins}
 use Rattle.page_read.specs.PlainPage.{IsPlainPage, HasLevelPairs, called_for, BeginsWithRow, BeginsInRow, LacksValues}
 use Rattle.page_read.specs.PageErrors.{raw_page, ErrorsAreReasons}
-use Rattle.page_read.proofs.Bodies.{encoding_is}
+use Rattle.page_read.proofs.Bodies.{behind_same, encoding_is}
+use Rattle.page_read.proofs.RunsFront.{first_of_runs}
+use Rattle.pq_files.specs.Chunk.{count_in}
+use Rattle.pq_files.proofs.Unique.{levels_same}
 use Rattle.page_read.proofs.Matched.{repetitions_of, definitions_of}
 
 no_value : (b : Bool) → value_if b [] ≡ None
@@ -84,6 +87,55 @@ row_or_not [] = inl tt
 row_or_not (zero ∷ rs) = inl refl
 row_or_not (suc r ∷ rs) = inr (λ e. absurd (omega (arith, e)))
 
+-- ---- the first pair
+
+front_level : (max : ℕ) (section : List ℕ) (x : ℕ) (xs : List ℕ) → HasLevels max section (x ∷ xs) → HasLevels max section (x ∷ [])
+front_level max section x xs has =
+    let front = first_of_runs has.width has.runs.text (x ∷ xs) has.runs.spells (omega arith) in
+    record {
+      width = has.width;
+      is_width = has.is_width;
+      runs = record {
+        text = front.text;
+        rest = front.rest ++ has.runs.rest;
+        parts = has.runs.parts ∙ ap (λ (t : List ℕ). t ++ has.runs.rest) front.parts ∙ append_assoc front.text front.rest has.runs.rest;
+        spells = front.spells;
+      };
+      within = All-cons (λ level. level ≤ max) x [] (recursion_from_All (λ level. level ≤ max) (x ∷ xs) has.within).0 (All-nil (λ level. level ≤ max));
+    }
+
+inside_at : (l : Leaf) (h : DataHeader) (max_r max_d count : ℕ) (body rs ds section : List ℕ) → IsPlainPage l h max_r max_d count → HasLevelPairs max_r max_d count body rs ds section → (BeginsWithRow rs → ⊥) → GoesOn l (raw_page h body)
+inside_at l h max_r max_d count body [] ds section is b inside = absurd (inside tt)
+inside_at l h max_r max_d count body (r ∷ rs) [] section is b inside = absurd (omega (arith, b.as_many, b.as_many_definitions))
+inside_at l h max_r max_d count body (zero ∷ rs) (d ∷ ds) section is b inside = absurd (inside refl)
+inside_at l h max_r max_d count body (suc r ∷ rs) (d ∷ ds) section is b inside = record {
+  first = record { repetition = suc r; definition = d; value = None };
+  shows = record {
+    sections = record { repetition = b.repetition; definition = b.definition; values = section };
+    split = record {
+      behind = b.behind;
+      repetition = subst (λ (m : ℕ). IsBehindLength m body b.repetition b.behind) (sym is.repetition) b.first;
+      definition = subst (λ (m : ℕ). IsBehindLength m b.behind b.definition section) (sym is.definition) b.second;
+    };
+    repetitions = subst (λ (m : ℕ). HasLevels m b.repetition (suc r ∷ [])) (sym is.repetition) (front_level max_r b.repetition (suc r) rs b.repetitions);
+    definitions = subst (λ (m : ℕ). HasLevels m b.definition (d ∷ [])) (sym is.definition) (front_level max_d b.definition d ds b.definitions);
+    none = All-cons (λ t. t.value ≡ None) (record { repetition = suc r; definition = d; value = None }) [] refl (All-nil (λ t. t.value ≡ None));
+    few = omega (arith, b.as_many, is.pairs);
+  };
+  repeats = omega arith;
+}
+
+goes_on_at : (l : Leaf) (h : DataHeader) (max_r max_d count : ℕ) (body rs ds section : List ℕ) → IsPlainPage l h max_r max_d count → HasLevelPairs max_r max_d count body rs ds section → GoesOn l (raw_page h body) → BeginsWithRow rs → ⊥
+goes_on_at l h max_r max_d count body [] ds section is b g row = absurd (omega (arith, b.as_many, is.pairs, g.shows.few))
+goes_on_at l h max_r max_d count body (r ∷ rs) ds section is b g row =
+    let split = g.shows.split in
+    let same = behind_same max_r body g.shows.sections.repetition split.behind b.repetition b.behind (subst (λ (m : ℕ). IsBehindLength m body g.shows.sections.repetition split.behind) is.repetition split.repetition) b.first in
+    let e : g.first.repetition ∷ [] ≡ r ∷ [] = levels_same max_r g.shows.sections.repetition b.repetition (g.first.repetition ∷ []) (r ∷ []) same.0 (subst (λ (m : ℕ). HasLevels m g.shows.sections.repetition (g.first.repetition ∷ [])) is.repetition g.shows.repetitions) (front_level max_r b.repetition r rs b.repetitions) refl in
+    let first : g.first.repetition ≡ r = cc in
+    absurd (omega (arith, first, row, g.repeats))
+
+-- ---- the values
+
 lacking : (l : Leaf) (h : DataHeader) (max_r max_d count : ℕ) (body : List ℕ) → IsPlainPage l h max_r max_d count → LacksValues max_r max_d count body → S6 l None (raw_page h body)
 lacking l h max_r max_d count body is v =
     let same : length v.rs ≡ length v.ds = v.pairs.as_many ∙ sym v.pairs.as_many_definitions in
@@ -116,6 +168,8 @@ values l h max_r max_d count body is s =
 pub errors_are_reasons : ErrorsAreReasons
 errors_are_reasons = record {
   levels = λ l h max_r max_d count body is. ((λ lacks. (is.runs, λ ts has. lacks _ _ _ (has_level_pairs l h max_r max_d count body ts is has))), (λ s rs ds section b. s.1 _ (has_pairs l h max_r max_d count body rs ds section is b)));
+  inside = λ l h max_r max_d count body is v. (inside_at l h max_r max_d count body v.rs v.ds v.section is v.pairs v.inside, inl (All-nil (λ q. count_in q.header ≡ 0)));
+  goes_on = λ l h max_r max_d count body rs ds section is b s. record { rs = rs; ds = ds; section = section; pairs = b; inside = goes_on_at l h max_r max_d count body rs ds section is b s.0 };
   lacking = lacking;
   values = values;
 }
