@@ -16,11 +16,13 @@ pub struct MemorySource {
 }
 
 impl MemorySource {
-    ghost use Rattle.pq_rewrite.specs.Memory.{memory_left};
+    ghost use Rattle.pq_rewrite.specs.Memory.{memory_left, IsUnused};
 
-    /// A source that still gives all the bytes.
+    /// A source that still gives all the bytes, and never failed.
     pub fn new(bytes: Vec<u8>, failing: Vec<u64>) -> Self
-        ensures { memory_left result ≡ bytes.items }
+        ensures left { memory_left result ≡ bytes.items }
+        ensures unused { IsUnused result }
+        ensures failing { result.failing.items ≡ failing.items }
     {
         MemorySource {
             bytes,

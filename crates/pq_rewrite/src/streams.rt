@@ -1,5 +1,5 @@
 //! A source over a real stream.
-ghost use Rattle.std.specs.Prelude.{None};
+ghost use Rattle.std.specs.Prelude.{◌≡◌, None};
 
 use crate::{Failed, Source};
 use std::io::Read;
@@ -13,7 +13,9 @@ pub struct StdSource<R> {
 
 impl<R: Read> StdSource<R> {
     /// A source over the reader, without a fault so far.
-    pub fn new(inner: R) -> Self {
+    pub fn new(inner: R) -> Self
+        ensures { result.faults ≡ 0 }
+    {
         StdSource { inner, faults: 0 }
     }
 }

@@ -18,19 +18,25 @@ pub struct MemorySink {
 }
 
 impl MemorySink {
-    ghost use Rattle.row_file.specs.Memory.{memory_taken};
+    ghost use Rattle.row_file.specs.Memory.{memory_taken, IsUnused};
 
-    /// A sink that has taken nothing, and takes whole pieces.
+    /// A sink that has taken nothing and never failed, and takes whole pieces.
     pub fn new(alloc: Global, failing: Vec<u64>) -> Self
-        ensures { memory_taken result ≡ [] }
+        ensures taken { memory_taken result ≡ [] }
+        ensures unused { IsUnused result }
+        ensures failing { result.failing.items ≡ failing.items }
+        ensures limit { result.limit ≡ usize.MAX }
     {
         MemorySink::with_limit(alloc, failing, usize::MAX)
     }
 
-    /// A sink that has taken nothing, and takes at most `limit` bytes a call.
+    /// A sink that has taken nothing and never failed, and takes at most `limit` bytes a call.
     pub fn with_limit(alloc: Global, failing: Vec<u64>, limit: usize) -> Self
         requires { 0 < limit }
-        ensures { memory_taken result ≡ [] }
+        ensures taken { memory_taken result ≡ [] }
+        ensures unused { IsUnused result }
+        ensures failing { result.failing.items ≡ failing.items }
+        ensures limit { result.limit ≡ limit }
     {
         MemorySink {
             bytes: Vec::new(alloc),

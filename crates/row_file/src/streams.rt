@@ -1,5 +1,5 @@
 //! A sink over a real stream.
-ghost use Rattle.std.specs.Prelude.{None};
+ghost use Rattle.std.specs.Prelude.{◌≡◌, None};
 
 use crate::{Sink, SinkFault};
 use std::io::Write;
@@ -14,7 +14,9 @@ pub struct StdSink<W> {
 
 impl<W: Write> StdSink<W> {
     /// A sink over the writer, without a fault so far.
-    pub fn new(inner: W) -> Self {
+    pub fn new(inner: W) -> Self
+        ensures { result.faults ≡ 0 }
+    {
         StdSink { inner, faults: 0 }
     }
 }
