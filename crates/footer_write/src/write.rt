@@ -1,8 +1,10 @@
 //! The call that writes a footer.
-ghost use Rattle.std.specs.Prelude.{◌≡◌, ◌⊎◌, ◌↔◌, IsTrue, OnOk, OnErr, IfErr, Err, IsUtf8};
+ghost use Rattle.std.specs.Prelude.{◌≡◌, ◌⊎◌, ◌↔◌, ◌++◌, IsTrue, OnOk, OnErr, IfErr, Err, IsUtf8};
 ghost use Rattle.columns_base.specs.declared.error.Error.TheVariants.{Memory, Overflow};
 ghost use Rattle.columns_base.specs.declared.error.V.TheVariants.{V3};
+ghost use Rattle.pq_thrift.specs.Spelling.{spell};
 ghost use Rattle.footer_write.specs.Fits.{FooterFits};
+ghost use Rattle.footer_write.specs.FooterValue.{footer_value};
 ghost use Rattle.footer_write.specs.Written.{AppendsFooter};
 
 use crate::footer::footer_from;
@@ -40,12 +42,15 @@ fn footer_fits(metadata: &ThriftFileMetaData) -> bool
 ///
 /// # Errors
 ///
-/// - `Overflow(V3)`: the room of the footer, a bound of its bytes, passes 2,147,483,647, or a fixed
-///   length, a precision or a scale that is to be written does. `out` is as before.
+/// - `Overflow(V3)`: the room of the footer passes 2,147,483,647, or a fixed length, a precision or a
+///   scale that is to be written does. `out` is as before. The room counts 4,096 bytes for all that
+///   it doesn't count by itself, such as `created_by`.
 /// - `Memory`: memory ran out. `out` is as before.
 #[tactic(auto, using(crate::proofs::Rooms::room_is))]
 pub fn write_metadata(metadata: &ThriftFileMetaData, out: &mut Vec<u8>) -> Result<()>
     ensures ok { OnOk result (AppendsFooter metadata.now out.old.items out.new.items) }
+    // Which spelling it is: varints have no padding, and ids are steps.
+    ensures exact { OnOk result (out.new.items ≡ out.old.items ++ spell (footer_value metadata.now)) }
     ensures fits { OnOk result (FooterFits metadata.now) }
     ensures passed { (¬ FooterFits metadata.now) → result ≡ Err (Overflow V3) }
     ensures refused { IfErr result (λ e. (e ≡ Memory) ⊎ ((e ≡ Overflow V3) × (¬ FooterFits metadata.now))) }

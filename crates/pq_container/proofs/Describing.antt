@@ -1,7 +1,10 @@
 -- Writing the items of a list one by one.
-use Rattle.std.proofs.Common.{◌≡◌, ℕ, zero, suc, ◌+◌, ◌<◌, List, [], ◌∷◌, length, get_or, map, Option, Some, slice_get, refl, ap, ◌∙◌, arith}
+use Rattle.std.proofs.Common.{◌≡◌, ℕ, zero, suc, ◌+◌, ◌<◌, List, [], ◌∷◌, length, get_or, map, Option, Some, None, option_map, All, slice_get, refl, ap, ◌∙◌, arith}
 use Rattle.std.proofs.Math.ListN.{set}
 use borrow.Author.Count.{below_more}
+use Rattle.pq_container.specs.declared.types.ColumnChunkMetaData.{ColumnChunkMetaData}
+use Rattle.pq_container.specs.declared.types.Descriptor.{Descriptor}
+use Rattle.pq_container.specs.Described.{column_view, descriptor_view, AreDescribed}
 
 -- what is seen of an item does not change
 pub set_same : {X B : Type 0} (f : X → B) (xs : List X) (i : ℕ) (a d : X) → f a ≡ f (get_or xs i d) → map f (set xs i a) ≡ map f xs
@@ -33,3 +36,12 @@ set_all P (x ∷ xs) zero a lt below here zero d l = here
 set_all P (x ∷ xs) zero a lt below here (suc k) d l = absurd (omega arith)
 set_all P (x ∷ xs) (suc i) a lt below here zero d l = below 0 d (omega arith)
 set_all P (x ∷ xs) (suc i) a lt below here (suc k) d l = set_all P xs i a (omega arith) (λ j e h. below (suc j) e (omega arith)) here k d (omega arith)
+
+none_at : (cs : List ColumnChunkMetaData) (k : ℕ) → All (λ c. c.descriptor ≡ None) cs → k < length cs → slice_get (map descriptor_view cs) k ≡ Some None
+none_at [] k h lt = absurd (omega (arith, lt))
+none_at (c ∷ cs) zero h lt = ap (λ (o : Option Descriptor). Some (option_map column_view o)) (h 0 c lt)
+none_at (c ∷ cs) (suc k) h lt = none_at cs k (λ j d l. h (suc j) d (omega (arith, l))) (omega (arith, lt))
+
+-- chunks without descriptors are those of no columns
+pub none_described : (cs : List ColumnChunkMetaData) → All (λ c. c.descriptor ≡ None) cs → AreDescribed [] cs
+none_described cs h = λ k lt. none_at cs k h lt

@@ -1,9 +1,10 @@
 //! Row groups and their columns, each from its Thrift struct.
-ghost use Rattle.std.specs.Prelude.{◌≡◌, ℕ, List, IfOk, IfErr, OnErr, map};
+ghost use Rattle.std.specs.Prelude.{◌≡◌, ℕ, List, [], IfOk, IfErr, OnErr, None, All, map};
 ghost use Rattle.std.specs.Option.{option_copied};
 ghost use Rattle.columns_base.specs.declared.error.Error.TheVariants.{OutOfSpec};
 ghost use Rattle.columns_base.specs.declared.error.S.TheVariants.{S1};
 ghost use Rattle.pq_thrift.specs.Value.{view, values_view, fields_view};
+ghost use Rattle.pq_container.specs.Described.{IsDescribed, GroupsAreDescribed};
 ghost use Rattle.pq_container.specs.Footer.{SpellsChunk, SpellsGroup};
 ghost use Rattle.pq_container.specs.Ids.{Each};
 ghost use Rattle.pq_container.specs.RawChunk.{HasNumbers, HasPlace};
@@ -71,9 +72,10 @@ fn place_from(fields: &[(i16, Thrift)]) -> Result<(Option<&str>, &[(i16, Thrift)
     Ok((file_path, metadata))
 }
 
-/// What the struct says of a column. `OutOfSpec(S1)` where it is no `ColumnChunk`.
+/// What the struct says of a column, without a descriptor. `OutOfSpec(S1)` where it is no `ColumnChunk`.
 pub fn chunk_from(alloc: Global, value: &Thrift) -> Result<ColumnChunkMetaData, Error>
     ensures found { IfOk result (λ c. SpellsChunk (view value.now) (chunk_view c)) }
+    ensures bare { IfOk result (λ c. c.descriptor ≡ None) }
     ensures refused { IfErr result (Refuses (OutOfSpec S1) (SpellsChunk (view value.now))) }
 {
     let Some(fields) = as_struct(value) else {
@@ -98,6 +100,7 @@ pub fn chunk_from(alloc: Global, value: &Thrift) -> Result<ColumnChunkMetaData, 
 #[tactic(auto, using(crate::proofs::Eachs::each_next, crate::proofs::Eachs::each_refused))]
 fn chunks_from(alloc: Global, values: &[Thrift]) -> Result<Vec<ColumnChunkMetaData>, Error>
     ensures found { IfOk result (λ cs. Each SpellsChunk (values_view values.now) (map chunk_view cs.items)) }
+    ensures bare { IfOk result (λ cs. All (λ c. c.descriptor ≡ None) cs.items) }
     ensures refused { IfErr result (Refuses (OutOfSpec S1) (Each SpellsChunk (values_view values.now))) }
 {
     let mut chunks = Vec::new(alloc);
@@ -107,9 +110,11 @@ fn chunks_from(alloc: Global, values: &[Thrift]) -> Result<Vec<ColumnChunkMetaDa
     Ok(chunks)
 }
 
-/// What the struct says of a row group. `OutOfSpec(S1)` where it is no `RowGroup`.
+/// What the struct says of a row group, whose chunks have no descriptors. `OutOfSpec(S1)` where it
+/// is no `RowGroup`.
 pub fn group_from(alloc: Global, value: &Thrift) -> Result<RowGroupMetaData, Error>
     ensures found { IfOk result (λ g. SpellsGroup (view value.now) (group_view g)) }
+    ensures described { IfOk result (IsDescribed []) }
     ensures refused { IfErr result (Refuses (OutOfSpec S1) (SpellsGroup (view value.now))) }
 {
     let Some(fields) = as_struct(value) else {
@@ -125,10 +130,11 @@ pub fn group_from(alloc: Global, value: &Thrift) -> Result<RowGroupMetaData, Err
     Ok(RowGroupMetaData { columns, num_rows })
 }
 
-/// The row groups that the structs spell, one by one.
+/// The row groups that the structs spell, one by one. No chunk has a descriptor.
 #[tactic(auto, using(crate::proofs::Eachs::each_next, crate::proofs::Eachs::each_refused))]
 pub fn groups_from(alloc: Global, values: &[Thrift]) -> Result<Vec<RowGroupMetaData>, Error>
     ensures found { IfOk result (λ gs. Each SpellsGroup (values_view values.now) (map group_view gs.items)) }
+    ensures described { IfOk result (λ gs. GroupsAreDescribed [] gs.items) }
     ensures refused { IfErr result (Refuses (OutOfSpec S1) (Each SpellsGroup (values_view values.now))) }
 {
     let mut groups = Vec::new(alloc);

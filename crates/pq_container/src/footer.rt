@@ -1,8 +1,9 @@
 //! The footer as a flat record.
-ghost use Rattle.std.specs.Prelude.{◌≡◌, ℕ, List, IfOk, IfErr, string_bytes, map};
+ghost use Rattle.std.specs.Prelude.{◌≡◌, ℕ, List, [], IfOk, IfErr, string_bytes, map};
 ghost use Rattle.columns_base.specs.declared.error.Error.TheVariants.{OutOfSpec};
 ghost use Rattle.columns_base.specs.declared.error.S.TheVariants.{S1};
 ghost use Rattle.pq_thrift.specs.Value.{view, values_view};
+ghost use Rattle.pq_container.specs.Described.{GroupsAreDescribed};
 ghost use Rattle.pq_container.specs.FlatFooter.{SpellsElements, SpellsSchema, SpellsFlatFooter, SpellsFlatRecord};
 ghost use Rattle.pq_container.specs.FooterReads.{RefusesFooter};
 ghost use Rattle.pq_container.specs.Reads.{Refuses};
@@ -35,10 +36,11 @@ fn schema_from(
     Ok((name, num_children, elements))
 }
 
-/// The footer that the struct spells, with the nodes of its schema as a list. `OutOfSpec(S1)`
-/// where it spells none.
+/// The footer that the struct spells, with the nodes of its schema as a list, so that no chunk has
+/// a descriptor. `OutOfSpec(S1)` where it spells none.
 pub fn footer_from(alloc: Global, value: &Thrift) -> Result<FlatFooter, Error>
     ensures found { IfOk result (λ f. SpellsFlatFooter (view value.now) (flat_view f)) }
+    ensures described { IfOk result (λ f. GroupsAreDescribed [] f.row_groups.items) }
     ensures refused { IfErr result (Refuses (OutOfSpec S1) (SpellsFlatFooter (view value.now))) }
 {
     let Some(fields) = as_struct(value) else {
@@ -62,7 +64,7 @@ pub fn footer_from(alloc: Global, value: &Thrift) -> Result<FlatFooter, Error>
 }
 
 /// Reads the footer that stands in front (Parquet format, `FileMetaData`), with the nodes of its
-/// schema as a list. What follows it is not looked at.
+/// schema as a list, so that no chunk has a descriptor. What follows it is not looked at.
 ///
 /// # Errors
 ///
@@ -72,6 +74,7 @@ pub fn footer_from(alloc: Global, value: &Thrift) -> Result<FlatFooter, Error>
 /// - `Memory`: memory ran out.
 pub fn read_footer(alloc: Global, bytes: &[u8]) -> Result<FlatFooter, Error>
     ensures found { IfOk result (λ f. Begins SpellsFlatRecord bytes.now (flat_view f)) }
+    ensures described { IfOk result (λ f. GroupsAreDescribed [] f.row_groups.items) }
     ensures refused { IfErr result (RefusesFooter bytes.now) }
 {
     let (value, _) = read_thrift(alloc, bytes)?;

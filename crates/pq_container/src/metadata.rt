@@ -1,5 +1,5 @@
 //! The whole footer of a file.
-ghost use Rattle.std.specs.Prelude.{◌≡◌, ◌≤◌, ℕ, List, IfOk, IfErr, OnOk, map};
+ghost use Rattle.std.specs.Prelude.{◌≡◌, ◌<◌, ◌≤◌, ℕ, List, IfOk, IfErr, IfSome, OnOk, length, map};
 ghost use Rattle.pq_container.specs.Columns.{columns_in};
 ghost use Rattle.pq_container.specs.Described.{GroupsAreDescribed};
 ghost use Rattle.pq_container.specs.FlatFooter.{flat_form};
@@ -23,7 +23,8 @@ use pq_thrift::read_thrift;
 use std::alloc::Global;
 
 fn some_pairs(pairs: Vec<KeyValue>) -> Option<Vec<KeyValue>>
-    ensures { pairs_view result ≡ map key_view pairs.items }
+    ensures same { pairs_view result ≡ map key_view pairs.items }
+    ensures some { IfSome result (λ keys. 0 < length keys.items) }
 {
     if pairs.is_empty() {
         return None;
@@ -36,6 +37,7 @@ fn metadata_of(alloc: Global, footer: FlatFooter) -> Result<FileMetaData, Error>
     ensures found { IfOk result (λ m. flat_form (metadata_view m) ≡ flat_view footer) }
     ensures described { IfOk result (λ m. GroupsAreDescribed (columns_in (metadata_view m).schema.fields) m.row_groups.items) }
     ensures shallow { IfOk result (λ m. schema_nesting (metadata_view m).schema ≤ 128) }
+    ensures pairs { IfOk result (λ m. IfSome m.key_value_metadata (λ keys. 0 < length keys.items)) }
     ensures refused { IfErr result (RefusesTrees (flat_view footer).nodes footer.num_children) }
 {
     let fields = read_trees(alloc, &footer.elements, footer.num_children)?;
@@ -51,7 +53,7 @@ fn metadata_of(alloc: Global, footer: FlatFooter) -> Result<FileMetaData, Error>
 
 /// Reads the footer that stands in front (Parquet format, `FileMetaData`). What follows it is not
 /// looked at. Each chunk has the descriptor of the leaf at its place, and none where there is no
-/// such leaf.
+/// such leaf. A list without pairs counts as none.
 ///
 /// # Errors
 ///
@@ -63,6 +65,7 @@ pub fn read_footer_metadata(alloc: Global, bytes: &[u8]) -> Result<FileMetaData,
     ensures found { IfOk result (λ m. Begins IsFooterText bytes.now (metadata_view m)) }
     ensures described { IfOk result (λ m. GroupsAreDescribed (columns_in (metadata_view m).schema.fields) m.row_groups.items) }
     ensures shallow { IfOk result (λ m. schema_nesting (metadata_view m).schema ≤ 128) }
+    ensures pairs { IfOk result (λ m. IfSome m.key_value_metadata (λ keys. 0 < length keys.items)) }
     ensures refused { IfErr result (RefusesMetadata bytes.now) }
 {
     let (value, _) = read_thrift(alloc, bytes)?;
@@ -74,7 +77,8 @@ pub fn read_footer_metadata(alloc: Global, bytes: &[u8]) -> Result<FileMetaData,
 }
 
 /// Reads the footer of a whole file (Parquet format, "File format" and `FileMetaData`). Each chunk
-/// has the descriptor of the leaf at its place, and none where there is no such leaf.
+/// has the descriptor of the leaf at its place, and none where there is no such leaf. A list without
+/// pairs counts as none.
 ///
 /// # Errors
 ///
@@ -88,6 +92,7 @@ pub fn read_metadata(alloc: Global, file: &[u8]) -> Result<FileMetaData, Error>
     ensures found { IfOk result (λ m. Begins IsFooterText (footer_of file.now) (metadata_view m)) }
     ensures described { IfOk result (λ m. GroupsAreDescribed (columns_in (metadata_view m).schema.fields) m.row_groups.items) }
     ensures shallow { IfOk result (λ m. schema_nesting (metadata_view m).schema ≤ 128) }
+    ensures pairs { IfOk result (λ m. IfSome m.key_value_metadata (λ keys. 0 < length keys.items)) }
     ensures refused { IfErr result (RefusesFile file.now) }
 {
     if ends_encrypted(file) {

@@ -1,6 +1,6 @@
 -- What delta packing spells is what is read.
-use Rattle.std.proofs.Common.{◌≡◌, ◌≢◌, ◌⊎◌, ℕ, zero, suc, ◌+◌, ◌-◌, ◌*◌, ◌/◌, ◌%◌, ◌^◌, ◌<◌, ◌≤◌, min, ℤ, pos, ◌+ℤ◌, Bool, true, false, List, [], ◌∷◌, ◌++◌, length, take, drop, map, Option, Some, None, Result, Ok, Err, nat_eq, nat_lt, refl, sym, ap, subst, ◌∙◌, inl, inr, arith, append-nil, append_assoc}
-use Rattle.std.proofs.lemmas.Bool.{lt-ltb, le-ltb, eq-eqb, ne_eqb, cases_lt, cases_eq}
+use Rattle.std.proofs.Common.{◌≡◌, ℕ, zero, suc, ◌+◌, ◌-◌, ◌*◌, ◌/◌, ◌%◌, ◌^◌, ◌<◌, ◌≤◌, min, ℤ, pos, ◌+ℤ◌, Bool, true, false, List, [], ◌∷◌, ◌++◌, length, take, drop, map, Some, Result, Ok, refl, sym, ap, subst, ◌∙◌, inl, inr, arith, append-nil, append_assoc}
+use Rattle.std.proofs.lemmas.Bool.{lt-ltb, le-ltb, eq-eqb, ne_eqb, cases_eq}
 use Rattle.std.proofs.lemmas.List.{length-append, length-map, map-append, take_at, drop_at}
 use Rattle.std.proofs.lemmas.Nat.{le-div, mul-le, div-add-mod'}
 use Rattle.std.specs.Int.{Width, w64}
@@ -13,7 +13,7 @@ use Rattle.pq_numbers.specs.Zigzag.{unzigzag, IsSigned}
 use Rattle.pq_numbers.proofs.Digits.{unpacked-append, length-digits}
 use Rattle.pq_numbers.proofs.Numbers.{number_again}
 use Rattle.pq_runs.specs.Delta.{Miniblocks, no_more, whole, last, Blocks, block, IsDelta, IsSums, sums, wrapped}
-use Rattle.pq_runs.specs.DeltaReading.{Out, all, gives, ends, failed, DeltaReader, above, there, mini_part, mini_at, minis_at, block_part, blocks_at, running, Head, is_good, head_at, deltas_of, numbers_of}
+use Rattle.pq_runs.specs.DeltaReading.{Out, all, gives, ends, DeltaReader, above, there, mini_part, mini_at, minis_at, block_part, blocks_at, running, Head, is_good, head_at, deltas_of, numbers_of}
 use Rattle.pq_runs.proofs.Complete.{take_enough}
 
 -- ---- giving

@@ -1,8 +1,8 @@
 -- Parts of delta packing.
-use Rattle.std.proofs.Common.{◌≡◌, ◌⊎◌, ℕ, zero, suc, ◌+◌, ◌-◌, ◌*◌, ◌/◌, ◌%◌, ◌^◌, ◌<◌, ◌≤◌, ℤ, pos, negsuc, ◌+ℤ◌, SFits, ◌≤ℤ◌, List, [], ◌∷◌, ◌++◌, length, take, drop, get_or, map, replicate, All, false, refl, sym, ap, subst, ◌∙◌, inl, inr, arith, append-nil, append_assoc}
+use Rattle.std.proofs.Common.{◌≡◌, ◌⊎◌, ℕ, suc, ◌+◌, ◌-◌, ◌*◌, ◌/◌, ◌^◌, ◌<◌, ◌≤◌, ℤ, pos, negsuc, ◌+ℤ◌, SFits, List, [], ◌∷◌, ◌++◌, length, take, drop, get_or, map, replicate, All, Contains, false, refl, sym, ap, subst, ◌∙◌, inl, inr, arith, append-nil, append_assoc}
 use Rattle.std.proofs.lemmas.Bool.{cases_lt}
 use Rattle.std.proofs.lemmas.Nat.{mul-le}
-use Rattle.std.proofs.lemmas.List.{length-append, length-map, length-replicate, length-take, length-drop, take_all, drop_all, take-append-drop, get_or_default}
+use Rattle.std.proofs.lemmas.List.{length-append, length-map, length-replicate, length-take, length-drop, take_all, drop_all, take-append-drop, get_or_default, get_or-map}
 use Rattle.std.proofs.lemmas.Int.{ints}
 use Rattle.std.specs.Int.{w64}
 use Rattle.pq_numbers.specs.Bits.{unpacked}
@@ -12,8 +12,10 @@ use Rattle.pq_numbers.specs.Zigzag.{zigzag}
 use Rattle.pq_numbers.proofs.Digits.{length-digits, unpacked-append}
 use Rattle.pq_numbers.proofs.Signed.{is_signed}
 use Rattle.pq_numbers.proofs.Writes.{is_number}
-use Rattle.pq_runs.specs.Delta.{Miniblocks, no_more, whole, last, Blocks, block}
-use Rattle.pq_runs.specs.DeltaWriting.{AreWidths, IsBlock}
+use Rattle.pq_runs.specs.Delta.{Miniblocks, no_more, whole, last, Blocks}
+use Rattle.pq_runs.specs.Delta as grammar
+use Rattle.pq_runs.specs.DeltaWriting.{IsLeastWidth, AreWidths, LeastBlocks, IsBlock}
+use Rattle.pq_runs.specs.DeltaWriting as writing
 use Rattle.pq_runs.specs.Packing.{ArePacked}
 
 pub take_short : {A : Type 0} (n : ℕ) (xs : List A) → length xs < n → xs ≡ take n xs
@@ -45,6 +47,9 @@ drop_four xs le = drop_all 32 (drop 32 (drop 32 (drop 32 xs))) (omega (arith, le
 pub fit_there : (w : ℕ) (part xs : List ℕ) → part ≡ xs → All (λ v. v < 2 ^ w) part → All (λ v. v < 2 ^ w) xs
 fit_there w part xs e h = subst (λ (ys : List ℕ). All (λ v. v < 2 ^ w) ys) e h
 
+pub least_there : (w : ℕ) (part xs : List ℕ) → part ≡ xs → IsLeastWidth w part → IsLeastWidth w xs
+least_there w part xs e h = subst (λ (ys : List ℕ). IsLeastWidth w ys) e h
+
 pub miniblock : (w count : ℕ) (numbers text text' : List ℕ) → length numbers ≤ 32 → ArePacked w numbers text → count ≡ 4 * w - (w * length numbers + 7) / 8 → text' ≡ text ++ replicate count 0 → (8 * length text' ≡ w * 32) × (unpacked w (length numbers) text' ≡ numbers)
 miniblock w count numbers text text' few p is e =
     let most : w * length numbers ≤ w * 32 = mul-le w (length numbers) w 32 (omega arith) few in
@@ -53,7 +58,7 @@ miniblock w count numbers text text' few p is e =
       ap (unpacked w (length numbers)) e ∙ unpacked-append w (length numbers) text (replicate count 0) (omega (arith, p.size)) ∙ p.unpacks,
     )
 
-pub first_widths : (ws ns : List ℕ) (d : ℕ) → 0 < length ws → AreWidths ws ns → (get_or ws 0 d ≤ 64) × All (λ v. v < 2 ^ get_or ws 0 d) (take 32 ns) × AreWidths (drop 1 ws) (drop 32 ns)
+pub first_widths : (ws ns : List ℕ) (d : ℕ) → 0 < length ws → AreWidths ws ns → (get_or ws 0 d ≤ 64) × IsLeastWidth (get_or ws 0 d) (take 32 ns) × AreWidths (drop 1 ws) (drop 32 ns)
 first_widths [] ns d some h = absurd (omega (arith, some))
 first_widths (w ∷ ws) ns d some h = h
 
@@ -103,17 +108,35 @@ pub three_parts : (out out1 out2 out3 a b c : List ℕ) → out1 ≡ out ++ a �
 three_parts out out1 out2 out3 a b c e f g =
     g ∙ ap (λ (t : List ℕ). t ++ c) (f ∙ ap (λ (t : List ℕ). t ++ b) e) ∙ append_assoc (out ++ a) b c ∙ append_assoc out a (b ++ c)
 
-pub is_block : (least : ℤ) (widths body ns : List ℕ) (ds : List ℤ) → zigzag least < 2 ^ 64 → length widths ≡ 4 → 0 < length ds → length ds ≤ 128 → map (λ m. least +ℤ pos m) ns ≡ ds → Miniblocks false 32 widths body ns → length body ≤ 8 * length ns + 248 → IsBlock (varint (zigzag least) ++ (widths ++ body)) ds
-is_block least widths body ns ds small four some few are minis short =
+-- the least number stands at 0 above itself
+zero_at : (least : ℤ) (ns : List ℕ) (ds : List ℤ) (k : ℕ) → map (λ m. least +ℤ pos m) ns ≡ ds → k < length ns → get_or ds k least ≡ least → get_or ns k 0 ≡ 0
+zero_at least ns ds k are lt is =
+    let there : get_or (map (λ m. least +ℤ pos m) ns) k least ≡ least +ℤ pos (get_or ns k 0) = get_or-map (λ m. least +ℤ pos m) ns k 0 least lt in
+    let same : least +ℤ pos (get_or ns k 0) ≡ least = sym there ∙ ap (λ (zs : List ℤ). get_or zs k least) are ∙ is in
+    omega (arith, ints, same)
+
+pub has_zero : (least : ℤ) (ns : List ℕ) (ds : List ℤ) → map (λ m. least +ℤ pos m) ns ≡ ds → Contains ds least → Contains ns 0
+has_zero least ns ds are one =
+    let n : length ns ≡ length ds = sym (length-map ns (λ m. least +ℤ pos m)) ∙ ap length are in
+    (one.0, omega (arith, n, one.1), zero_at least ns ds one.0 are (omega (arith, n, one.1)) one.2)
+
+-- the blocks that are written are blocks of the grammar
+pub blocks_of : (text : List ℕ) (ds : List ℤ) → LeastBlocks text ds → Blocks false 4 32 text ds
+blocks_of _ _ writing.no_more = grammar.no_more
+blocks_of _ _ (writing.block widths body rest least ns more small four range one fit minis full others) =
+    grammar.block (varint (zigzag least)) widths body rest least ns more (is_signed (2 ^ 64) least (omega arith) small) four (omega (arith, one.1)) minis full (blocks_of rest more others)
+
+pub is_block : (least : ℤ) (widths body ns : List ℕ) (ds : List ℤ) → zigzag least < 2 ^ 64 → length widths ≡ 4 → All (SFits w64) ds → Contains ds least → AreWidths widths ns → map (λ m. least +ℤ pos m) ns ≡ ds → Miniblocks false 32 widths body ns → length body ≤ 8 * length ns + 248 → IsBlock (varint (zigzag least) ++ (widths ++ body)) ds
+is_block least widths body ns ds small four range one fit are minis short =
     let head : List ℕ = varint (zigzag least) in
     let number = is_number (zigzag least) small in
     let n : length ns ≡ length ds = sym (length-map ns (λ m. least +ℤ pos m)) ∙ ap length are in
     record {
       before = λ rest more full blocks.
-          let one : Blocks false 4 32 (head ++ (widths ++ (body ++ rest))) (map (λ m. least +ℤ pos m) ns ++ more) =
-          block head widths body rest least ns more (is_signed (2 ^ 64) least (omega arith) small) four (omega (arith, n, some)) minis (either full (λ e. e) (λ e. omega (arith, n, e))) blocks in
+          let one : LeastBlocks (head ++ (widths ++ (body ++ rest))) (map (λ m. least +ℤ pos m) ns ++ more) =
+          writing.block widths body rest least ns more small four (subst (λ (zs : List ℤ). All (SFits w64) zs) (sym are) range) (has_zero least ns ds are one) fit minis (either full (λ e. e) (λ e. omega (arith, n, e))) blocks in
           let text : (head ++ (widths ++ body)) ++ rest ≡ head ++ (widths ++ (body ++ rest)) = append_assoc head (widths ++ body) rest ∙ ap (λ (t : List ℕ). head ++ t) (append_assoc widths body rest) in
-          subst (λ (t : List ℕ). Blocks false 4 32 t (ds ++ more)) (sym text) (subst (λ (zs : List ℤ). Blocks false 4 32 (head ++ (widths ++ (body ++ rest))) (zs ++ more)) are one);
+          subst (λ (t : List ℕ). LeastBlocks t (ds ++ more)) (sym text) (subst (λ (zs : List ℤ). LeastBlocks (head ++ (widths ++ (body ++ rest))) (zs ++ more)) are one);
       size = omega (arith, length-append head (widths ++ body), length-append widths body, number.short, four, short, n);
     }
   where

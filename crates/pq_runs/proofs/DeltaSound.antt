@@ -1,7 +1,7 @@
 -- What is read of delta packing is spelled.
-use Rattle.std.proofs.Common.{◌≡◌, ◌≢◌, ◌⊎◌, ℕ, zero, suc, ◌+◌, ◌-◌, ◌*◌, ◌/◌, ◌%◌, ◌^◌, ◌<◌, ◌≤◌, min, ℤ, pos, ◌+ℤ◌, Bool, true, false, List, [], ◌∷◌, ◌++◌, length, take, drop, map, Option, Some, None, Result, Ok, Err, refl, sym, ap, subst, ◌∙◌, inl, inr, arith, append-nil, append_assoc}
-use Rattle.std.proofs.lemmas.Bool.{lt-ltb, le-ltb, eq-eqb, ne_eqb, cases_lt, cases_eq}
-use Rattle.std.proofs.lemmas.List.{length-append, length-map, length-take, map-append, take-append-drop, take_at, drop_at}
+use Rattle.std.proofs.Common.{◌≡◌, ℕ, zero, suc, ◌+◌, ◌-◌, ◌*◌, ◌^◌, ◌<◌, ◌≤◌, min, ℤ, pos, ◌+ℤ◌, Bool, true, false, List, [], ◌∷◌, ◌++◌, length, take, drop, Option, Some, None, Result, Err, refl, sym, ap, subst, ◌∙◌, inl, inr, arith, append-nil, append_assoc}
+use Rattle.std.proofs.lemmas.Bool.{lt-ltb, ne_eqb, cases_lt, cases_eq}
+use Rattle.std.proofs.lemmas.List.{length-append, length-map, length-take, map-append, take-append-drop}
 use Rattle.std.proofs.lemmas.Nat.{mul-le}
 use Rattle.columns_base.specs.declared.error.Error.{Error}
 use Rattle.pq_numbers.specs.Bits.{unpacked}
@@ -11,7 +11,7 @@ use Rattle.pq_numbers.specs.Zigzag.{unzigzag, IsSigned}
 use Rattle.pq_numbers.proofs.Digits.{length-digits}
 use Rattle.pq_numbers.proofs.Numbers.{number_stands}
 use Rattle.pq_runs.specs.Delta.{Miniblocks, no_more, whole, last, Blocks, block}
-use Rattle.pq_runs.specs.DeltaReading.{Out, all, gives, ends, failed, DeltaReader, above, there, mini_part, mini_at, minis_at, block_part, blocks_at}
+use Rattle.pq_runs.specs.DeltaReading.{Out, all, ends, DeltaReader, above, there, mini_part, mini_at, minis_at, block_part, blocks_at}
 use Rattle.pq_runs.specs.Hybrid.{fault}
 use Rattle.pq_runs.proofs.DeltaComplete.{mini_step, minis_none, minis_end, part_enough, blocks_none, blocks_step, enough_there}
 use Rattle.pq_runs.proofs.Sound.{mul-le-div}

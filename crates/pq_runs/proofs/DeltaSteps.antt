@@ -1,15 +1,15 @@
 -- The steps of a writer of delta packing.
-use Rattle.std.proofs.Common.{◌≡◌, ℕ, zero, suc, ◌+◌, ◌*◌, ◌^◌, ◌<◌, ◌≤◌, ℤ, pos, ◌+ℤ◌, ◌-ℤ◌, SFits, List, [], ◌∷◌, ◌++◌, length, false, refl, sym, ap, subst, ◌∙◌, inl, inr, arith, append-nil, append_assoc}
+use Rattle.std.proofs.Common.{◌≡◌, ℕ, suc, ◌+◌, ◌*◌, ◌^◌, ◌<◌, ◌≤◌, ℤ, pos, ◌+ℤ◌, ◌-ℤ◌, SFits, List, [], ◌∷◌, ◌++◌, length, refl, sym, ap, subst, ◌∙◌, inl, inr, arith, append-nil, append_assoc}
 use Rattle.std.proofs.lemmas.Int.{ints, int_wrap_fits, int_wrap-add_right, int_wrap-sub_right}
 use Rattle.std.proofs.lemmas.List.{length-append}
 use Rattle.std.specs.Int.{Width, w64, int_wrap}
-use Rattle.pq_numbers.specs.Varint.{varint, digits}
+use Rattle.pq_numbers.specs.Varint.{varint}
 use Rattle.pq_numbers.specs.Zigzag.{zigzag}
 use Rattle.pq_numbers.proofs.Signed.{is_signed}
 use Rattle.pq_numbers.proofs.Writes.{is_number}
-use Rattle.pq_runs.specs.Delta.{Blocks, no_more, IsDelta, IsSums, sums, wrapped}
-use Rattle.pq_runs.specs.DeltaWriting.{IsBlock, DeltaSpelling, Blocked, after, Going, Deltas}
-use Rattle.pq_runs.proofs.DeltaParts.{zigzag_fits}
+use Rattle.pq_runs.specs.Delta.{IsSums, sums, wrapped}
+use Rattle.pq_runs.specs.DeltaWriting.{LeastBlocks, no_more, IsBlock, DeltaSpelling, Blocked, after, Going, Deltas}
+use Rattle.pq_runs.proofs.DeltaParts.{zigzag_fits, blocks_of}
 
 -- ---- blocks
 
@@ -36,20 +36,20 @@ blocked_flush start out out' text pending ds full e block s = record {
   size = omega (arith, length-append s.text text, length-append s.done pending, s.size, block.size, full);
 }
 
-pub blocked_last : (start out out' text : List ℕ) (pending ds : List ℤ) → out' ≡ out ++ text → IsBlock text pending → Blocked start out pending ds → (whole : List ℕ) × (out' ≡ start ++ whole) × Blocks false 4 32 whole ds × (length whole ≤ 11 * length ds + 262)
+pub blocked_last : (start out out' text : List ℕ) (pending ds : List ℤ) → out' ≡ out ++ text → IsBlock text pending → Blocked start out pending ds → (whole : List ℕ) × (out' ≡ start ++ whole) × LeastBlocks whole ds × (length whole ≤ 11 * length ds + 262)
 blocked_last start out out' text pending ds e block s =
-    let one : Blocks false 4 32 text pending = subst (λ (t : List ℕ). Blocks false 4 32 t pending) (append-nil text) (subst (λ (zs : List ℤ). Blocks false 4 32 (text ++ []) zs) (append-nil pending) (block.before [] [] (inl refl) no_more)) in (
+    let one : LeastBlocks text pending = subst (λ (t : List ℕ). LeastBlocks t pending) (append-nil text) (subst (λ (zs : List ℤ). LeastBlocks (text ++ []) zs) (append-nil pending) (block.before [] [] (inl refl) no_more)) in (
       s.text ++ text,
       e ∙ ap (λ (t : List ℕ). t ++ text) s.parts ∙ append_assoc start s.text text,
-      subst (λ (zs : List ℤ). Blocks false 4 32 (s.text ++ text) zs) s.all (s.closed text pending one),
+      subst (λ (zs : List ℤ). LeastBlocks (s.text ++ text) zs) s.all (s.closed text pending one),
       omega (arith, length-append s.text text, ap length s.all, length-append s.done pending, s.size, block.size),
     )
 
-pub blocked_whole : (start out : List ℕ) (pending ds : List ℤ) → pending ≡ [] → Blocked start out pending ds → (whole : List ℕ) × (out ≡ start ++ whole) × Blocks false 4 32 whole ds × (length whole ≤ 11 * length ds + 262)
+pub blocked_whole : (start out : List ℕ) (pending ds : List ℤ) → pending ≡ [] → Blocked start out pending ds → (whole : List ℕ) × (out ≡ start ++ whole) × LeastBlocks whole ds × (length whole ≤ 11 * length ds + 262)
 blocked_whole start out pending ds none s =
     let all : s.done ≡ ds = sym (append-nil s.done) ∙ ap (λ (t : List ℤ). s.done ++ t) (sym none) ∙ s.all in
-    let one : Blocks false 4 32 s.text s.done = subst (λ (t : List ℕ). Blocks false 4 32 t s.done) (append-nil s.text) (subst (λ (zs : List ℤ). Blocks false 4 32 (s.text ++ []) zs) (append-nil s.done) (s.closed [] [] no_more)) in
-    (s.text, s.parts, subst (λ (zs : List ℤ). Blocks false 4 32 s.text zs) all one, omega (arith, s.size, ap length all))
+    let one : LeastBlocks s.text s.done = subst (λ (t : List ℕ). LeastBlocks t s.done) (append-nil s.text) (subst (λ (zs : List ℤ). LeastBlocks (s.text ++ []) zs) (append-nil s.done) (s.closed [] [] no_more)) in
+    (s.text, s.parts, subst (λ (zs : List ℤ). LeastBlocks s.text zs) all one, omega (arith, s.size, ap length all))
 
 -- ---- sums
 
@@ -128,7 +128,7 @@ going_flush start out out' text pending pending' zs latest full none e block g =
   ends = g.ends;
 }
 
-ended : (start out : List ℕ) (zs ds : List ℤ) (first : ℤ) (text : List ℕ) → zigzag first < 2 ^ 64 → out ≡ (start ++ varint (zigzag first)) ++ text → Blocks false 4 32 text ds → length text ≤ 11 * length ds + 262 → zs ≡ sums w64 first ds → Deltas start out zs
+ended : (start out : List ℕ) (zs ds : List ℤ) (first : ℤ) (text : List ℕ) → zigzag first < 2 ^ 64 → out ≡ (start ++ varint (zigzag first)) ++ text → LeastBlocks text ds → length text ≤ 11 * length ds + 262 → zs ≡ sums w64 first ds → Deltas start out zs
 ended start out zs ds first text fits parts blocks size are = record {
   first = first;
   ds = ds;
@@ -196,6 +196,14 @@ delta_spelling start out out' zs n small count e d =
         n_fits = (omega arith, refl);
         counts = count;
         deltas = d.ds;
+        blocks = blocks_of d.text d.ds d.blocks;
+        are = d.are;
+      };
+      least = record {
+        first = d.first;
+        ds = d.ds;
+        body = d.text;
+        parts = ap (λ (k : ℕ). varint 128 ++ (varint 4 ++ (varint k ++ (h ++ d.text)))) count;
         blocks = d.blocks;
         are = d.are;
       };

@@ -1,9 +1,10 @@
 //! Blocks of delta packing.
 
-ghost use Rattle.std.specs.Prelude.{◌≡◌, ◌⊎◌, ◌<◌, ◌≤◌, ◌^◌, ◌+◌, ◌-◌, ◌*◌, ◌/◌, ◌++◌, ◌≤ℤ◌, ◌+ℤ◌, pos, ℕ, ℤ, List, [], length, take, drop, map, replicate, OnOk, All, false};
+ghost use Rattle.std.specs.Prelude.{◌≡◌, ◌⊎◌, ◌<◌, ◌≤◌, ◌^◌, ◌+◌, ◌-◌, ◌*◌, ◌/◌, ◌++◌, ◌≤ℤ◌, ◌+ℤ◌, pos, ℕ, ℤ, List, [], length, take, drop, map, replicate, OnOk, All, Contains, FitsSigned, false};
+ghost use Rattle.std.specs.Int.{w64};
 ghost use Rattle.pq_numbers.specs.Bits.{unpacked};
 ghost use Rattle.pq_runs.specs.Delta.{Miniblocks};
-ghost use Rattle.pq_runs.specs.DeltaWriting.{AreWidths, IsBlock};
+ghost use Rattle.pq_runs.specs.DeltaWriting.{IsLeastWidth, AreWidths, IsBlock};
 ghost use Rattle.pq_runs.specs.Writing.{Extends};
 
 use crate::bits::get_bit_width;
@@ -14,7 +15,8 @@ use std::alloc::AllocError;
 // The least of the deltas.
 fn least_of(deltas: &[i64]) -> i64
     requires { 0 < length deltas.now }
-    ensures { All (λ d. result ≤ℤ d) deltas.now }
+    ensures below { All (λ d. result ≤ℤ d) deltas.now }
+    ensures one { Contains deltas.now result }
 {
     let mut least = deltas[0];
     for delta in deltas {
@@ -29,7 +31,8 @@ fn least_of(deltas: &[i64]) -> i64
 fn rises(deltas: &[i64], least: i64, out: &mut [u64])
     requires size { length out.old ≡ length deltas.now }
     requires least { All (λ d. least ≤ℤ d) deltas.now }
-    ensures { map (λ m. least +ℤ pos m) out.new ≡ deltas.now }
+    ensures rises { map (λ m. least +ℤ pos m) out.new ≡ deltas.now }
+    ensures fits { All (FitsSigned w64) deltas.now }
 {
     for i in 0..deltas.len() {
         out[i] = deltas[i].abs_diff(least);
@@ -39,7 +42,7 @@ fn rises(deltas: &[i64], least: i64, out: &mut [u64])
 // The least width that holds the numbers.
 fn width_of(numbers: &[u64]) -> u32
     ensures fits { result ≤ 64 }
-    ensures holds { All (λ v. v < 2 ^ result) numbers.now }
+    ensures least { IsLeastWidth result numbers.now }
 {
     let mut most: u64 = 0;
     for number in numbers {

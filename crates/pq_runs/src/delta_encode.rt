@@ -99,7 +99,8 @@ fn push_numbers<I: Iterator<Item = i64>>(
 }
 
 /// Appends the delta spelling of the numbers, in blocks of 128 with 4 miniblocks
-/// (Parquet format, Encodings, "Delta Encoding"). Differences are taken modulo 2^64.
+/// (Parquet format, Encodings, "Delta Encoding"). Differences are taken modulo 2^64, as numbers from
+/// -2^63 on. A block states the least of its own, and each miniblock has the least width.
 ///
 /// # Errors
 ///

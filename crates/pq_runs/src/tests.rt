@@ -1,6 +1,7 @@
 use super::hybrid_rle::{Decoder, Run};
 use super::{
-    HybridRleDecoder, bitpacked_encode, decode, encode_bool, encode_u32, get_bit_width, unpack,
+    HybridRleDecoder, bitpacked_encode, decode, delta_bitpacked, encode_bool, encode_u32,
+    get_bit_width, unpack,
 };
 use columns_base::{Error, Result, S};
 use std::alloc::Global;
@@ -161,5 +162,51 @@ fn bits(rt: HostRuntime) -> Result<()> {
         push_plain(&mut out, values)?;
         assert!(rt; out.as_slice() == *plain, "plain {i}");
     }
+    Ok(())
+}
+
+fn push_deltas(out: &mut Vec<u8>, values: &[i64]) -> Result<()> {
+    delta_bitpacked::encode(out, values.iter().copied(), values.len())
+}
+
+// The standard's two examples, in blocks of 128: equal differences take no bits. The last one wraps.
+#[test]
+fn deltas(rt: HostRuntime) -> Result<()> {
+    let cases: [(&[i64], &[u8]); 5] = [
+        (&[], &[128, 1, 4, 0, 0]),
+        (&[-1], &[128, 1, 4, 1, 1]),
+        (&[1, 2, 3, 4, 5], &[128, 1, 4, 5, 2, 2, 0, 0, 0, 0]),
+        (
+            &[7, 5, 3, 1, 2, 3, 4, 5],
+            &[128, 1, 4, 8, 14, 3, 2, 0, 0, 0, 192, 63, 0, 0, 0, 0, 0, 0],
+        ),
+        (
+            &[i64::MAX, i64::MIN],
+            &[
+                128, 1, 4, 2, 254, 255, 255, 255, 255, 255, 255, 255, 255, 1, 2, 0, 0, 0, 0,
+            ],
+        ),
+    ];
+    for (i, (values, want)) in cases.iter().enumerate() {
+        let mut out: Vec<u8> = Vec::new(rt.alloc());
+        push_deltas(&mut out, values)?;
+        assert!(rt; out.as_slice() == *want, "deltas {i}");
+    }
+    Ok(())
+}
+
+// 129 differences are a full block and one of a single number, each of which has its own least one.
+#[test]
+fn two_blocks_of_deltas(rt: HostRuntime) -> Result<()> {
+    let mut values: Vec<i64> = Vec::new(rt.alloc());
+    for i in 0..129 {
+        values.push(i)?;
+    }
+    values.push(1000)?;
+    let mut out: Vec<u8> = Vec::new(rt.alloc());
+    push_deltas(&mut out, &values)?;
+    // 872 above 128, in zigzag 1,744
+    let want = [128, 1, 4, 130, 1, 0, 2, 0, 0, 0, 0, 0xd0, 0x0d, 0, 0, 0, 0];
+    assert!(rt; out.as_slice() == want.as_slice());
     Ok(())
 }

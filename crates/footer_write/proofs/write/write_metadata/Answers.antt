@@ -1,6 +1,7 @@
-use Rattle.std.proofs.Common.{subst, sym}
+use Rattle.std.proofs.Common.{◌≡◌, ◌++◌, subst, sym}
 use Rattle.pq_thrift.specs.Grammar.{Spells}
-use Rattle.pq_thrift.specs.Spelling.{IsWritable}
+use Rattle.pq_thrift.specs.Spelling.{IsWritable, spell}
+use Rattle.pq_thrift.specs.Value.{Value}
 use Rattle.footer_write.proofs.CanBeWritten.{footer_writable}
 use Rattle.footer_write.specs.FooterValue.{footer_value}
 use Rattle.footer_write.proofs.Nests.{footer_nests}
@@ -19,3 +20,6 @@ returns-clause-ok c =
     let spelled = subst (λ v. Spells e.0 v) c.in_ok-value.ensures e.1 in
     record { text = e.0; parts = e.2; spells = spelled; reads = λ h. (footer_value m, spelled, footer_nests m, footer_says m c.know_name.ensures h) })
     c.write_thrift.ensures.spells
+
+pub returns-clause-exact : goal.returns-clause-exact
+returns-clause-exact c = on_ok c.write_thrift.result (λ e. subst (λ (v : Value). c.write_thrift.new.out.items ≡ c.args.out.now.items ++ spell v) c.in_ok-value.ensures e) c.write_thrift.ensures.exact

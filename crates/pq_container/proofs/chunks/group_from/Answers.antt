@@ -4,6 +4,7 @@ use Rattle.pq_thrift.specs.Value.{Value, view, values_view, fields_view}
 use Rattle.pq_container.specs.Footer.{GroupMeta, SpellsGroup}
 use Rattle.pq_container.specs.Views.{chunk_view}
 use Rattle.pq_container.proofs.Eachs.{struct_is}
+use Rattle.pq_container.proofs.Describing.{none_described}
 use Rattle.pq_container.proofs.Parts.{columns_none, columns_refused}
 use Rattle.pq_container.proofs.chunks.group_from.Goals as goal
 
@@ -37,3 +38,6 @@ returns-clause-found c =
       compressed = (c.in_ok-_total_compressed_size._total_compressed_size, c.in_ok-_total_compressed_size.ensures.found);
       ordinal = (c.in_ok-_ordinal._ordinal, c.in_ok-_ordinal.ensures.found);
     })
+
+pub returns-clause-described : goal.returns-clause-described
+returns-clause-described c = none_described c.in_ok-columns-2.columns.items c.in_ok-columns-2.ensures.bare

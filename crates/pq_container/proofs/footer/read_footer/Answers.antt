@@ -29,3 +29,6 @@ returns-clause-refused c =
     let x : Thrift × ℕ = (c.in_ok-value.value, c.in_ok-value.field-0-1) in
     let told : Told c.args.bytes.now (Ok x) = record { complete = c.in_ok-value.ensures.complete; only_deep = c.in_ok-value.ensures.only_deep; deep = c.in_ok-value.ensures.deep; exact = c.in_ok-value.ensures.exact } in
     if_err_more c.footer_from.result (Refuses (OutOfSpec S1) (SpellsFlatFooter (view x.0))) (RefusesFooter c.args.bytes.now) (λ e r. footer_none c.args.bytes.now x e told r) c.footer_from.ensures.refused
+
+pub returns-clause-described : goal.returns-clause-described
+returns-clause-described c = c.footer_from.ensures.described

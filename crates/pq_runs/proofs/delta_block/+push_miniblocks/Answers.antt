@@ -1,4 +1,4 @@
-use Rattle.std.proofs.Common.{◌≡◌, ◌<◌, ◌≤◌, ◌^◌, ℕ, List, [], ◌++◌, length, take, drop, get_or, All, false, rules, arith, ap, subst, sym, ◌∙◌, append-nil, append_assoc}
+use Rattle.std.proofs.Common.{◌≡◌, ◌<◌, ◌^◌, ℕ, List, [], ◌++◌, length, take, get_or, All, false, rules, arith, ap, subst, sym, ◌∙◌, append-nil, append_assoc}
 use Rattle.std.proofs.lemmas.List.{length-take}
 use Rattle.pq_runs.specs.Delta.{Miniblocks}
 use Rattle.pq_runs.proofs.DeltaParts.{first_widths, mini_step, fit_there, take_rest}
@@ -17,7 +17,7 @@ push_miniblock-requires-clause-few t c = rw c.first_of.ensures (omega (arith, le
 pub push_miniblock-requires-clause-below : goal.push_miniblock-requires-clause-below
 push_miniblock-requires-clause-below t c =
     let first = first_widths c.args.widths.now c.args.numbers.now 0 (omega arith) c.requires in
-    subst (λ (w : ℕ). All (λ v. v < 2 ^ w) c.first_of.result.now) (sym c.from.ensures) (fit_there (get_or c.args.widths.now 0 0) (take 32 c.args.numbers.now) c.first_of.result.now (sym c.first_of.ensures) first.1)
+    subst (λ (w : ℕ). All (λ v. v < 2 ^ w) c.first_of.result.now) (sym c.from.ensures) (fit_there (get_or c.args.widths.now 0 0) (take 32 c.args.numbers.now) c.first_of.result.now (sym c.first_of.ensures) first.1.holds)
 
 pub returns-in_ok-push_miniblock-in-len1-up-clause-ok : goal.returns-in_ok-push_miniblock-in-len1-up-clause-ok
 returns-in_ok-push_miniblock-in-len1-up-clause-ok t c =

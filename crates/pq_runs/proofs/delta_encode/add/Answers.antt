@@ -1,4 +1,4 @@
-use Rattle.std.proofs.Common.{◌≡◌, ℕ, ℤ, List, ◌++◌, subst, ap, ◌∙◌, Option, SFits, rules}
+use Rattle.std.proofs.Common.{◌≡◌, ℕ, ℤ, ◌++◌, subst, ap, ◌∙◌, Option, SFits, rules}
 use Rattle.std.proofs.lemmas.Int.{to_z-of_z, wrapping_sub_is}
 use Rattle.std.specs.Int.{w64}
 use Rattle.pq_numbers.specs.Varint.{varint}

@@ -1,4 +1,4 @@
-use Rattle.std.proofs.Common.{◌≡◌, ℕ, ℤ, List, [], length, subst, arith, Option}
+use Rattle.std.proofs.Common.{◌≡◌, ℤ, [], subst, arith, Option}
 use Rattle.pq_runs.specs.DeltaWriting.{Begun}
 use Rattle.pq_runs.proofs.DeltaParts.{no_items}
 use Rattle.pq_runs.proofs.DeltaSteps.{deltas_none, deltas_last, deltas_whole}

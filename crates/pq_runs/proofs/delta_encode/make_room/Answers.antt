@@ -1,4 +1,4 @@
-use Rattle.std.proofs.Common.{◌≡◌, length, arith}
+use Rattle.std.proofs.Common.{arith}
 use Rattle.pq_runs.proofs.DeltaSteps.{going_flush}
 use Rattle.pq_runs.proofs.delta_encode.make_room.Goals as goal
 

@@ -1,4 +1,3 @@
-use Rattle.std.proofs.Common.{ℕ, ℤ, List}
 use Rattle.pq_runs.specs.DeltaWriting.{Begun}
 use Rattle.pq_runs.specs.Writing.{Extends}
 use Rattle.pq_runs.proofs.delta_encode.push_numbers.Given as goal

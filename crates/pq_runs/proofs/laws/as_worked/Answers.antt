@@ -1,5 +1,4 @@
 use Rattle.pq_runs.proofs.Examples.{are_worked}
-use Rattle.pq_runs.proofs.DeltaSound.{MiniFound}
 use Rattle.pq_runs.proofs.laws.as_worked.Goals as goal
 
 pub returns : goal.returns
