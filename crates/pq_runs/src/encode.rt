@@ -182,7 +182,8 @@ fn encode_numbers<I: Iterator<Item = u32>>(
     finish(out, &pending, width)
 }
 
-/// Appends hybrid runs of the numbers, each below `2^width`. Eight and more equal ones are a repeated run.
+/// Appends hybrid runs of the numbers, each below `2^width`, in at most `width + 1` bits a number and 15 bits.
+/// Eight and more equal ones are written as a repeated run, of which no clause tells.
 ///
 /// # Errors
 ///
