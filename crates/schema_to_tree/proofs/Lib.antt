@@ -5,3 +5,4 @@ pub mod Joined
 pub mod Leafy
 pub mod Rooted
 pub mod Ways
+pub mod Order

@@ -5,5 +5,6 @@ pub mod Examples
 pub mod Faults
 pub mod Leaves
 pub mod Length
+pub mod Order
 pub mod StoredViews
 pub mod Table

@@ -1,5 +1,5 @@
 //! How deep types and their trees nest.
-ghost use Rattle.std.specs.Prelude.{◌≡◌, min};
+ghost use Rattle.std.specs.Prelude.{◌≡◌, ◌≤◌, min};
 ghost use Rattle.columns_core.specs.View.{type_view, fields_view};
 ghost use Rattle.columns_core.specs.Measures.{nesting, fields_nesting};
 ghost use Rattle.schema_to_tree.specs.Depth.{tree_depth, fields_tree_depth};
@@ -40,9 +40,11 @@ pub fn fields_nesting_to(fields: &Vec<Field>, limit: usize) -> usize
     deepest
 }
 
-/// How deep the tree of a type nests, or `limit` where it nests deeper.
+/// How deep the tree of a type nests, or `limit` where it nests deeper. The type itself, which is walked whole, nests to at
+/// most 128.
 #[cycle(tree_depth)]
 pub fn tree_depth_to(data_type: &DataType, limit: usize) -> usize
+    requires { nesting (type_view data_type.now) ≤ 128 }
     ensures { result ≡ min limit (tree_depth (type_view data_type.now)) }
 {
     match data_type {
@@ -63,9 +65,10 @@ pub fn tree_depth_to(data_type: &DataType, limit: usize) -> usize
     }
 }
 
-/// How deep the deepest tree of the fields nests, or `limit` where one nests deeper.
+/// How deep the deepest tree of the fields nests, or `limit` where one nests deeper. Each type nests to at most 128.
 #[cycle(tree_depth)]
 pub fn fields_tree_depth_to(fields: &Vec<Field>, limit: usize) -> usize
+    requires { fields_nesting (fields_view fields.now.items) ≤ 128 }
     ensures { result ≡ min limit (fields_tree_depth (fields_view fields.now.items)) }
 {
     let mut deepest = 0;

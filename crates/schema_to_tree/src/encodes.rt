@@ -1,5 +1,6 @@
 //! Which encodings a type's values may have.
-ghost use Rattle.std.specs.Prelude.{◌≡◌};
+ghost use Rattle.std.specs.Prelude.{◌≡◌, ◌≤◌};
+ghost use Rattle.columns_core.specs.Measures.{nesting};
 ghost use Rattle.columns_core.specs.View.{type_view};
 ghost use Rattle.schema_to_tree.specs.Encodes as table;
 
@@ -7,8 +8,9 @@ use columns_core::DataType;
 use pq_container::Encoding;
 
 /// Whether values of the type can be written in the encoding (Parquet format, "Encodings"): plain always, the delta encodings
-/// and those of dictionaries by the type beneath its extensions.
+/// and those of dictionaries by the type beneath its extensions. The type nests to at most 128.
 pub fn can_encode(data_type: &DataType, encoding: Encoding) -> bool
+    requires { nesting (type_view data_type.now) ≤ 128 }
     ensures { result ≡ table.encodes encoding (type_view data_type.now) }
 {
     let base = data_type.base();

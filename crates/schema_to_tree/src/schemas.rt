@@ -4,6 +4,7 @@ ghost use Rattle.columns_core.specs.View.{schema_view};
 ghost use Rattle.pq_container.specs.TreeViews as trees;
 ghost use Rattle.schema_to_tree.specs.Table.{schema_of};
 ghost use Rattle.schema_to_tree.specs.Conditions.{AreWritten, RefusesSchema};
+ghost use Rattle.schema_to_tree.specs.Order.{IsFirst, schema_refusal};
 
 use crate::depth::{fields_nesting_to, fields_tree_depth_to};
 use crate::times::have_bad_time64;
@@ -18,6 +19,7 @@ use std::alloc::Global;
 pub fn to_parquet_schema(alloc: Global, schema: &Schema) -> Result<SchemaDescriptor>
     ensures ok { IfOk result (λ s. (trees.schema_view s ≡ schema_of (schema_view schema.now).fields) × AreWritten (schema_view schema.now).fields) }
     ensures err { IfErr result (RefusesSchema (schema_view schema.now).fields) }
+    ensures first { IfErr result (IsFirst (schema_refusal (schema_view schema.now).fields)) }
 {
     if fields_nesting_to(&schema.fields, MOST + 1) > MOST {
         return Err(Error::NotYetImplemented(N::N7));

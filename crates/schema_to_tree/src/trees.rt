@@ -1,11 +1,13 @@
 //! The tree of a field.
-ghost use Rattle.std.specs.Prelude.{◌≡◌, ◌⊎◌, IfOk, IfErr, None, false};
+ghost use Rattle.std.specs.Prelude.{◌≡◌, ◌≤◌, ◌⊎◌, IfOk, IfErr, None, false};
+ghost use Rattle.columns_core.specs.Measures.{nesting, field_nesting, fields_nesting};
 ghost use Rattle.columns_core.specs.Tree.{t_struct};
 ghost use Rattle.columns_core.specs.View.{type_view, field_view, fields_view};
 ghost use Rattle.pq_container.specs.TreeViews.{info_view, tree_view, trees_view};
 ghost use Rattle.schema_to_tree.specs.Table.{list_over, map_over, type_tree, tree_of, trees_of, is_compound};
 ghost use Rattle.schema_to_tree.specs.Faults.{Gives, fault, field_fault, fields_fault};
 ghost use Rattle.schema_to_tree.specs.Conditions.{IsWritten, RefusesField};
+ghost use Rattle.schema_to_tree.specs.Order.{IsFirst, field_refusal};
 
 use crate::depth::{nesting_to, tree_depth_to};
 use crate::nodes::{leaf_of, over, struct_of};
@@ -23,10 +25,11 @@ pub const MOST: usize = 128;
 /// its value type under the field's name, an extension by its inner type. A4 where the field's type has a struct without
 /// fields, A5 where it has a decimal whose precision is not from 1 to 38 or whose scale is above it, A6 where it has a 64-bit
 /// time of seconds or milliseconds, N5 where it has a type that is not written and no such time, N7 where it or the tree
-/// nests past 128.
+/// nests past 128. Where several hold, N7 goes first, then A6, then the first in the order of the parts.
 pub fn to_parquet_type(alloc: Global, field: &Field) -> Result<ParquetType>
     ensures ok { IfOk result (λ t. (tree_view t ≡ tree_of (field_view field.now)) × IsWritten (field_view field.now)) }
     ensures err { IfErr result (RefusesField (field_view field.now)) }
+    ensures first { IfErr result (IsFirst (field_refusal (field_view field.now))) }
 {
     if nesting_to(&field.data_type, MOST + 1) > MOST {
         return Err(Error::NotYetImplemented(N::N7));
@@ -42,6 +45,7 @@ pub fn to_parquet_type(alloc: Global, field: &Field) -> Result<ParquetType>
 
 #[cycle(trees)]
 fn type_tree(alloc: Global, field_info: FieldInfo, data_type: &DataType) -> Result<ParquetType>
+    requires { nesting (type_view data_type.now) ≤ 128 }
     ensures { Gives tree_view (type_tree (info_view field_info None None) (type_view data_type.now)) (fault (type_view data_type.now)) result }
 {
     match data_type {
@@ -65,6 +69,7 @@ fn leaf_tree(field_info: FieldInfo, data_type: &DataType) -> Result<ParquetType>
 
 #[cycle(trees)]
 fn list_tree(alloc: Global, field_info: FieldInfo, item: &Field) -> Result<ParquetType>
+    requires { field_nesting (field_view item.now) ≤ 128 }
     ensures { Gives tree_view (list_over (info_view field_info None None) (tree_of (field_view item.now))) (field_fault (field_view item.now)) result }
 {
     let (converted, logical) = (ConvertedType::List, LogicalType::List);
@@ -74,6 +79,7 @@ fn list_tree(alloc: Global, field_info: FieldInfo, item: &Field) -> Result<Parqu
 
 #[cycle(trees)]
 fn map_tree(alloc: Global, field_info: FieldInfo, entry: &Field) -> Result<ParquetType>
+    requires { field_nesting (field_view entry.now) ≤ 128 }
     ensures { Gives tree_view (map_over (info_view field_info None None) (tree_of (field_view entry.now))) (field_fault (field_view entry.now)) result }
 {
     let (converted, logical) = (ConvertedType::Map, LogicalType::Map);
@@ -83,6 +89,7 @@ fn map_tree(alloc: Global, field_info: FieldInfo, entry: &Field) -> Result<Parqu
 
 #[cycle(trees)]
 fn struct_tree(alloc: Global, field_info: FieldInfo, fields: &Vec<Field>) -> Result<ParquetType>
+    requires { fields_nesting (fields_view fields.now.items) ≤ 128 }
     ensures { Gives tree_view (type_tree (info_view field_info None None) (t_struct (fields_view fields.now.items))) (fault (t_struct (fields_view fields.now.items))) result }
 {
     if fields.is_empty() {
@@ -94,6 +101,7 @@ fn struct_tree(alloc: Global, field_info: FieldInfo, fields: &Vec<Field>) -> Res
 
 #[cycle(trees)]
 fn field_tree(alloc: Global, field: &Field) -> Result<ParquetType>
+    requires { field_nesting (field_view field.now) ≤ 128 }
     ensures { Gives tree_view (tree_of (field_view field.now)) (field_fault (field_view field.now)) result }
 {
     let field_info = FieldInfo {
@@ -108,9 +116,10 @@ fn field_tree(alloc: Global, field: &Field) -> Result<ParquetType>
     type_tree(alloc, field_info, &field.data_type)
 }
 
-/// The trees of the fields, in order.
+/// The trees of the fields, in order. Each type nests to at most 128.
 #[cycle(trees)]
 pub fn field_trees(alloc: Global, fields: &Vec<Field>) -> Result<Vec<ParquetType>>
+    requires { fields_nesting (fields_view fields.now.items) ≤ 128 }
     ensures { Gives (λ v. trees_view v.items) (trees_of (fields_view fields.now.items)) (fields_fault (fields_view fields.now.items)) result }
 {
     let mut trees = Vec::with_capacity(alloc, fields.len())?;

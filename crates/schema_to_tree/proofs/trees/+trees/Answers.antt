@@ -1,4 +1,5 @@
-use Rattle.std.proofs.Common.{None, rules, ap, ◌∙◌}
+use Rattle.std.proofs.Common.{None, rules, arith, ap, ◌∙◌}
+use Rattle.std.proofs.lemmas.Grind.{common_steps}
 use Rattle.pq_container.specs.Tree.{group}
 use Rattle.pq_container.specs.TreeViews.{info_view}
 use Rattle.schema_to_tree.specs.Table.{marked}
@@ -6,7 +7,8 @@ use Rattle.schema_to_tree.proofs.Joined.{join_step, join_done, fault_step, fault
 use Rattle.schema_to_tree.proofs.trees.+trees.Goals as goal
 
 pub field_trees-loop-field-preserved : goal.field_trees-loop-field-preserved
-field_trees-loop-field-preserved t c = rw c.in_ok-push.ensures.items (search (rules, join_step, fault_step))
+field_trees-loop-field-preserved t c =
+    record { made = rw c.in_ok-push.ensures.items (search (rules, join_step)); sound = search (rules, fault_step); shallow = first_of (search rules, grind (arith, common_steps)) }
 
 pub field_trees-returns : goal.field_trees-returns
 field_trees-returns t c = search (rules, join_done, fault_done)

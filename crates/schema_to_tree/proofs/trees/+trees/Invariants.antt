@@ -1,4 +1,5 @@
-use Rattle.std.proofs.Common.{◌≡◌, drop}
+use Rattle.std.proofs.Common.{◌≡◌, ◌≤◌, drop}
+use Rattle.columns_core.specs.Measures.{fields_nesting}
 use Rattle.columns_core.specs.View.{fields_view}
 use Rattle.pq_container.specs.TreeViews.{trees_view}
 use Rattle.schema_to_tree.specs.Table.{trees_of}
@@ -11,4 +12,5 @@ invariant-field_trees-loop-field l =
     record {
       made : join (trees_view l.trees.items) (trees_of (fields_view (drop l.field-index l.field-items))) ≡ trees_of (fields_view l.fields.items);
       sound : fields_fault (fields_view (drop l.field-index l.field-items)) ≡ fields_fault (fields_view l.fields.items);
+      shallow : fields_nesting (fields_view (drop l.field-index l.field-items)) ≤ 128;
     }

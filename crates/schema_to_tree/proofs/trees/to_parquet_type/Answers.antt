@@ -6,6 +6,7 @@ use Rattle.schema_to_tree.specs.Conditions.{is_bad_time64, some_field}
 use Rattle.schema_to_tree.proofs.Depths.{depth-field}
 use Rattle.schema_to_tree.proofs.Joined.{seen}
 use Rattle.schema_to_tree.proofs.Faulty.{answered, refused_or_short}
+use Rattle.schema_to_tree.proofs.Order.{field_deep, field_timed, field_given}
 use Rattle.schema_to_tree.proofs.trees.to_parquet_type.Goals as goal
 
 pub returns-then-tree_depth_to-gt-MOST-clause-err : goal.returns-then-tree_depth_to-gt-MOST-clause-err
@@ -21,3 +22,17 @@ pub returns-clause-err : goal.returns-clause-err
 returns-clause-err c =
     let f = c.args.field.now in
     refused_or_short _ _ (field_view f) _ c.field_tree.ensures (ap (some_field is_bad_time64) (seen f) ∙ sym c.if-has_bad_time64.ensures)
+
+pub returns-then-tree_depth_to-gt-MOST-clause-first : goal.returns-then-tree_depth_to-gt-MOST-clause-first
+returns-then-tree_depth_to-gt-MOST-clause-first c =
+    let f = c.args.field.now in field_deep (field_view f) (omega (arith, depth-field (field_view f) ∙ ap field_tree_depth (seen f)))
+
+pub returns-then-has_bad_time64-clause-first : goal.returns-then-has_bad_time64-clause-first
+returns-then-has_bad_time64-clause-first c =
+    let f = c.args.field.now in
+    field_timed (field_view f) (omega (arith, ap field_nesting (seen f))) (omega (arith, depth-field (field_view f) ∙ ap field_tree_depth (seen f))) (ap (some_field is_bad_time64) (seen f) ∙ sym c.if-has_bad_time64.ensures)
+
+pub returns-clause-first : goal.returns-clause-first
+returns-clause-first c =
+    let f = c.args.field.now in
+    field_given _ _ (field_view f) _ c.field_tree.ensures (omega (arith, ap field_nesting (seen f))) (omega (arith, depth-field (field_view f) ∙ ap field_tree_depth (seen f))) (ap (some_field is_bad_time64) (seen f) ∙ sym c.if-has_bad_time64.ensures)
