@@ -2,11 +2,11 @@
 use Rattle.std.proofs.Common.{◌≡◌, ◌↔◌, ℕ, zero, suc, ℤ, pos, ◌+◌, ◌<◌, Bool, IsTrue, true, false, true≢false, List, [], ◌∷◌, length, map, get_or, Option, Some, None, ◌⊎◌, inl, inr, slice_index_or, refl, ap, sym, subst, ◌∙◌, arith}
 use Rattle.std.proofs.lemmas.List.{get_or_default, map-id}
 use Rattle.std.proofs.Math.Nat.{eq-or-lt_of_le}
-use Rattle.shredding.specs.Parts.{keeps}
+use Rattle.shredding.specs.Parts.{keeps, MaskFits}
 use Rattle.columns_core.specs.Rising.{whole, IsWhole}
 use Rattle.columns_array.specs.Keys.{IsKey}
 use Rattle.columns_slots.specs.Tree.{Mask}
-use Rattle.columns_slots.specs.Slots.{MaskFits, AreKeys, entry_at}
+use Rattle.columns_slots.specs.Slots.{AreKeys, entry_at}
 
 pub mask_long : (bits : List Bool) (n i : ℕ) → MaskFits (Some bits) n → i < n → i < length bits
 mask_long bits n i f h = omega (arith, f, h)

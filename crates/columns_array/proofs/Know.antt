@@ -12,7 +12,8 @@ use Rattle.columns_core.specs.Tree.{TypeTree, t_boolean, t_int8, t_int16, t_int3
 use Rattle.columns_slots.specs.Tree.{Mask, ArrayTree, leaf_array}
 use Rattle.columns_slots.specs.Types.{is_leaf, is_boolean, is_binary, is_text, byte_width, small_item, large_item, map_item, list_item}
 use Rattle.columns_slots.specs.Bytes.{pieces, pieces_values, chunks, chunks_values}
-use Rattle.columns_slots.specs.Slots.{MaskFits, IsSound}
+use Rattle.columns_slots.specs.Slots.{IsSound}
+use Rattle.shredding.specs.Parts.{MaskFits}
 use Rattle.columns_slots.proofs.Made.{all_map, truths_typed}
 use Rattle.columns_slots.proofs.Strings.{pieces_len, pieces_cut, chunks_len, chunks_even, chunks_cut}
 use Rattle.columns_slots.proofs.Sound.{scaled, length_cut}

@@ -6,3 +6,4 @@ pub mod Know
 pub mod Nulls
 pub mod Parts
 pub mod Same
+pub mod Worked

@@ -2,11 +2,11 @@
 use Rattle.std.proofs.Common.{◌≡◌, ℕ, zero, suc, ◌+◌, ◌≤◌, ◌<◌, Bool, true, false, true≢false, not, cond, List, [], ◌∷◌, ◌++◌, length, get_or, count_by, Some, None, subst, add-one, zero-add, refl, ap, sym, ◌∙◌, arith}
 use Rattle.std.proofs.lemmas.List.Sums.{sum_by-cons}
 use Rattle.shredding.specs.Slot.{Slot, null}
-use Rattle.shredding.specs.Parts.{keeps, slots_from}
+use Rattle.shredding.specs.Parts.{keeps, slots_from, MaskFits}
 use Rattle.columns_core.specs.Tree.{TypeTree}
 use Rattle.columns_array.proofs.Keys.{kept_bit, mask_long}
 use Rattle.columns_slots.specs.Tree.{Mask, ArrayTree, null_array, leaf_array, list_array, fixed_list_array, struct_array, dictionary_array}
-use Rattle.columns_slots.specs.Slots.{MaskFits, IsSound, slot_at, tree_len, is_null, is_masked, null_slots, mask_of}
+use Rattle.columns_slots.specs.Slots.{IsSound, slot_at, tree_len, is_null, is_masked, null_slots, mask_of}
 
 abbrev weight : Bool → ℕ
 weight b = cond b 1 0

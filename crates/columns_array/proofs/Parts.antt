@@ -5,7 +5,8 @@ use Rattle.columns_core.specs.Tree.{TypeTree, t_struct, FieldTree, field, FieldT
 use Rattle.columns_core.specs.View.{type_view, field_view, fields_view, type_step, field_step}
 use Rattle.columns_core.specs.declared.types.Field.{Field, out-Field, fold_out-Field}
 use Rattle.columns_slots.specs.Tree.{Mask, ArrayTree, ArrayTrees, no_arrays, more_arrays}
-use Rattle.columns_slots.specs.Slots.{type_of, tree_len, MaskFits, first_len, count_arrays, AreTyped, AreSound, IsSound}
+use Rattle.columns_slots.specs.Slots.{type_of, tree_len, first_len, count_arrays, AreTyped, AreSound, IsSound}
+use Rattle.shredding.specs.Parts.{MaskFits}
 use Rattle.columns_array.specs.Fits.{FitParts}
 use Rattle.columns_slots.specs.Types.{fields_in, part_types}
 use Rattle.columns_array.specs.Boxed.{boxed, all_boxed}

@@ -7,11 +7,13 @@ use Rattle.columns_core.specs.Meta.{with_text, without_key, text_at}
 use Rattle.columns_core.specs.Rising.{ArePlaces, IsRising, last_place, places_from}
 use Rattle.columns_core.specs.Shapes.{shape_of, base}
 use Rattle.columns_core.specs.Measures.{nesting}
-use Rattle.columns_core.specs.Tree.{TypeTree, t_null, t_int32, t_utf8, t_fixed_size_binary, t_list, t_fixed_size_list, t_struct, t_map, t_dictionary, t_extension, FieldTree, field, FieldTrees, no_fields, more_fields}
+use Rattle.columns_core.specs.Tree.{TypeTree, t_null, t_int8, t_int32, t_utf8, t_fixed_size_binary, t_list, t_fixed_size_list, t_struct, t_map, t_dictionary, t_extension, FieldTree, field, FieldTrees, no_fields, more_fields}
 use Rattle.columns_slots.specs.Tree.{ArrayTree, null_array, ArrayTrees, no_arrays, more_arrays}
 use Rattle.columns_leaf.specs.Fixed.{fixed_count, AreWhole}
+use Rattle.columns_leaf.specs.declared.keys.DictionaryKeys.{DictionaryKeys}
+use Rattle.columns_leaf.specs.declared.keys.DictionaryKeys.TheVariants.{Int8 as Int8Keys}
 use Rattle.columns_array.specs.Chunks.{AreEven}
-use Rattle.columns_array.specs.Fits.{FitsLists, FitsFixedLists, FitsStruct}
+use Rattle.columns_array.specs.Fits.{FitsLists, FitsFixedLists, FitsStruct, FitsKeys}
 
 abbrev pub may : TypeTree → FieldTree
 may t = field (codes "a") t true []
@@ -87,7 +89,18 @@ pub record PartsAreWorked : Type 0 where
   pub string_cut : AreWhole (t_fixed_size_binary 3) (1 ∷ 2 ∷ []) → ⊥
   pub counted : fixed_count (t_fixed_size_binary 3) (1 ∷ 2 ∷ 3 ∷ 4 ∷ 5 ∷ 6 ∷ []) ≡ 2
 
+-- the keys 1, null and 0
+abbrev pub three_keys : DictionaryKeys
+three_keys = Int8Keys (t_int8, (pos 1 ∷ pos 9 ∷ pos 0 ∷ [], Some (true ∷ false ∷ true ∷ [])))
+
+pub record KeysAreWorked : Type 0 where
+  pub keys : FitsKeys (t_dictionary key.Int8 t_null false) three_keys (nulls 2)
+  pub key_of_no_entry : FitsKeys (t_dictionary key.Int8 t_null false) three_keys (nulls 1) → ⊥
+  pub other_keys : FitsKeys (t_dictionary key.Int16 t_null false) three_keys (nulls 2) → ⊥
+  pub other_entries : FitsKeys (t_dictionary key.Int8 t_int32 false) three_keys (nulls 2) → ⊥
+
 pub record AreWorked : Type 0 where
   pub buffers : BuffersAreWorked
   pub shapes : ShapesAreWorked
   pub parts : PartsAreWorked
+  pub keys : KeysAreWorked

@@ -2,7 +2,8 @@
 use Rattle.std.specs.Prelude.{◌≡◌, ℕ, ◌-◌, ◌/◌, ◌%◌, ◌<◌, List, length, Option, Some}
 use Rattle.columns_core.specs.Tree.{TypeTree, FieldTree, field, FieldTrees, no_fields, more_fields}
 use Rattle.columns_slots.specs.Tree.{Mask, ArrayTree, ArrayTrees, no_arrays, more_arrays}
-use Rattle.columns_slots.specs.Slots.{type_of, tree_len, first_len, count_arrays, MaskFits, IsPlaces, AreKeys}
+use Rattle.columns_slots.specs.Slots.{type_of, tree_len, first_len, count_arrays, IsPlaces, AreKeys}
+use Rattle.shredding.specs.Parts.{MaskFits}
 use Rattle.columns_slots.specs.Types.{fixed_item, fixed_size, entry_type, key_type, part_types}
 use Rattle.columns_leaf.specs.Keyed.{keys_of, key_mask, key_kind}
 use Rattle.columns_leaf.specs.declared.keys.DictionaryKeys.{DictionaryKeys}

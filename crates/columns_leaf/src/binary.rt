@@ -2,7 +2,8 @@
 ghost use Rattle.std.specs.Prelude.{◌≡◌, ◌↔◌, ◌+◌, ◌-◌, ◌≤◌, ◌<◌, ◌⊎◌, IsTrue, true, false, IfOk, IfErr, IsErrOf, option_map, take, drop, length as list_length};
 ghost use Rattle.columns_core.specs.View.{type_view};
 ghost use Rattle.columns_core.specs.Shapes.{base};
-ghost use Rattle.columns_slots.specs.Slots.{IsPlaces, MaskFits, cut_mask, nulls_in};
+ghost use Rattle.columns_slots.specs.Slots.{IsPlaces, cut_mask, nulls_in};
+ghost use Rattle.shredding.specs.Parts.{MaskFits};
 ghost use Rattle.columns_slots.specs.Types.{is_binary};
 
 use crate::validity::{copy_validity, count_unset, cut_validity, mask_fits};
@@ -31,7 +32,8 @@ impl<O: Offset> Model for BinaryArray<O> {
     ghost use Rattle.columns_core.specs.View.{type_view};
     ghost use Rattle.columns_core.specs.Shapes.{base};
     ghost use Rattle.columns_slots.specs.Tree.{Mask, mask_code};
-    ghost use Rattle.columns_slots.specs.Slots.{IsPlaces, MaskFits};
+    ghost use Rattle.columns_slots.specs.Slots.{IsPlaces};
+    ghost use Rattle.shredding.specs.Parts.{MaskFits};
     ghost use Rattle.columns_slots.specs.Types.{is_binary};
 
     ghost Value = { TypeTree × (List ℕ × (List ℕ × Mask)) };

@@ -2,7 +2,8 @@
 ghost use Rattle.std.specs.Prelude.{◌≡◌, ◌↔◌, ◌⊎◌, ℕ, ◌+◌, ◌*◌, ◌≤◌, ◌<◌, IfOk, IfErr, IsErrOf, Some, option_map, take, drop, length as list_length};
 ghost use Rattle.columns_core.specs.View.{type_view};
 ghost use Rattle.columns_core.specs.Shapes.{base};
-ghost use Rattle.columns_slots.specs.Slots.{MaskFits, cut_mask, nulls_in};
+ghost use Rattle.columns_slots.specs.Slots.{cut_mask, nulls_in};
+ghost use Rattle.shredding.specs.Parts.{MaskFits};
 ghost use Rattle.columns_slots.specs.Types.{byte_width};
 ghost use Rattle.columns_leaf.specs.Fixed.{fixed_width, fixed_count, AreWhole};
 
@@ -33,7 +34,7 @@ impl Model for FixedSizeBinaryArray {
     ghost use Rattle.columns_core.specs.View.{type_view};
     ghost use Rattle.columns_core.specs.Shapes.{base};
     ghost use Rattle.columns_slots.specs.Tree.{Mask, mask_code};
-    ghost use Rattle.columns_slots.specs.Slots.{MaskFits};
+    ghost use Rattle.shredding.specs.Parts.{MaskFits};
     ghost use Rattle.columns_leaf.specs.Fixed.{fixed_width};
 
     ghost Value = { TypeTree × (List ℕ × Mask) };

@@ -1,7 +1,8 @@
 //! The keys of a dictionary array.
 ghost use Rattle.std.specs.Prelude.{◌≡◌, ◌+◌, ◌≤◌, IfOk, IfErr, option_map, take, drop, length as list_length};
 ghost use Rattle.columns_leaf.specs.Keyed.{keys_of, key_mask, key_kind};
-ghost use Rattle.columns_slots.specs.Slots.{cut_mask, MaskFits, nulls_in};
+ghost use Rattle.columns_slots.specs.Slots.{cut_mask, nulls_in};
+ghost use Rattle.shredding.specs.Parts.{MaskFits};
 
 use crate::leaves::PrimitiveArray;
 use columns_core::bitmap::Bitmap;

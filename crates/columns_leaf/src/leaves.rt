@@ -3,7 +3,8 @@ ghost use Rattle.std.specs.Prelude.{◌≡◌, ◌↔◌, ◌+◌, ◌≤◌, �
 ghost use Rattle.shredding.specs.Shape.{IsInRange};
 ghost use Rattle.columns_core.specs.View.{type_view};
 ghost use Rattle.columns_core.specs.Shapes.{base, leaf_type};
-ghost use Rattle.columns_slots.specs.Slots.{MaskFits, cut_mask, nulls_in};
+ghost use Rattle.columns_slots.specs.Slots.{cut_mask, nulls_in};
+ghost use Rattle.shredding.specs.Parts.{MaskFits};
 ghost use Rattle.columns_slots.specs.Types.{is_null_type, is_boolean};
 
 use crate::validity::{copy_validity, count_unset, cut_validity, mask_fits};
@@ -154,7 +155,7 @@ impl Model for BooleanArray {
     ghost use Rattle.columns_core.specs.View.{type_view};
     ghost use Rattle.columns_core.specs.Shapes.{base};
     ghost use Rattle.columns_slots.specs.Tree.{Mask, mask_code};
-    ghost use Rattle.columns_slots.specs.Slots.{MaskFits};
+    ghost use Rattle.shredding.specs.Parts.{MaskFits};
     ghost use Rattle.columns_slots.specs.Types.{is_boolean};
 
     ghost Value = { TypeTree × (List Bool × Mask) };
@@ -280,7 +281,7 @@ impl<T: NativeType> Model for PrimitiveArray<T> {
     ghost use Rattle.columns_core.specs.View.{type_view};
     ghost use Rattle.columns_core.specs.Shapes.{base};
     ghost use Rattle.columns_slots.specs.Tree.{Mask, mask_code};
-    ghost use Rattle.columns_slots.specs.Slots.{MaskFits};
+    ghost use Rattle.shredding.specs.Parts.{MaskFits};
 
     ghost Value = { TypeTree × (List T × Mask) };
 

@@ -2,7 +2,8 @@
 ghost use Rattle.std.specs.Prelude.{◌≡◌, ◌↔◌, ◌+◌, ◌-◌, ◌≤◌, ◌<◌, ◌^◌, ◌⊎◌, IsTrue, true, false, IfOk, IfErr, IsErrOf, option_map, take, drop, slice_index_or, All, IsUtf8, [], length as list_length};
 ghost use Rattle.columns_core.specs.View.{type_view};
 ghost use Rattle.columns_core.specs.Shapes.{base};
-ghost use Rattle.columns_slots.specs.Slots.{IsPlaces, MaskFits, cut_mask, nulls_in};
+ghost use Rattle.columns_slots.specs.Slots.{IsPlaces, cut_mask, nulls_in};
+ghost use Rattle.shredding.specs.Parts.{MaskFits};
 ghost use Rattle.columns_slots.specs.Types.{is_text};
 ghost use Rattle.columns_slots.specs.Bytes.{pieces};
 ghost use Rattle.columns_leaf.specs.Texts.{IsText, AreTexts};
@@ -34,7 +35,8 @@ impl<O: Offset> Model for Utf8Array<O> {
     ghost use Rattle.columns_core.specs.View.{type_view};
     ghost use Rattle.columns_core.specs.Shapes.{base};
     ghost use Rattle.columns_slots.specs.Tree.{Mask, mask_code};
-    ghost use Rattle.columns_slots.specs.Slots.{IsPlaces, MaskFits};
+    ghost use Rattle.columns_slots.specs.Slots.{IsPlaces};
+    ghost use Rattle.shredding.specs.Parts.{MaskFits};
     ghost use Rattle.columns_slots.specs.Types.{is_text};
     ghost use Rattle.columns_slots.specs.Bytes.{pieces};
     ghost use Rattle.columns_leaf.specs.Texts.{AreTexts};

@@ -1,6 +1,7 @@
 //! Masks over the positions of an array (Arrow columnar format, "Validity bitmaps").
 ghost use Rattle.std.specs.Prelude.{◌≡◌, ◌↔◌, ◌+◌, ◌≤◌, IsTrue, IfOk, IfErr, option_map, length as list_length};
-ghost use Rattle.columns_slots.specs.Slots.{MaskFits, IsMaskOver, cut_mask, nulls_in};
+ghost use Rattle.columns_slots.specs.Slots.{IsMaskOver, cut_mask, nulls_in};
+ghost use Rattle.shredding.specs.Parts.{MaskFits};
 
 use columns_core::bitmap::Bitmap;
 use columns_core::{Error, Result};

@@ -4,9 +4,9 @@ use Rattle.std.proofs.Math.Seq.{drop-cons}
 use Rattle.std.proofs.lemmas.List.{take_all}
 use Rattle.std.proofs.lemmas.List.Sums.{sum_by-cons}
 use Rattle.shredding.specs.Slot.{Slot, null, value, items, fields, slots_of}
-use Rattle.shredding.specs.Parts.{slots_from}
+use Rattle.shredding.specs.Parts.{slots_from, MaskFits}
 use Rattle.columns_slots.specs.Tree.{Mask, ArrayTree, null_array, leaf_array, list_array, fixed_list_array, struct_array, dictionary_array}
-use Rattle.columns_slots.specs.Slots.{masked, MaskFits, IsSound, slot_at, slots_at, leaf_at, first_of, count_of, is_null, nulls_in, is_masked, null_slots, mask_of}
+use Rattle.columns_slots.specs.Slots.{masked, IsSound, slot_at, slots_at, leaf_at, first_of, count_of, is_null, nulls_in, is_masked, null_slots, mask_of}
 
 abbrev weight : Bool → ℕ
 weight b = cond b 1 0

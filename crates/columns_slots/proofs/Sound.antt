@@ -5,12 +5,12 @@ use Rattle.std.proofs.lemmas.Nat.{mul-le}
 use Rattle.std.proofs.Math.Nat.{add-mul}
 use Rattle.std.proofs.lemmas.List.Elements.{All-take, All-drop}
 use Rattle.shredding.specs.Shape.{IsInRange}
-use Rattle.shredding.specs.Parts.{keeps}
+use Rattle.shredding.specs.Parts.{keeps, MaskFits}
 use Rattle.columns_core.specs.Shapes.{leaf_type, base}
 use Rattle.columns_core.specs.Tree.{field, FieldTrees, no_fields, more_fields}
 use Rattle.columns_slots.specs.Tree.{Mask, ArrayTree, null_array, leaf_array, list_array, fixed_list_array, struct_array, dictionary_array, ArrayTrees, no_arrays, more_arrays}
 use Rattle.columns_slots.specs.Types.{part_types}
-use Rattle.columns_slots.specs.Slots.{tree_len, first_len, cut, cut_all, cut_mask, type_of, AreTyped, count_arrays, AreKeys, MaskFits, IsMaskOver, AreLong, IsPlaces, AreUpTo, IsSound, AreSound}
+use Rattle.columns_slots.specs.Slots.{tree_len, first_len, cut, cut_all, cut_mask, type_of, AreTyped, count_arrays, AreKeys, IsMaskOver, AreLong, IsPlaces, AreUpTo, IsSound, AreSound}
 
 pub length_cut : {A : Type 0} (xs : List A) (o n : ℕ) → o + n ≤ length xs → length (take n (drop o xs)) ≡ n
 length_cut xs o n h = omega (arith, length-take n (drop o xs), length-drop o xs, h)

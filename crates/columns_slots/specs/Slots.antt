@@ -2,7 +2,7 @@
 use Rattle.std.specs.Prelude.{◌≡◌, ℕ, ℤ, pos, ◌+◌, ◌-◌, ◌*◌, ◌≤◌, ◌<◌, List, [], ◌∷◌, length, take, drop, slice_index_or, Bool, true, false, cond, Some, None, option_map, All, count_by, not}
 use Rattle.shredding.specs.Slot.{Value, truth, Slot, null, value, items, fields, Slots, no_slots, slot, slots_of}
 use Rattle.shredding.specs.Shape.{IsInRange}
-use Rattle.shredding.specs.Parts.{keeps, slots_from}
+use Rattle.shredding.specs.Parts.{keeps, slots_from, MaskFits}
 use Rattle.columns_core.specs.Shapes.{leaf_type, base}
 use Rattle.columns_core.specs.Rising.{whole, IsWhole}
 use Rattle.columns_core.specs.Tree.{TypeTree, field, FieldTrees, no_fields, more_fields}
@@ -78,11 +78,6 @@ mask_of (struct_array t cs m) = m
 mask_of (dictionary_array t ks c m) = m
 
 -- ---- soundness
-
--- a mask has a bit for each position
-abbrev pub MaskFits : Mask → ℕ → Type 0
-MaskFits None n = Unit {0}
-MaskFits (Some bits) n = length bits ≡ n
 
 abbrev pub AreUpTo : ℕ → List ℕ → ℕ → Type 0
 AreUpTo o [] n = o ≤ n

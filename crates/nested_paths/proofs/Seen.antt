@@ -2,14 +2,14 @@
 use Rattle.std.proofs.Common.{◌≡◌, ℕ, zero, suc, ◌+◌, ◌-◌, ◌≤◌, ◌<◌, Bool, true, false, cond, Option, Some, None, List, [], ◌∷◌, map, length, get_or, refl, sym, ap, ◌∙◌, arith}
 use Rattle.shredding.specs.Along.{along, thin}
 use Rattle.shredding.specs.Parts as P
-use Rattle.shredding.specs.Parts.{Part, leaf_part, list_part, struct_part, keeps, is_present, slot_count, slots_from, path_way}
+use Rattle.shredding.specs.Parts.{Part, leaf_part, list_part, struct_part, keeps, is_present, slot_count, slots_from, path_way, MaskFits}
 use Rattle.shredding.specs.Shape.{Shapes, Way, at_leaf, in_list, in_struct, one_on, ways, ways_of}
 use Rattle.shredding.specs.Slot as S
 use Rattle.shredding.specs.Slot.{Slot, null, value, items, fields, Slots, no_slots, slot, slots_of, list_of}
 use Rattle.shredding.proofs.Along.{list_of-slots_of, seen_along}
 use Rattle.columns_base.specs.declared.error.Error.{Error}
 use Rattle.columns_slots.specs.Tree.{Mask, ArrayTree, null_array, leaf_array, list_array, fixed_list_array, struct_array, dictionary_array, ArrayTrees, no_arrays, more_arrays}
-use Rattle.columns_slots.specs.Slots.{slot_at, slots_at, slots, tree_len, first_len, count_arrays, masked, MaskFits, IsPlaces, IsSound, AreSound}
+use Rattle.columns_slots.specs.Slots.{slot_at, slots_at, slots, tree_len, first_len, count_arrays, masked, IsPlaces, IsSound, AreSound}
 use Rattle.columns_slots.proofs.Made.{places_last}
 use Rattle.columns_slots.proofs.Sound.{some_place}
 use Rattle.columns_slots.proofs.Rows.{slots_counted}

@@ -10,21 +10,22 @@ use Rattle.pq_container.specs.Header.{DataHeader, data_page}
 use Rattle.pq_container.specs.Physical.{Physical, int32}
 use Rattle.pq_container.specs.Tree.{Leaf, max_definition, max_repetition}
 use Rattle.pq_files.specs.Levels.{HasLevels, IsBehindLength}
-use Rattle.pq_files.specs.Page.{Encoding, plain, encoding_numbered, IsSpelled, IsPage, BeginsRow}
+use Rattle.pq_files.specs.Page.{Encoding, plain, encoding_numbered, IsSpelled, IsPage}
+use Rattle.shredding.specs.Laws.{BeginsRow}
 use Rattle.pq_files.specs.Plain.{IsPlain}
 use Rattle.pq_files.proofs.Sections.{behind_length}
 use Rattle.pq_files.proofs.Triples.{count_present}
 use Rattle.pq_files.proofs.Unique.{every, levels_same}
 use Rattle.pq_numbers.specs.Texts.{Begins}
 use Rattle.shredding.specs.Triples.{triples_from, BeginsAtZero, ArePairs}
-use Rattle.page_read.specs.PlainPage.{IsPlainPage, HasLevelPairs, called_for, IsPlainBody, BeginsWithRow, LacksLevelPairs, BeginsInRow, LacksValues, RefusesBody}
+use Rattle.page_read.specs.PlainPage.{IsPlainPage, HasLevelPairs, called_for, IsPlainBody, LacksLevelPairs, BeginsInRow, LacksValues, RefusesBody}
 use Rattle.page_read.proofs.Matched.{repetitions_of, definitions_of, values_of, are_present}
 
-begins : (ts : List Triple) → BeginsWithRow (map (λ t. t.repetition) ts) → BeginsRow ts
+begins : (ts : List Triple) → BeginsAtZero (map (λ t. t.repetition) ts) → BeginsRow ts
 begins [] h = tt
 begins (t ∷ ts) h = h
 
-begins_back : (ts : List Triple) → BeginsRow ts → BeginsWithRow (map (λ t. t.repetition) ts)
+begins_back : (ts : List Triple) → BeginsRow ts → BeginsAtZero (map (λ t. t.repetition) ts)
 begins_back [] h = tt
 begins_back (t ∷ ts) h = h
 
@@ -52,7 +53,7 @@ is_page l h max_r max_d count body rs ds vs is b =
       has_encoding = ap encoding_numbered is.encoding;
       values = subst (λ (xs : List Value). Begins (IsPlain l.physical) b.section xs) (sym vals) (subst (λ (p : Physical). Begins (IsPlain p) b.section vs) (sym is.physical) b.values);
       counted = is.pairs ∙ sym b.pairs.as_many ∙ ap length (sym reps) ∙ length-map ts (λ (t : Triple). t.repetition);
-      begins_row = begins ts (subst BeginsWithRow (sym reps) b.begins);
+      begins_row = begins ts (subst BeginsAtZero (sym reps) b.begins);
     }
 
 -- ---- and back
@@ -152,10 +153,10 @@ pairs_same max_r max_d count body rs ds section xs ys left a b =
       section = same.section;
     }
 
-pub not_inside : (max_r max_d count : ℕ) (body rs ds section : List ℕ) → HasLevelPairs max_r max_d count body rs ds section → BeginsWithRow rs → BeginsInRow max_r max_d count body → ⊥
+pub not_inside : (max_r max_d count : ℕ) (body rs ds section : List ℕ) → HasLevelPairs max_r max_d count body rs ds section → BeginsAtZero rs → BeginsInRow max_r max_d count body → ⊥
 not_inside max_r max_d count body rs ds section has row inside =
     let same = pairs_same max_r max_d count body rs ds section inside.rs inside.ds inside.section has inside.pairs in
-    inside.inside (subst BeginsWithRow same.repetition row)
+    inside.inside (subst BeginsAtZero same.repetition row)
 
 pub not_lacking : (max_r max_d count : ℕ) (body rs ds : List ℕ) (vs : List Value) → IsPlainBody max_r max_d count body rs ds vs → LacksValues max_r max_d count body → ⊥
 not_lacking max_r max_d count body rs ds vs b lacks =
@@ -177,15 +178,11 @@ no_body max_r max_d count body e refused = elim refused [
 
 -- ---- the levels of a body are pairs
 
-zero_first : (rs : List ℕ) → BeginsWithRow rs → BeginsAtZero rs
-zero_first [] h = tt
-zero_first (r ∷ rs) h = h
-
 pub are_pairs : (max_r max_d count : ℕ) (body rs ds : List ℕ) (zs : List ℤ) → IsPlainBody max_r max_d count body rs ds (map number zs) → ArePairs max_r max_d rs ds (length zs)
 are_pairs max_r max_d count body rs ds zs b = record {
   even = b.pairs.as_many ∙ sym b.pairs.as_many_definitions;
   repeated = b.pairs.repetitions.within;
   defined = b.pairs.definitions.within;
   present = b.present ∙ length-map zs number;
-  begins = zero_first rs b.begins;
+  begins = b.begins;
 }

@@ -6,7 +6,7 @@ use Rattle.std.proofs.lemmas.List.Sums.{sum_by-cons}
 use Rattle.std.specs.Prelude.{count_by}
 use Rattle.shredding.specs.Slot.{Value}
 use Rattle.shredding.specs.Shred.{Triple}
-use Rattle.shredding.specs.Triples.{value_if, left_if, triples_from}
+use Rattle.shredding.specs.Triples.{value_if, left_if, triples_from, BeginsAtZero}
 use Rattle.pq_container.specs.Header.{DataHeader}
 use Rattle.pq_container.specs.Physical.{Physical, int32}
 use Rattle.pq_container.specs.Tree.{Leaf, max_definition, max_repetition}
@@ -15,7 +15,7 @@ use Rattle.pq_files.specs.Page.{Encoding, plain, encoding_numbered, IsSpelled}
 use Rattle.pq_files.specs.PageReasons.{HasPairs, GoesOn, S6, called_by}
 use Rattle.pq_files.specs.Plain.{IsPlain}
 use Rattle.pq_numbers.specs.Texts.{Begins}
-use Rattle.page_read.specs.PlainPage.{IsPlainPage, HasLevelPairs, called_for, BeginsWithRow, BeginsInRow, LacksValues}
+use Rattle.page_read.specs.PlainPage.{IsPlainPage, HasLevelPairs, called_for, BeginsInRow, LacksValues}
 use Rattle.page_read.specs.PageErrors.{raw_page, ErrorsAreReasons}
 use Rattle.page_read.proofs.Bodies.{behind_same, encoding_is}
 use Rattle.page_read.proofs.RunsFront.{first_of_runs}
@@ -82,7 +82,7 @@ has_level_pairs l h max_r max_d count body ts is has =
       as_many_definitions = length-map ts (λ (t : Triple). t.definition) ∙ many;
     }
 
-row_or_not : (rs : List ℕ) → BeginsWithRow rs ⊎ (BeginsWithRow rs → ⊥)
+row_or_not : (rs : List ℕ) → BeginsAtZero rs ⊎ (BeginsAtZero rs → ⊥)
 row_or_not [] = inl tt
 row_or_not (zero ∷ rs) = inl refl
 row_or_not (suc r ∷ rs) = inr (λ e. absurd (omega (arith, e)))
@@ -104,7 +104,7 @@ front_level max section x xs has =
       within = All-cons (λ level. level ≤ max) x [] (recursion_from_All (λ level. level ≤ max) (x ∷ xs) has.within).0 (All-nil (λ level. level ≤ max));
     }
 
-inside_at : (l : Leaf) (h : DataHeader) (max_r max_d count : ℕ) (body rs ds section : List ℕ) → IsPlainPage l h max_r max_d count → HasLevelPairs max_r max_d count body rs ds section → (BeginsWithRow rs → ⊥) → GoesOn l (raw_page h body)
+inside_at : (l : Leaf) (h : DataHeader) (max_r max_d count : ℕ) (body rs ds section : List ℕ) → IsPlainPage l h max_r max_d count → HasLevelPairs max_r max_d count body rs ds section → (BeginsAtZero rs → ⊥) → GoesOn l (raw_page h body)
 inside_at l h max_r max_d count body [] ds section is b inside = absurd (inside tt)
 inside_at l h max_r max_d count body (r ∷ rs) [] section is b inside = absurd (omega (arith, b.as_many, b.as_many_definitions))
 inside_at l h max_r max_d count body (zero ∷ rs) (d ∷ ds) section is b inside = absurd (inside refl)
@@ -125,7 +125,7 @@ inside_at l h max_r max_d count body (suc r ∷ rs) (d ∷ ds) section is b insi
   repeats = omega arith;
 }
 
-goes_on_at : (l : Leaf) (h : DataHeader) (max_r max_d count : ℕ) (body rs ds section : List ℕ) → IsPlainPage l h max_r max_d count → HasLevelPairs max_r max_d count body rs ds section → GoesOn l (raw_page h body) → BeginsWithRow rs → ⊥
+goes_on_at : (l : Leaf) (h : DataHeader) (max_r max_d count : ℕ) (body rs ds section : List ℕ) → IsPlainPage l h max_r max_d count → HasLevelPairs max_r max_d count body rs ds section → GoesOn l (raw_page h body) → BeginsAtZero rs → ⊥
 goes_on_at l h max_r max_d count body [] ds section is b g row = absurd (omega (arith, b.as_many, is.pairs, g.shows.few))
 goes_on_at l h max_r max_d count body (r ∷ rs) ds section is b g row =
     let split = g.shows.split in

@@ -1,9 +1,10 @@
 -- A data page of version 1 with plain INT32 values, by the numbers that a reader goes by.
-use Rattle.std.specs.Prelude.{◌≡◌, ◌⊎◌, ◌↔◌, ℕ, pos, List, [], ◌∷◌, length, count_by, nat_eq, Result, Ok, Err}
+use Rattle.std.specs.Prelude.{◌≡◌, ◌⊎◌, ◌↔◌, ℕ, pos, List, length, count_by, nat_eq, Result, Ok, Err}
 use Rattle.columns_base.specs.declared.error.Error.{Error}
 use Rattle.columns_base.specs.declared.error.Error.TheVariants.{OutOfSpec, Memory}
 use Rattle.columns_base.specs.declared.error.S.TheVariants.{S4, S5, S6}
 use Rattle.shredding.specs.Slot.{Value}
+use Rattle.shredding.specs.Triples.{BeginsAtZero}
 use Rattle.pq_container.specs.Header.{DataHeader, data_page}
 use Rattle.pq_container.specs.Physical.{int32}
 use Rattle.pq_container.specs.Tree.{Leaf, max_definition, max_repetition}
@@ -21,11 +22,6 @@ pub record IsPlainPage (l : Leaf) (h : DataHeader) (max_r max_d count : ℕ) : T
   pub pairs : h.num_values ≡ count
   pub encoding : h.encoding ≡ pos 0
   pub runs : LevelsAreRuns l (data_page h)
-
--- nothing, or a row begins
-abbrev pub BeginsWithRow : List ℕ → Type 0
-BeginsWithRow [] = Unit {0}
-BeginsWithRow (r ∷ rs) = r ≡ 0
 
 -- The pairs of levels at the front of a body, so many: both sections of levels lie in it, have as many and pass no maximum. Behind them
 -- lies the section of values.
@@ -48,7 +44,7 @@ called_for max_d ds = count_by (λ d. nat_eq d max_d) ds
 pub record IsPlainBody (max_r max_d count : ℕ) (body rs ds : List ℕ) (vs : List Value) : Type 0 where
   pub section : List ℕ
   pub pairs : HasLevelPairs max_r max_d count body rs ds section
-  pub begins : BeginsWithRow rs
+  pub begins : BeginsAtZero rs
   pub values : Begins (IsPlain int32) section vs
   pub present : called_for max_d ds ≡ length vs
 
@@ -64,7 +60,7 @@ pub record BeginsInRow (max_r max_d count : ℕ) (body : List ℕ) : Type 0 wher
   pub ds : List ℕ
   pub section : List ℕ
   pub pairs : HasLevelPairs max_r max_d count body rs ds section
-  pub inside : BeginsWithRow rs → ⊥
+  pub inside : BeginsAtZero rs → ⊥
 
 -- the pairs are there, and a row begins; of the values that they call for some are not
 pub record LacksValues (max_r max_d count : ℕ) (body : List ℕ) : Type 0 where
@@ -72,7 +68,7 @@ pub record LacksValues (max_r max_d count : ℕ) (body : List ℕ) : Type 0 wher
   pub ds : List ℕ
   pub section : List ℕ
   pub pairs : HasLevelPairs max_r max_d count body rs ds section
-  pub begins : BeginsWithRow rs
+  pub begins : BeginsAtZero rs
   pub none : (vs : List Value) → length vs ≡ called_for max_d ds → Begins (IsPlain int32) section vs → ⊥
 
 -- each error of a body by its reason

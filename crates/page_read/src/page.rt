@@ -3,14 +3,14 @@ ghost use Rattle.std.specs.Prelude.{◌≡◌, ◌⊎◌, ℕ, List, None, lengt
 ghost use Rattle.columns_base.specs.declared.error.Error.{Error};
 ghost use Rattle.columns_base.specs.declared.error.S.{S};
 ghost use Rattle.shredding.specs.Shape.{IsInRange, signed};
-ghost use Rattle.shredding.specs.Triples.{ArePairs};
+ghost use Rattle.shredding.specs.Triples.{ArePairs, BeginsAtZero};
 ghost use Rattle.shredding.specs.Shred.{Triple};
 ghost use Rattle.shredding.specs.Slot.{Value, number};
 ghost use Rattle.pq_container.specs.Header.{DataHeader, data_page};
 ghost use Rattle.pq_container.specs.Tree.{Leaf};
 ghost use Rattle.pq_files.specs.Page.{IsPage};
 ghost use Rattle.page_read.specs.LevelPairs.{triples};
-ghost use Rattle.page_read.specs.PlainPage.{IsPlainPage, IsPlainBody, BeginsWithRow, RefusesBody, ComesWhere, LacksLevelPairs, BeginsInRow, LacksValues};
+ghost use Rattle.page_read.specs.PlainPage.{IsPlainPage, IsPlainBody, RefusesBody, ComesWhere, LacksLevelPairs, BeginsInRow, LacksValues};
 
 use crate::levels::read_levels;
 use crate::pairs::LevelPairs;
@@ -27,7 +27,7 @@ fn count_of(levels: &[u32], maximum: u32) -> usize
 }
 
 fn begins_with_row(levels: &[u32]) -> bool
-    ensures { IsTrue result ↔ BeginsWithRow levels.now }
+    ensures { IsTrue result ↔ BeginsAtZero levels.now }
 {
     match levels {
         [] => true,

@@ -6,7 +6,8 @@ use Rattle.std.proofs.lemmas.List.Sums.{sum_by-cons}
 use Rattle.std.proofs.lemmas.List.Elements.{All-cons, All-nil}
 use Rattle.shredding.specs.Slot.{Value}
 use Rattle.shredding.specs.Shred.{Triple}
-use Rattle.pq_files.specs.Page.{BeginsRow, rows_in, values_in}
+use Rattle.pq_files.specs.Page.{rows_in, values_in}
+use Rattle.shredding.specs.Laws.{BeginsRow}
 use Rattle.shredding.specs.Triples.{value_if, left_if, triples_from, BeginsAtZero}
 
 pub repetitions-triples : (max : ℕ) (rs ds : List ℕ) (vs : List Value) → length rs ≡ length ds → map (λ t. t.repetition) (triples_from max rs ds vs) ≡ rs

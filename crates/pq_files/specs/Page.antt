@@ -2,6 +2,7 @@
 use Rattle.std.specs.Prelude.{◌≡◌, ◌≢◌, ◌⊎◌, ℕ, zero, suc, ℤ, pos, negsuc, List, [], ◌∷◌, ◌++◌, length, map, filter_map, count_by, All, is_some, nat_eq, IsTrue, Option, Some, None, ◌==◌, if◌then◌else◌}
 use Rattle.std.specs.Int.{w32, w64}
 use Rattle.shredding.specs.Slot.{Value}
+use Rattle.shredding.specs.Laws.{BeginsRow}
 use Rattle.shredding.specs.Shred.{Triple}
 use Rattle.pq_files.specs.Delta.{AreDeltas, AreDeltaLengths}
 use Rattle.pq_container.specs.Header.{Header, data_page, data_page_2, dictionary_page}
@@ -81,11 +82,6 @@ rows_in ts = count_by (λ t. nat_eq t.repetition 0) ts
 
 abbrev pub values_in : List Triple → List Value
 values_in ts = filter_map (λ t. t.value) ts
-
--- nothing, or a row begins
-abbrev pub BeginsRow : List Triple → Type 0
-BeginsRow [] = Unit {0}
-BeginsRow (t ∷ ts) = t.repetition ≡ 0
 
 -- the header's counts
 abbrev pub IsCounted : Header → List Triple → Type 0

@@ -8,7 +8,8 @@ use Rattle.shredding.specs.Slot.{Value}
 use Rattle.pq_container.specs.Header.{Header, data_page_2}
 use Rattle.pq_container.specs.Tree.{Leaf, max_definition}
 use Rattle.pq_files.specs.Chunk.{RawPage, HasEntries, count_in}
-use Rattle.pq_files.specs.Page.{Encoding, dictionary, HasEncoding, LevelsAreRuns, BeginsRow, rows_in, values_in}
+use Rattle.pq_files.specs.Page.{Encoding, dictionary, HasEncoding, LevelsAreRuns, rows_in, values_in}
+use Rattle.shredding.specs.Laws.{BeginsRow}
 use Rattle.pq_files.specs.PageReasons.{Reaches, Comes, IsRead, EncodingOfEntries, ShowsPairs, HasPairs, called_by, IsOutside}
 use Rattle.pq_files.specs.Prefixes.{BeginsValues}
 use Rattle.pq_files.specs.Reasons.{AnyOf}
