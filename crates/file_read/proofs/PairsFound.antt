@@ -3,8 +3,7 @@ use Rattle.std.proofs.Common.{◌≡◌, ◌≢◌, ◌⊎◌, ◌≤◌, ℕ, �
 use Rattle.std.specs.Prelude.{count_by}
 use Rattle.std.proofs.lemmas.List.Sums.{sum_by-cons}
 use Rattle.columns_base.specs.declared.error.Error.{Error}
-use Rattle.columns_base.specs.declared.error.Error.TheVariants.{NotYetImplemented, OutOfSpec, Memory}
-use Rattle.columns_base.specs.declared.error.S.TheVariants.{S3}
+use Rattle.columns_base.specs.declared.error.Error.TheVariants.{NotYetImplemented, Memory}
 use Rattle.columns_base.specs.declared.error.N.TheVariants.{N5}
 use Rattle.shredding.specs.Shred.{Triple}
 use Rattle.shredding.specs.Slot.{Value}
@@ -16,7 +15,7 @@ use Rattle.pq_container.specs.declared.types.PageHeader.{PageHeader as RustHeade
 use Rattle.pq_container.specs.declared.types.TypedPageHeader.{TypedPageHeader}
 use Rattle.pq_container.specs.declared.types.TypedPageHeader.TheVariants.{Data}
 use Rattle.pq_container.specs.HeaderText.{IsHeaderText}
-use Rattle.pq_container.specs.Reads.{Refuses}
+use Rattle.pq_container.specs.Reads.{HasNone}
 use Rattle.pq_container.specs.Views.{page_header_view, typed_view, v1_view}
 use Rattle.file_read.proofs.PageParts.{header_with, no_header}
 use Rattle.pq_container.specs.Header.{DataHeader, data_page}
@@ -84,11 +83,11 @@ is_read bytes p h body rs ds vs in_ is even has counted = record { header = h; b
 
 pub refuse_header : (text : List ℕ) (pairs : ℕ) (e r : Error) →
     ((r ≡ Memory) × (e ≡ Memory)) ⊎ ((r ≡ NotYetImplemented N5) × (e ≢ Memory)) →
-    Refuses (OutOfSpec S3) (Begins IsHeaderText text) e →
+    (e ≡ Memory) ⊎ HasNone (Begins IsHeaderText text) →
     (r ≡ Memory) ⊎ ((r ≡ NotYetImplemented N5) × ((h : DataHeader) (body : List ℕ) → IsOnlyPage text pairs h body → ⊥))
 refuse_header text pairs e r (inl m) why = inl m.0
 refuse_header text pairs e r (inr n) (inl m) = absurd (n.1 m)
-refuse_header text pairs e r (inr n) (inr none) = inr (n.0, no_header text pairs none.1)
+refuse_header text pairs e r (inr n) (inr none) = inr (n.0, no_header text pairs none)
 
 pub says_data : (text : List ℕ) (h : RustHeader) (d : DataPageHeaderV1) → h.header ≡ Data (V1 d) → IsHeaderText text (page_header_view h) → IsHeaderText text (header_with (v1_view d) h.compressed_page_size)
 says_data text h d e said = subst (λ (x : TypedPageHeader). IsHeaderText text (record { header = typed_view x; size = h.compressed_page_size })) e said

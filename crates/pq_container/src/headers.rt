@@ -1,13 +1,14 @@
 //! A page's header, from its Thrift struct.
-ghost use Rattle.std.specs.Prelude.{◌≡◌, ℕ, pos, ◌≤◌, ◌≤ℤ◌, IfOk, IfErr, OnErr, Some, length, take};
+ghost use Rattle.std.specs.Prelude.{◌≡◌, ◌⊎◌, ℕ, pos, ◌≤◌, ◌≤ℤ◌, IfOk, IfErr, OnErr, Some, length, take};
 ghost use Rattle.pq_thrift.specs.Value.{int32, view, fields_view};
 ghost use Rattle.pq_container.specs.Header.{HasDataHeader, HasDataHeader2, HasDictionaryHeader, HasHeader, SpellsHeader};
-ghost use Rattle.columns_base.specs.declared.error.Error.TheVariants.{OutOfSpec};
+ghost use Rattle.columns_base.specs.declared.error.Error.TheVariants.{Memory, NotYetImplemented, OutOfSpec};
+ghost use Rattle.columns_base.specs.declared.error.N.TheVariants.{N4};
 ghost use Rattle.columns_base.specs.declared.error.S.TheVariants.{S3};
-ghost use Rattle.pq_container.specs.HeaderText.{IsHeaderText, header_reason_of};
+ghost use Rattle.pq_container.specs.HeaderText.{IsHeaderText, IsOfOtherType, TellsType, header_reason_of};
 ghost use Rattle.pq_container.specs.Ids.{get};
 ghost use Rattle.pq_numbers.specs.Texts.{Begins};
-ghost use Rattle.pq_container.specs.Reads.{HasNone, Refuses};
+ghost use Rattle.pq_container.specs.Reads.{ComesWhere, HasNone};
 ghost use Rattle.pq_container.specs.Views.{natural_part, v1_view, v2_view, dictionary_view, typed_view, page_header_view};
 ghost use Rattle.pq_container.specs.Counted.{IsCountedV1, IsCountedV2, IsCounted};
 
@@ -18,7 +19,7 @@ use crate::types::{
     DataPageHeader, DataPageHeaderV1, DataPageHeaderV2, DictionaryPageHeader, PageHeader,
     TypedPageHeader,
 };
-use columns_base::{Error, S};
+use columns_base::{Error, N, S};
 use pq_thrift::{Thrift, read_thrift};
 use std::alloc::Global;
 
@@ -125,18 +126,35 @@ fn header_reason(error: Error) -> Error
     }
 }
 
+/// Why a struct that spells no header is refused.
+fn struct_reason(value: &Thrift) -> Error
+    ensures { TellsType (view value.now) result }
+{
+    let Some(fields) = as_struct(value) else {
+        return Error::OutOfSpec(S::S3);
+    };
+    match needed_i32(fields, 1) {
+        Ok(0 | 2 | 3) | Err(_) => Error::OutOfSpec(S::S3),
+        Ok(_) => Error::NotYetImplemented(N::N4),
+    }
+}
+
 /// Reads the page header that stands in front (Parquet format, `PageHeader`), and gives it with
 /// the number of its bytes. What follows it is not looked at.
 ///
 /// # Errors
 ///
-/// - `OutOfSpec(S3)`: no page header stands there whose page can be read, or it nests past 128.
+/// - `NotYetImplemented(N4)`: a struct stands there that nests at most 128 and whose page type is
+///   that of an index page or is not known, whatever else it has.
+/// - `OutOfSpec(S3)`: no such struct and no page header stands there.
 /// - `Memory`: memory ran out.
 pub fn read_page_header(alloc: Global, bytes: &[u8]) -> Result<(PageHeader, usize), Error>
     ensures within { IfOk result (λ x. x.1 ≤ length bytes.now) }
     ensures found { IfOk result (λ x. IsHeaderText (take x.1 bytes.now) (page_header_view x.0)) }
     ensures counted { IfOk result (λ x. IsCounted x.0.header) }
-    ensures refused { IfErr result (Refuses (OutOfSpec S3) (Begins IsHeaderText bytes.now)) }
+    ensures none { IfErr result (λ e. (e ≡ Memory) ⊎ HasNone (Begins IsHeaderText bytes.now)) }
+    ensures other_type { ComesWhere (NotYetImplemented N4) (IsOfOtherType bytes.now) result }
+    ensures refused { ComesWhere (OutOfSpec S3) (HasNone (Begins IsHeaderText bytes.now) × (¬ (IsOfOtherType bytes.now))) result }
 {
     let (value, size) = match read_thrift(alloc, bytes) {
         Ok(read) => read,
@@ -144,6 +162,6 @@ pub fn read_page_header(alloc: Global, bytes: &[u8]) -> Result<(PageHeader, usiz
     };
     match page_header_from(&value) {
         Ok(header) => Ok((header, size)),
-        Err(_) => Err(Error::OutOfSpec(S::S3)),
+        Err(_) => Err(struct_reason(&value)),
     }
 }

@@ -13,6 +13,15 @@ const OUTSIDE: Error = Error::OutOfSpec(S::S1);
 
 const DEEP: Error = Error::NotYetImplemented(N::N7);
 
+/// Why a struct is no page header, by whether its type is of another page than those that are read.
+fn of_type(is_other: bool) -> Error {
+    if is_other {
+        Error::NotYetImplemented(N::N4)
+    } else {
+        Error::OutOfSpec(S::S3)
+    }
+}
+
 /// Which struct the bytes are to be.
 #[derive(Clone, Copy, Debug, PartialEq, Eq)]
 enum Record {
@@ -326,7 +335,7 @@ fn other_records_are_read_or_refused(rt: HostRuntime) -> Result<(), Fail> {
     let footer = footer_fields();
     let page = page_fields();
     let data = data_page_fields();
-    let cases: [(Record, &[Case], usize, &[u8], bool); 14] = [
+    let cases: [(Record, &[Case], usize, &[u8], bool); 12] = [
         // lists of another kind, and empty ones of no kind
         (Record::Column, &column, 1, &[0x09, 0x04, 0x16, 0x06], false),
         (Record::Column, &column, 1, &[0x09, 0x04, 0x00], true),
@@ -372,9 +381,7 @@ fn other_records_are_read_or_refused(rt: HostRuntime) -> Result<(), Fail> {
             &[0x09, 0x04, 0xfc, 0xff, 0xff, 0xff, 0xff, 0x07],
             false,
         ),
-        // an index page, a page type that is not known, and a size of -1
-        (Record::Page, &page, 0, &[0x05, 0x02, 0x02], false),
-        (Record::Page, &page, 0, &[0x05, 0x02, 0x08], false),
+        // a size of -1
         (Record::Page, &page, 2, &[0x05, 0x06, 0x01], false),
         // a page of -1 values
         (Record::DataPage, &data, 0, &[0x05, 0x02, 0x01], false),
@@ -382,6 +389,60 @@ fn other_records_are_read_or_refused(rt: HostRuntime) -> Result<(), Fail> {
     for (record, fields, at, text, is_read) in cases {
         let bytes = edited(alloc, record, fields, at, text)?;
         expect(&rt, alloc, record, &bytes, is_read);
+    }
+    Ok(())
+}
+
+#[test]
+fn page_types_are_told(rt: HostRuntime) -> Result<(), Fail> {
+    let alloc = rt.alloc();
+    // the header's fields, and whether they are of an index page or of a type that is not known
+    let cases: [(&[u8], bool); 12] = [
+        // an index page, and the types 4, -1 and 7, with everything else absent
+        (&[0x15, 0x02, 0], true),
+        (&[0x15, 0x08, 0], true),
+        (&[0x15, 0x01, 0], true),
+        (&[0x15, 0x0e, 0], true),
+        // no type, and one of another kind
+        (&[0], false),
+        (&[0x16, 0x02, 0], false),
+        // the types 0, 2 and 3 without their struct
+        (&[0x15, 0x00, 0], false),
+        (&[0x15, 0x04, 0], false),
+        (&[0x15, 0x06, 0], false),
+        // the last of two types counts
+        (&[0x15, 0x00, 0x05, 0x02, 0x02, 0], true),
+        (&[0x15, 0x02, 0x05, 0x02, 0x00, 0], false),
+        // an index page that is cut
+        (&[0x15, 0x02], false),
+    ];
+    for (bytes, is_other) in cases {
+        match read_page_header(alloc, bytes) {
+            Ok(_) => assert!(rt; false, "a header: {bytes:?}"),
+            Err(error) => assert_eq!(rt; error, of_type(is_other), "{bytes:?}"),
+        }
+    }
+    Ok(())
+}
+
+#[test]
+fn whole_headers_of_other_types_are_told(rt: HostRuntime) -> Result<(), Fail> {
+    let alloc = rt.alloc();
+    let page = page_fields();
+    let cases: [(usize, &[u8], bool); 4] = [
+        // an index page, a type that is not known, and an index page without a size
+        (0, &[0x05, 0x02, 0x02], true),
+        (0, &[0x05, 0x02, 0x08], true),
+        (2, &[0x05, 0x02, 0x02], true),
+        // no type
+        (0, &[], false),
+    ];
+    for (at, text, is_other) in cases {
+        let bytes = edited(alloc, Record::Page, &page, at, text)?;
+        match read_page_header(alloc, &bytes) {
+            Ok(_) => assert!(rt; false, "a header: {bytes:?}"),
+            Err(error) => assert_eq!(rt; error, of_type(is_other), "{bytes:?}"),
+        }
     }
     Ok(())
 }

@@ -1,15 +1,13 @@
 -- Why the pages of a column are refused: S3, N4, S4, S5, N8, S6 and S7.
 -- Two parts of N4 are not stated here: that a column of a dictionary type has a page without dictionary encoding, which speaks of an Arrow type,
 -- and that a page with selected rows is decoded, which is a matter of a call. So is a header past a given size, a part of S3.
-use Rattle.std.specs.Prelude.{◌≡◌, ◌≢◌, ◌⊎◌, ℕ, ◌<◌, ◌≤◌, ℤ, pos, List, [], ◌∷◌, length, map, All, Contains, Option, Some, None, count_by, nat_eq, IsTrue}
+use Rattle.std.specs.Prelude.{◌≡◌, ◌≢◌, ◌⊎◌, ℕ, ◌<◌, ◌≤◌, pos, List, [], ◌∷◌, length, map, All, Contains, Option, None, count_by, nat_eq, IsTrue}
 use Rattle.pq_numbers.specs.Texts.{Begins}
-use Rattle.pq_thrift.specs.Grammar.{Spells, depth}
-use Rattle.pq_thrift.specs.Value.{int32, struct, Fields}
 use Rattle.shredding.specs.Shape.{LeafType}
 use Rattle.shredding.specs.Shred.{Triple}
 use Rattle.shredding.specs.Slot.{Value}
 use Rattle.pq_container.specs.Header.{Header, data_page, data_page_2, dictionary_page}
-use Rattle.pq_container.specs.Ids.{get}
+use Rattle.pq_container.specs.HeaderText.{IsOfOtherType}
 use Rattle.pq_container.specs.Physical.{Physical, boolean, int32 as p_int32, int64, byte_array}
 use Rattle.pq_container.specs.Tree.{Leaf, max_definition, max_repetition, is_flat}
 use Rattle.pq_files.specs.Chunk.{RawPage, IsPageText, IsData, IsDictionary, StartsWith, Pages, count_in, AreEntriesOf}
@@ -28,15 +26,6 @@ pub record Reaches (n : ℕ) (bytes : List ℕ) (dict : Option RawPage) (pages :
 
 abbrev pub IsNext : List ℕ → RawPage → Type 0
 IsNext rest p = Begins IsPageText rest p
-
--- a header of an index page or of a type that isn't known
-pub record IsOfOtherType (rest : List ℕ) : Type 0 where
-  pub fields : Fields
-  pub spells : Begins Spells rest (struct fields)
-  pub nests : depth (struct fields) ≤ 128
-  pub type : ℤ
-  pub has_type : get 1 fields ≡ Some (int32 type)
-  pub other : (type ≢ pos 0) × (type ≢ pos 2) × (type ≢ pos 3)
 
 -- a dictionary page that isn't the first page, more values than are to come, or indices without a dictionary
 abbrev pub IsOutOfPlace : Option RawPage → List RawPage → ℕ → RawPage → Type 0

@@ -7,7 +7,7 @@ use Rattle.file_read.proofs.PairsFound.{refuse_header, says_data}
 use Rattle.file_read.proofs.reading.read_only_page.Goals as goal
 
 pub returns-in-Err-clause-refused : goal.returns-in-Err-clause-refused
-returns-in-Err-clause-refused c = refuse_header c.args.text.now c.args.pairs c.in-Err.error c.of_no_form.result c.of_no_form.ensures c.in-Err.ensures.refused
+returns-in-Err-clause-refused c = refuse_header c.args.text.now c.args.pairs c.in-Err.error c.of_no_form.result c.of_no_form.ensures c.in-Err.ensures.none
 
 pub returns-in_default-clause-refused : goal.returns-in_default-clause-refused
 returns-in_default-clause-refused c = inr (refl, no_other c.args.text.now c.args.pairs c.in-Ok.read.1 (page_header_view c.in-Ok.read.0) c.in-Ok.ensures.found c.in_default.ensures)
