@@ -10,13 +10,14 @@ use Rattle.pq_thrift.specs.Nesting.{NestsPast}
 use Rattle.pq_thrift.proofs.Deep.{too_deep}
 use Rattle.pq_thrift.proofs.OneReading.{same_reading}
 use Rattle.pq_files.specs.Carried.{SpellsRecord}
+use Rattle.pq_container.specs.Encrypted.{SaysEncrypted}
 use Rattle.pq_container.specs.Footer.{Footer, SpellsFooter}
-use Rattle.pq_container.specs.Frame.{HasFrame, EndsEncrypted, footer_of}
-use Rattle.pq_files.specs.Reasons.{N2, N7, S1, SaysEncrypted}
+use Rattle.pq_container.specs.Frame.{HasFrame, footer_of}
+use Rattle.pq_container.specs.Metadata.{FooterIsDeep}
+use Rattle.pq_files.specs.Reasons.{S1}
 use Rattle.pq_container.specs.Tree.{schema_nesting}
 use Rattle.pq_files.specs.NearMiss.{cut_file}
 use Rattle.pq_numbers.specs.Texts.{Begins}
-use Rattle.pq_container.proofs.Injective.{cons_same}
 
 framed : HasFrame cut_file
 framed = record { long = omega arith; front = refl; back = refl; room = omega arith }
@@ -27,9 +28,6 @@ empty = (refl, refl)
 
 reads_empty : (v : Value) → Begins Spells (footer_of cut_file) v → v ≡ struct no_fields
 reads_empty v b = (same_reading b.text (0 ∷ []) b.rest (drop 1 (footer_of cut_file)) v (struct no_fields) b.spells empty (sym b.parts)).1
-
-not_encrypted : ¬ EndsEncrypted cut_file
-not_encrypted e = omega (arith, (cons_same _ _ _ _ (cons_same _ _ _ _ (cons_same _ _ _ _ (cons_same _ _ _ _ e).1).1).1).0)
 
 read : thrift_at (footer_of cut_file) ≡ Ok (struct no_fields, drop 1 (footer_of cut_file))
 unfolding varint_up_to signed_at binary_at list_head_at field_head_at values_at fields_at list_with struct_with value_at
@@ -45,8 +43,8 @@ no_record f b =
     none : (k : ℕ) (vs : Values) → None ≡ Some (list k vs) → ⊥
     none k vs e = cc e
 
-not_deep : ¬ N7 cut_file
-not_deep n = either n.1
+not_deep : ¬ FooterIsDeep (footer_of cut_file)
+not_deep = either
   where
     either : (NestsPast max_depth Struct (footer_of cut_file) ⊎ ((f : Footer) × Begins SpellsRecord (footer_of cut_file) f × (128 < schema_nesting f.schema))) → ⊥
     either (inl d) = cc (too_deep max_depth Struct (footer_of cut_file) d, read)
@@ -59,9 +57,5 @@ says_none v b s = neither (subst SaysEncrypted (reads_empty v b) s)
     neither (inl d) = d refl
     neither (inr h) = h
 
-not_said : ¬ N2 cut_file
-not_said (inl e) = not_encrypted e
-not_said (inr h) = says_none h.1 h.2 h.3
-
 pub is_out_of_spec : S1 cut_file
-is_out_of_spec = inr (framed, not_deep, not_said, no_record)
+is_out_of_spec = inr (framed, record { shallow = not_deep; plain = λ e. says_none e.0 e.1 e.2; none = no_record })

@@ -193,7 +193,7 @@ none_carried bytes (inl s) tree keys groups c = s.0 (has_frame bytes c.1.place c
 none_carried bytes (inr s) tree keys groups c =
     let h = c.1 in
     let frame = frame_same bytes h.place (footer_place bytes) h.footer (footer_of bytes) h.framed (is_framed bytes s.0) in
-    s.3 (record { schema = tree; groups = h.metas; keys = keys }) (subst (λ (x : List ℕ). Begins SpellsRecord x (record { schema = tree; groups = h.metas; keys = keys })) frame.footers h.said)
+    s.1.none (record { schema = tree; groups = h.metas; keys = keys }) (subst (λ (x : List ℕ). Begins SpellsRecord x (record { schema = tree; groups = h.metas; keys = keys })) frame.footers h.said)
 
 pub are_not_carried : AreNotCarried
 are_not_carried = record { levels_cut = cut_is_not_carried; one_pair_more = six_is_not_carried; one_row_more = five_is_not_carried; footer_cut = (is_out_of_spec, none_carried cut_file is_out_of_spec) }

@@ -1,13 +1,12 @@
 -- A file, and what it carries (Parquet format, "File format", "Metadata" and "Column chunks").
 use Rattle.std.specs.Prelude.{◌≡◌, ◌⊎◌, ℕ, ◌+◌, ◌≤◌, ℤ, pos, List, [], ◌∷◌, map, All, Option, Some, None, cond, ◌&&◌, nat_lt, nat_le}
 use Rattle.std.specs.List.{AllZip}
-use Rattle.pq_thrift.specs.Grammar.{Spells, depth}
-use Rattle.pq_thrift.specs.Value.{Value as Thrift}
 use Rattle.shredding.specs.Slot.{Value}
 use Rattle.shredding.specs.Shred.{Triple}
 use Rattle.pq_files.specs.Chunk.{Chunk, IsChunk, triples_of}
 use Rattle.pq_container.specs.Frame.{IsFramed}
-use Rattle.pq_container.specs.Footer.{ChunkMeta, GroupMeta, Key, Footer, SpellsFooter}
+use Rattle.pq_container.specs.Footer.{ChunkMeta, GroupMeta, Key, Footer}
+use Rattle.pq_container.specs.Metadata.{IsFooterText}
 use Rattle.pq_files.specs.Page.{rows_in}
 use Rattle.pq_container.specs.Physical.{number_of_physical}
 use Rattle.pq_numbers.specs.Texts.{Begins, IsAt}
@@ -17,7 +16,7 @@ use Rattle.pq_container.specs.Tree.{Schema, Leaf, columns_of}
 
 -- the footer begins with a struct that says this
 abbrev pub SpellsRecord : List ℕ → Footer → Type 0
-SpellsRecord text f = (v : Thrift) × Spells text v × (depth v ≤ 128) × SpellsFooter v f
+SpellsRecord = IsFooterText
 
 -- ---- chunks
 

@@ -1,52 +1,26 @@
 -- Why a file is refused, as far as its footer tells: S1, N2 and N7 of the frame and the footer, S2, N1 and N3 of groups and chunks.
 -- S8, N5, N6 and the reasons A speak of Arrow types and are not stated here.
 use Rattle.std.specs.Prelude.{◌≡◌, ◌≢◌, ◌⊎◌, ℕ, ◌+◌, ◌<◌, ℤ, pos, ◌<ℤ◌, List, [], ◌∷◌, length, Option, Some, None}
-use Rattle.pq_numbers.specs.Texts.{Begins}
-use Rattle.pq_thrift.specs.declared.kind.Kind.TheVariants.{Struct}
-use Rattle.pq_thrift.specs.Grammar.{Spells}
-use Rattle.pq_thrift.specs.Nesting.{NestsPast}
-use Rattle.pq_thrift.specs.Reading.{max_depth}
-use Rattle.pq_thrift.specs.Value.{Value as Thrift, list, struct, Values, no_values, value}
 use Rattle.pq_container.specs.Footer.{ChunkMeta, GroupMeta, Footer}
 use Rattle.pq_container.specs.Frame.{footer_of, HasFrame, EndsEncrypted}
-use Rattle.pq_container.specs.Ids.{get}
+use Rattle.pq_container.specs.Metadata.{FooterIsDeep, FooterIsEncrypted, NoFooter}
 use Rattle.pq_container.specs.Physical.{number_of_physical}
-use Rattle.pq_container.specs.Tree.{Leaf, columns_of, schema_nesting}
-use Rattle.pq_files.specs.Carried.{start_of, SpellsRecord}
+use Rattle.pq_container.specs.Tree.{Leaf, columns_of}
+use Rattle.pq_files.specs.Carried.{start_of}
 
 -- ---- the frame and the footer (Parquet format, "File format" and "Metadata")
 
--- The footer's struct nests past 128, whatever follows the place where it does, or the tree does.
+-- the footer's struct nests past 128, whatever follows the place where it does, or the tree does
 abbrev pub N7 : List ℕ → Type 0
-N7 bytes = HasFrame bytes × (NestsPast max_depth Struct (footer_of bytes) ⊎ ((f : Footer) × Begins SpellsRecord (footer_of bytes) f × (128 < schema_nesting f.schema)))
-
-abbrev pub AnyValue : (Thrift → Type 0) → Values → Type 0
-AnyValue P no_values = ⊥
-AnyValue P (value v vs) = P v ⊎ AnyValue P vs
-
-abbrev pub Any : (Thrift → Type 0) → Option Thrift → Type 0
-Any P (Some (list kind vs)) = AnyValue P vs
-Any P v = ⊥
-
-abbrev pub HasId : ℕ → Thrift → Type 0
-HasId id (struct fs) = get id fs ≢ None
-HasId id v = ⊥
-
-abbrev pub HasEncryptedChunk : Thrift → Type 0
-HasEncryptedChunk (struct fs) = Any (λ c. HasId 8 c ⊎ HasId 9 c) (get 1 fs)
-HasEncryptedChunk v = ⊥
-
-abbrev pub SaysEncrypted : Thrift → Type 0
-SaysEncrypted (struct fs) = (get 8 fs ≢ None) ⊎ Any HasEncryptedChunk (get 4 fs)
-SaysEncrypted v = ⊥
+N7 bytes = HasFrame bytes × FooterIsDeep (footer_of bytes)
 
 -- the file ends in PARE, or the footer says that it or a column is encrypted ("Parquet Modular Encryption")
 abbrev pub N2 : List ℕ → Type 0
-N2 bytes = EndsEncrypted bytes ⊎ (HasFrame bytes × (v : Thrift) × Begins Spells (footer_of bytes) v × SaysEncrypted v)
+N2 bytes = EndsEncrypted bytes ⊎ (HasFrame bytes × FooterIsEncrypted (footer_of bytes))
 
 -- No frame, or a footer that spells none: outside Thrift, or not as the tables of ids and the tree have it. Where N7 or N2 holds, it is that.
 abbrev pub S1 : List ℕ → Type 0
-S1 bytes = ((¬ HasFrame bytes) × (¬ EndsEncrypted bytes)) ⊎ (HasFrame bytes × (¬ N7 bytes) × (¬ N2 bytes) × ((f : Footer) → Begins SpellsRecord (footer_of bytes) f → ⊥))
+S1 bytes = ((¬ HasFrame bytes) × (¬ EndsEncrypted bytes)) ⊎ (HasFrame bytes × NoFooter (footer_of bytes))
 
 -- ---- groups and chunks (Parquet format, "Column chunks")
 
