@@ -167,7 +167,7 @@ values l h max_r max_d count body is s =
 
 pub errors_are_reasons : ErrorsAreReasons
 errors_are_reasons = record {
-  levels = λ l h max_r max_d count body is. ((λ lacks. (is.runs, λ ts has. lacks _ _ _ (has_level_pairs l h max_r max_d count body ts is has))), (λ s rs ds section b. s.1 _ (has_pairs l h max_r max_d count body rs ds section is b)));
+  levels = λ l h max_r max_d count body is. ((λ lacks. (tt, is.runs, λ ts has. lacks _ _ _ (has_level_pairs l h max_r max_d count body ts is has))), (λ s rs ds section b. s.2 _ (has_pairs l h max_r max_d count body rs ds section is b)));
   inside = λ l h max_r max_d count body is v. (inside_at l h max_r max_d count body v.rs v.ds v.section is v.pairs v.inside, inl (All-nil (λ q. count_in q.header ≡ 0)));
   goes_on = λ l h max_r max_d count body rs ds section is b s. record { rs = rs; ds = ds; section = section; pairs = b; inside = goes_on_at l h max_r max_d count body rs ds section is b s.0 };
   lacking = lacking;

@@ -178,15 +178,15 @@ pairs_of l entries p ts is =
     )
 
 s4 : (l : Leaf) (entries : Option (List Value)) (p : RawPage) → S4 l p → IsNoPage l entries p
-s4 l entries p h ts is = h.1 (map without_value ts) (pairs_of l entries p ts is)
+s4 l entries p h ts is = h.2 (map without_value ts) (pairs_of l entries p ts is)
 
 -- two readings of a page's pairs are one
-record SamePairs (l : Leaf) (p : RawPage) (ts us : List Triple) (a : ShowsPairs l p ts) (b : ShowsPairs l p us) : Type 0 where
+pub record SamePairs (l : Leaf) (p : RawPage) (ts us : List Triple) (a : ShowsPairs l p ts) (b : ShowsPairs l p us) : Type 0 where
   pub values : a.sections.values ≡ b.sections.values
   pub repetitions : map (λ t. t.repetition) ts ≡ map (λ t. t.repetition) us
   pub definitions : map (λ t. t.definition) ts ≡ map (λ t. t.definition) us
 
-same_pairs : (l : Leaf) (p : RawPage) (ts us : List Triple) (a : HasPairs l p ts) (b : HasPairs l p us) → SamePairs l p ts us a.0 b.0
+pub same_pairs : (l : Leaf) (p : RawPage) (ts us : List Triple) (a : HasPairs l p ts) (b : HasPairs l p us) → SamePairs l p ts us a.0 b.0
 same_pairs l p ts us a b =
     let s = split_same l p.header p.body a.0.sections b.0.sections a.0.split b.0.split in
     let n : length ts ≡ length us = a.1 ∙ sym b.1 in
@@ -198,7 +198,7 @@ same_pairs l p ts us a b =
       definitions = levels_same (max_definition l) a.0.sections.definition b.0.sections.definition (map (λ t. t.definition) ts) (map (λ t. t.definition) us) s.definition a.0.definitions b.0.definitions dn;
     }
 
-counted_by : (A : Type 0) (f : A → ℕ) (m : ℕ) (xs : List A) → count_by (λ x. nat_eq (f x) m) xs ≡ count_by (λ d. nat_eq d m) (map f xs)
+pub counted_by : (A : Type 0) (f : A → ℕ) (m : ℕ) (xs : List A) → count_by (λ x. nat_eq (f x) m) xs ≡ count_by (λ d. nat_eq d m) (map f xs)
 counted_by A f m [] = refl
 counted_by A f m (x ∷ xs) =
     sum_by-cons (λ y. cond (nat_eq (f y) m) 1 0) x xs ∙ ap (λ (n : ℕ). cond (nat_eq (f x) m) 1 0 + n) (counted_by A f m xs) ∙ sym (sum_by-cons (λ d. cond (nat_eq d m) 1 0) (f x) (map f xs))

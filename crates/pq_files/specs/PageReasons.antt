@@ -98,9 +98,9 @@ pub record ShowsPairs (l : Leaf) (p : RawPage) (ts : List Triple) : Type 0 where
 abbrev pub HasPairs : Leaf → RawPage → List Triple → Type 0
 HasPairs l p ts = ShowsPairs l p ts × (length ts ≡ count_in p.header)
 
--- a section outside the body, too few levels or a level past its maximum
+-- of a data page: a section outside the body, too few levels or a level past its maximum
 abbrev pub S4 : Leaf → RawPage → Type 0
-S4 l p = LevelsAreRuns l p.header × ((ts : List Triple) → HasPairs l p ts → ⊥)
+S4 l p = IsData p.header × LevelsAreRuns l p.header × ((ts : List Triple) → HasPairs l p ts → ⊥)
 
 -- the page's first pair goes on with a row
 pub record GoesOn (l : Leaf) (p : RawPage) : Type 0 where

@@ -1,5 +1,5 @@
 -- Why the columns of a group are refused though their pages may be read: S9 and S10 (Dremel paper, "Record assembly").
-use Rattle.std.specs.Prelude.{◌≡◌, ◌≢◌, ◌⊎◌, ℕ, ◌<◌, List, [], ◌∷◌, ◌++◌, length, map, All, is_some, nat_eq, Option, Some, None}
+use Rattle.std.specs.Prelude.{◌≡◌, ◌≢◌, ◌⊎◌, ℕ, ◌<◌, List, [], ◌∷◌, ◌++◌, length, map, All, is_some, nat_eq, Option, Some, None, IfSome}
 use Rattle.shredding.specs.Local.{MayFollow}
 use Rattle.shredding.specs.Shape.{LeafType, Way}
 use Rattle.shredding.specs.Share.{ColumnsAgree}
@@ -64,9 +64,13 @@ MayHold (Some p) = EncodingOfEntries p.header
 abbrev pub ShowsColumn : Leaf → ℕ → List ℕ → List Triple → List Triple → Type 0
 ShowsColumn l n bytes whole part = ReadsColumn MayHold (ReadsPairs l) n bytes whole part
 
+-- the entries of its dictionary page, each of which is one of the leaf type
+abbrev pub ReadsEntries : LeafType → Leaf → Option (List Value) → Option RawPage → Type 0
+ReadsEntries t l entries dict = HasEntries l dict entries × IfSome entries (All (λ v. ¬ IsOutside t l.physical v))
+
 -- with its values
 abbrev pub HasTriples : LeafType → Leaf → Option (List Value) → ℕ → List ℕ → List Triple → List Triple → Type 0
-HasTriples t l entries n bytes whole part = ReadsColumn (λ dict. HasEntries l dict entries) (ReadsTriples t l entries) n bytes whole part
+HasTriples t l entries n bytes whole part = ReadsColumn (ReadsEntries t l entries) (ReadsTriples t l entries) n bytes whole part
 
 -- ---- row counts
 
