@@ -3,6 +3,7 @@ pub mod DeltasOnce
 pub mod Excluded
 pub mod FirstFile
 pub mod WorkedLayout
+pub mod WorkedReasons
 pub mod WrittenExample
 pub mod Sections
 pub mod Worked

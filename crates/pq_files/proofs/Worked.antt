@@ -1,5 +1,5 @@
 -- Worked examples of encodings.
-use Rattle.std.proofs.Common.{◌≡◌, ℕ, ◌*◌, ◌^◌, ◌<◌, ℤ, pos, negsuc, true, false, List, [], ◌∷◌, ◌++◌, map, length, is_some, nat_eq, drop, replicate, sum, Some, None, refl, ap, ◌∙◌, inl, inr, arith}
+use Rattle.std.proofs.Common.{◌≡◌, ℕ, ◌*◌, ◌^◌, ◌<◌, ◌-◌, nat_abs, ℤ, pos, negsuc, true, false, List, [], ◌∷◌, ◌++◌, map, length, is_some, nat_eq, drop, replicate, sum, Some, None, refl, ap, ◌∙◌, inl, inr, arith}
 use Rattle.std.proofs.lemmas.List.Elements.{All-from_recursion}
 use Rattle.std.specs.Int.{w32}
 use Rattle.shredding.specs.Slot.{Value, truth, number, bytes}
@@ -12,18 +12,21 @@ use Rattle.pq_files.specs.Worked.{deltas, numbers, lengths, hello, world, foobar
 use Rattle.std.specs.List.{AllZip}
 use Rattle.std.specs.Prelude.{slice_get}
 use Rattle.std.proofs.lemmas.List.{length-append}
-use Rattle.shredding.specs.Shape.{nothing, months, signed, Fits, at_leaf, in_list, in_struct}
+use Rattle.shredding.specs.Shape.{nothing, months, decimal, signed, Fits, at_leaf, in_list, in_struct}
 use Rattle.shredding.specs.Share.{ColumnsAgree}
 use Rattle.shredding.specs.Shred.{Triple, shred}
 use Rattle.pq_numbers.specs.Texts.{Begins}
 use Rattle.pq_runs.specs.Runs.{no_bits}
 use Rattle.pq_container.specs.Physical.{int32, byte_array, fixed}
 use Rattle.pq_container.proofs.Injective.{pos_same}
-use Rattle.pq_files.specs.FirstFile.{the_leaf, triples}
+use Rattle.pq_files.specs.FirstFile.{schema, the_leaf, triples}
 use Rattle.pq_files.specs.Indices.{IsIndexed}
 use Rattle.pq_files.specs.Page.{IsPage, plain}
 use Rattle.pq_files.specs.PageReasons.{IsOutside}
 use Rattle.pq_files.specs.Plain.{InARow, IsPlain}
+use Rattle.pq_files.specs.Room.{footer_room, V3}
+use Rattle.pq_files.specs.Stored.{IsStored}
+use Rattle.pq_files.specs.WrittenExample.{out_groups}
 use Rattle.pq_files.specs.RowReasons.{BreaksIn}
 use Rattle.pq_files.proofs.FirstFile.{repetitions, definitions}
 
@@ -167,6 +170,21 @@ version_2 =
       begins_row = refl;
     }
 
+footers : footer_room schema [] out_groups ≡ 4977
+footers = refl
+
+largest : ¬ V3 schema [] (2 ^ 31 - 1) out_groups
+unfolding shred
+largest (inl f) = omega (arith, f, footers)
+largest (inr (inl s)) = omega (arith, s)
+largest (inr (inr (inl r))) = omega (arith, r)
+largest (inr (inr (inr (inl (inl (inl e)))))) = e
+largest (inr (inr (inr (inl (inl (inr (inl (inl p)))))))) = omega (arith, p)
+largest (inr (inr (inr (inl (inl (inr (inl (inr p)))))))) = p
+largest (inr (inr (inr (inl (inl (inr (inr n))))))) = omega (arith, n)
+largest (inr (inr (inr (inl (inr c))))) = c
+largest (inr (inr (inr (inr g)))) = g
+
 pub are_worked : AreWorked
 are_worked =
     record {
@@ -174,12 +192,20 @@ are_worked =
       deltas_are = deltas_are;
       lengths_are = lengths_are;
       strings_are = strings_are;
+      wide_are = (254 ∷ replicate 7 255, 2 ∷ 1 ∷ replicate 6 0, (refl, refl), (2 ∷ 1 ∷ replicate 6 0, [], (refl, refl), refl, refl), refl);
+      fixed_are = (1 ∷ 2 ∷ 3 ∷ [], 4 ∷ 5 ∷ 6 ∷ [], (refl, refl), (4 ∷ 5 ∷ 6 ∷ [], [], (refl, refl), refl, refl), refl);
+      negative = (omega arith, omega arith, refl, refl);
       truths_are = (refl, refl);
       entries_are = entries_are;
       none_are = ([], refl, tt);
       version_2 = version_2;
       rows = (refl, refl, refl);
       rooms = (refl, refl, refl);
+      footers = footers;
+      keys = (refl, refl);
+      too_large = inr (inl (omega arith));
+      largest = largest;
+      starts = (refl, refl, refl, refl, refl, refl);
     }
 
 -- ---- what is not spelled
@@ -190,7 +216,7 @@ four_each text (number z ∷ vs) h = omega (arith, ap length h.4, length-append 
 four_each text (truth b ∷ vs) h = absurd h.2
 four_each text (bytes s ∷ vs) h = absurd h.2
 
-plain_cut : (vs : List Value) → length vs ≡ 2 → Begins (IsPlain int32) (1 ∷ 0 ∷ 0 ∷ 0 ∷ 2 ∷ 0 ∷ 0 ∷ []) vs → ⊥
+pub plain_cut : (vs : List Value) → length vs ≡ 2 → Begins (IsPlain int32) (1 ∷ 0 ∷ 0 ∷ 0 ∷ 2 ∷ 0 ∷ 0 ∷ []) vs → ⊥
 plain_cut vs n b = omega (arith, four_each b.text vs b.spells, n, ap length b.parts, length-append b.text b.rest)
 
 no_entry : (ns : List ℕ) (vs : List Value) → 0 < length vs → AllZip (λ n v. slice_get [] n ≡ Some v) ns vs → ⊥
@@ -216,7 +242,7 @@ bytes_in v = []
 number_same : (y z : ℤ) → number y ≡ number z → y ≡ z
 number_same y z e = ap number_in e
 
-too_large : IsOutside (signed 8) int32 (number (pos 300))
+pub too_large : IsOutside (signed 8) int32 (number (pos 300))
 too_large (truth b) h = h
 too_large (bytes s) h = h
 too_large (number z) h = small z h.1 (number_same (pos 300) z h.2)
@@ -232,6 +258,12 @@ no_months (bytes t) h = zeros (ap (λ s. drop 4 (bytes_in s)) h.3 ∙ h.2)
   where
     zeros : drop {A = ℕ} 4 (replicate 11 0 ++ 1 ∷ []) ≡ replicate 8 0 → ⊥
     zeros e = omega (arith, ap sum e)
+
+lowest_first : ¬ IsStored decimal (fixed 2) (number (negsuc 299)) (bytes (212 ∷ 254 ∷ []))
+lowest_first h = differ h.3
+  where
+    differ : negsuc 299 ≡ negsuc 11009 → ⊥
+    differ e = omega (arith, ap (λ z. nat_abs z) e)
 
 no_null : IsOutside nothing int32 (number (pos 0))
 no_null v h = h
@@ -254,4 +286,4 @@ disagree e = omega (arith, ap (λ ts. first_definition ts) e)
     first_definition (t ∷ ts) = t.definition
 
 pub are_not_spelled : AreNotSpelled
-are_not_spelled = record { plain_cut = plain_cut; past_entries = past_entries; too_large = too_large; wrapped = (omega arith, omega arith, refl); no_months = no_months; no_null = no_null; breaks = breaks; goes_on = goes_on; disagree = disagree }
+are_not_spelled = record { plain_cut = plain_cut; past_entries = past_entries; too_large = too_large; wrapped = (omega arith, omega arith, refl); lowest_first = lowest_first; no_months = no_months; no_null = no_null; breaks = breaks; goes_on = goes_on; disagree = disagree }

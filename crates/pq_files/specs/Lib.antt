@@ -20,6 +20,7 @@ pub mod Statistics
 pub mod Stored
 pub mod Worked
 pub mod WorkedLayout
+pub mod WorkedReasons
 pub mod Written
 pub mod WrittenExample
 pub mod ListColumn

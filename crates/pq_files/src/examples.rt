@@ -4,6 +4,7 @@ ghost use Rattle.pq_files.specs.FirstFile.{IsCarried};
 ghost use Rattle.pq_files.specs.NearMiss.{AreNoPages, AreNotCarried, AreNotPacked};
 ghost use Rattle.pq_files.specs.Worked.{AreNotSpelled, AreWorked};
 ghost use Rattle.pq_files.specs.WorkedLayout.{AreLaid};
+ghost use Rattle.pq_files.specs.WorkedReasons.{AreReasons};
 ghost use Rattle.pq_files.specs.WrittenExample.{IsPacked};
 
 /// The first file carries its rows.
@@ -44,4 +45,9 @@ pub fn near_misses_are_not_spelled()
 /// How the first file's rows are laid out, statistics of two texts and what they may not be, and the numbers that a cut section holds.
 pub fn layouts_are_worked()
     ensures { AreLaid }
+{}
+
+/// Why pages and columns that differ from the first file's in one place are refused, and that the first file's are not refused so.
+pub fn reasons_are_worked()
+    ensures { AreReasons }
 {}
