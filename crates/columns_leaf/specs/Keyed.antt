@@ -1,5 +1,6 @@
 -- What the keys of a dictionary are.
 use Rattle.std.specs.Prelude.{ℤ, pos, List, map}
+use Rattle.columns_core.specs.Tree.{TypeTree}
 use Rattle.columns_slots.specs.Tree.{Mask}
 use Rattle.columns_core.specs.declared.types.IntegerType.{IntegerType}
 use Rattle.columns_core.specs.declared.types.IntegerType.TheVariants as kind
@@ -35,3 +36,14 @@ key_kind (UInt8 a) = kind.UInt8
 key_kind (UInt16 a) = kind.UInt16
 key_kind (UInt32 a) = kind.UInt32
 key_kind (UInt64 a) = kind.UInt64
+
+-- the type of the array of the keys, with the extensions that it may have
+abbrev pub key_data_type : DictionaryKeys → TypeTree
+key_data_type (Int8 a) = a.0
+key_data_type (Int16 a) = a.0
+key_data_type (Int32 a) = a.0
+key_data_type (Int64 a) = a.0
+key_data_type (UInt8 a) = a.0
+key_data_type (UInt16 a) = a.0
+key_data_type (UInt32 a) = a.0
+key_data_type (UInt64 a) = a.0

@@ -1,6 +1,6 @@
 //! The keys of a dictionary array.
 ghost use Rattle.std.specs.Prelude.{◌≡◌, ◌+◌, ◌≤◌, IfOk, IfErr, option_map, take, drop, length as list_length};
-ghost use Rattle.columns_leaf.specs.Keyed.{keys_of, key_mask, key_kind};
+ghost use Rattle.columns_leaf.specs.Keyed.{keys_of, key_mask, key_kind, key_data_type};
 ghost use Rattle.columns_slots.specs.Slots.{cut_mask, nulls_in};
 ghost use Rattle.shredding.specs.Parts.{MaskFits};
 
@@ -112,6 +112,7 @@ impl DictionaryKeys {
         ensures keys { keys_of self.new ≡ take length (drop offset (keys_of self.old)) }
         ensures mask { key_mask self.new ≡ cut_mask (key_mask self.old) offset length }
         ensures kind { key_kind self.new ≡ key_kind self.old }
+        ensures typed { key_data_type self.new ≡ key_data_type self.old }
     {
         match self {
             DictionaryKeys::Int8(a) => a.slice(offset, length),
@@ -134,6 +135,7 @@ impl DictionaryKeys {
         ensures keys { IfOk result (λ k. keys_of k ≡ keys_of self.now) }
         ensures mask { IfOk result (λ k. key_mask k ≡ key_mask self.now) }
         ensures kind { IfOk result (λ k. key_kind k ≡ key_kind self.now) }
+        ensures typed { IfOk result (λ k. key_data_type k ≡ key_data_type self.now) }
         ensures err { IfErr result (λ e. e ≡ Error.Memory) }
     {
         match self {

@@ -91,7 +91,6 @@ impl NullArray {
     }
 
     /// There is no mask, though each position is null.
-    /// Which positions are not null; with no mask, all.
     pub fn validity(&self) -> Option<&Bitmap>
         ensures { IsNone result }
     {
@@ -105,7 +104,7 @@ impl NullArray {
         self.size
     }
 
-    /// An equal array, which shares its values.
+    /// An equal array.
     ///
     /// # Errors
     ///
