@@ -3,6 +3,7 @@
 
 mod codec;
 mod fault;
+mod known;
 mod laws;
 mod leaves;
 mod meta;
@@ -14,6 +15,7 @@ mod writing;
 
 pub use codec::SchemaCodec;
 pub use fault::CodecFault;
+pub use known::know_schema;
 pub use laws::{as_worked, read_is_written, written_is_read};
 pub use plain::PlainCodec;
 
