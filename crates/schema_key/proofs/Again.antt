@@ -1,23 +1,19 @@
 -- What was attached is inferred.
-use Rattle.std.proofs.Common.{◌≡◌, ℕ, ◌<◌, ◌≤◌, Bool, true, false, cond, ltb, List, [], ◌∷◌, ◌++◌, length, Option, Some, None, refl, sym, ap, ◌∙◌, arith}
+use Rattle.std.proofs.Common.{◌≡◌, ℕ, ◌≤◌, false, ltb, List, [], ◌∷◌, ◌++◌, length, Option, Some, refl, ap, ◌∙◌, arith}
 use Rattle.std.proofs.lemmas.Bool.{le-ltb}
 use Rattle.std.specs.Cmp.{tied_itself}
 use Rattle.std.specs.Cmp.Lexicographic.{slice_cmp, nat_list_cmp_total}
-use Rattle.std.specs.Ordering.{nat_cmp, match_ordering, is_eq}
-use Rattle.std.specs.BTreeMap.{insert_entry, is_at}
-use Rattle.std.specs.Map.{lookup}
+use Rattle.std.specs.Ordering.{nat_cmp, match_ordering}
 use Rattle.std.specs.declared.cmp.Ordering.{Ordering}
 use Rattle.std.specs.declared.cmp.Ordering.TheVariants.{Less, Equal, Greater}
 use Rattle.columns_core.specs.Meta.{Meta, text_at, with_text}
 use Rattle.columns_core.specs.Measures.{fields_nesting}
-use Rattle.columns_core.specs.Tree.{FieldTrees}
 use Rattle.columns_core.specs.View.{SchemaTree}
 use Rattle.pq_container.specs.Footer.{Key}
 use Rattle.schema_codec.specs.Ranges.{IsSchema, max_nesting, max_length}
-use Rattle.schema_key.specs.declared.infer.KeyRule.TheVariants.{Use}
-use Rattle.schema_key.specs.Inferred.{with_value, with_pairs, gathered, counting, or_fields, inferred}
-use Rattle.schema_key.specs.Key.{schema_key, message, value_of, schema_entry, unframed, decoded, schema_in, schema_under}
-use Rattle.schema_key.specs.Laws.{IsDecodable, IsInferredAgain}
+use Rattle.schema_key.specs.Inferred.{with_value, with_pairs, gathered}
+use Rattle.schema_key.specs.Key.{schema_key, message, value_of, schema_entry, unframed, schema_in}
+use Rattle.schema_key.specs.Laws.{IsInferredAgain}
 
 -- ---- the last pair
 

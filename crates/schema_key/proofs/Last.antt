@@ -1,13 +1,13 @@
 -- Of several texts of a key the last counts.
 use Rattle.std.proofs.Common.{◌≡◌, ℕ, Bool, true, false, cond, List, [], ◌∷◌, Option, Some, None, refl, sym, ap, ◌∙◌}
-use Rattle.std.specs.Cmp.{alike_right, tied_back}
+use Rattle.std.specs.Cmp.{alike_right}
 use Rattle.std.specs.Cmp.Lexicographic.{slice_cmp, nat_list_cmp_total}
 use Rattle.std.specs.Ordering.{nat_cmp, match_ordering, is_eq}
 use Rattle.std.specs.declared.cmp.Ordering.{Ordering}
 use Rattle.std.specs.declared.cmp.Ordering.TheVariants.{Less, Equal, Greater}
 use Rattle.columns_core.specs.Meta.{Meta, text_at, with_text}
 use Rattle.pq_container.specs.Footer.{Key}
-use Rattle.schema_key.specs.Inferred.{with_value, with_pairs, gathered}
+use Rattle.schema_key.specs.Inferred.{with_value, with_pairs}
 use Rattle.schema_key.specs.Laws.{is_same, last_text, or_earlier, TheLastCounts}
 use Rattle.schema_key.proofs.Again.{text_at-with_text}
 

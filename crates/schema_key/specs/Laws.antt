@@ -22,6 +22,12 @@ IsInferredAgain bytes_of reads =
     (s : SchemaTree) (keys : List Key) (columns : FieldTrees) → IsSchema s → fields_nesting s.fields ≤ max_nesting → length (bytes_of s) ≤ max_length → IsDecodable (bytes_of s)
     → inferred reads Use (keys ++ schema_entry (bytes_of s) ∷ []) columns ≡ Some s
 
+-- The same of one schema, of which nothing else is asked.
+abbrev pub IsInferredFrom : (SchemaTree → List ℕ) → (List ℕ → Option SchemaTree) → SchemaTree → Type 0
+IsInferredFrom bytes_of reads s =
+    (keys : List Key) (columns : FieldTrees) → length (bytes_of s) ≤ max_length → IsDecodable (bytes_of s)
+    → inferred reads Use (keys ++ schema_entry (bytes_of s) ∷ []) columns ≡ Some s
+
 -- the two keys are the same bytes
 abbrev pub is_same : List ℕ → List ℕ → Bool
 is_same a b = is_eq (slice_cmp nat_cmp a b)
