@@ -1,5 +1,8 @@
 //! A sink in memory that fails at the calls of a list.
-ghost use Rattle.std.specs.Prelude.{◌≡◌, ◌<◌, Some, []};
+ghost use Rattle.std.specs.Prelude.{◌≡◌, ◌<◌, ◌≤◌, ◌↔◌, Some, [], IfOk, IsErrOf, length, min};
+ghost use Rattle.std.specs.Io.KnownBytes.{WriteAppends};
+ghost use Rattle.row_file.specs.Causes.{Rose};
+ghost use Rattle.row_file.specs.Ends.{TakesSome};
 
 use crate::{Sink, SinkFault};
 use std::alloc::Global;
@@ -57,13 +60,28 @@ impl MemorySink {
 }
 
 impl Sink for MemorySink {
+    ghost use Rattle.row_file.specs.Memory.{IsToFail, IsCalled, IsCounted};
+
     ghost taken = { λ s. Some s.bytes.items };
 
     ghost faults = { λ s. s.faults };
 
     ghost wants = { λ s. s.wants };
 
-    fn push(&mut self, piece: &[u8]) -> Result<usize, SinkFault> {
+    /// Fails exactly at the calls of the list, and else takes all of the piece, or as much as the limit. `Memory` may come at any other
+    /// call.
+    fn push(&mut self, piece: &[u8]) -> Result<usize, SinkFault>
+        ensures bound { TakesSome result piece.now }
+        ensures bytes { WriteAppends (Some self.old.bytes.items) (Some self.new.bytes.items) result piece.now }
+        ensures later { self.old.faults ≤ self.new.faults }
+        ensures cause { IsErrOf result SinkFault.Failed → Rose self.old.faults self.new.faults }
+        ensures wants_later { self.old.wants ≤ self.new.wants }
+        ensures wants_cause { IsErrOf result SinkFault.Memory → Rose self.old.wants self.new.wants }
+        ensures fails { IsErrOf result SinkFault.Failed ↔ IsToFail self.old }
+        ensures takes { IfOk result (λ n. n ≡ min (length piece.now) self.old.limit) }
+        ensures called { IsCalled self.old self.new }
+        ensures counted { IsCounted self.old self.new result }
+    {
         self.calls = self.calls.saturating_add(1);
         if self.failing.contains(&self.calls) {
             self.faults = self.faults.saturating_add(1);

@@ -1,5 +1,9 @@
 //! A sink in memory that never fails.
-ghost use Rattle.std.specs.Prelude.{◌≡◌, Some, []};
+ghost use Rattle.std.specs.Prelude.{◌≡◌, ◌≤◌, Some, [], IfOk, IsErrOf, length};
+ghost use Rattle.std.specs.Io.KnownBytes.{WriteAppends};
+ghost use Rattle.row_file.specs.Causes.{Rose};
+ghost use Rattle.row_file.specs.Ends.{TakesSome};
+ghost use Rattle.row_file.specs.Plain.{WantsAlone};
 
 use crate::{Sink, SinkFault};
 use std::alloc::Global;
@@ -16,7 +20,8 @@ impl PlainSink {
 
     /// A sink that has taken nothing.
     pub fn new(alloc: Global) -> Self
-        ensures { plain_taken result ≡ [] }
+        ensures taken { plain_taken result ≡ [] }
+        ensures unused { result.wants ≡ 0 }
     {
         PlainSink {
             bytes: Vec::new(alloc),
@@ -39,7 +44,17 @@ impl Sink for PlainSink {
 
     ghost wants = { λ s. s.wants };
 
-    fn push(&mut self, piece: &[u8]) -> Result<usize, SinkFault> {
+    /// Takes the whole piece. Only `Memory` may come in its place.
+    fn push(&mut self, piece: &[u8]) -> Result<usize, SinkFault>
+        ensures bound { TakesSome result piece.now }
+        ensures bytes { WriteAppends (Some self.old.bytes.items) (Some self.new.bytes.items) result piece.now }
+        ensures later { 0 ≤ 0 }
+        ensures cause { IsErrOf result SinkFault.Failed → Rose 0 0 }
+        ensures wants_later { self.old.wants ≤ self.new.wants }
+        ensures wants_cause { IsErrOf result SinkFault.Memory → Rose self.old.wants self.new.wants }
+        ensures takes { IfOk result (λ n. n ≡ length piece.now) }
+        ensures wants { WantsAlone self.old self.new result }
+    {
         match self.bytes.extend_from_slice(piece) {
             Ok(()) => Ok(piece.len()),
             Err(_) => {
