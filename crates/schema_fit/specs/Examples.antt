@@ -45,6 +45,7 @@ pub record AreSkeletons : Type 0 where
   pub one_level : fits_to (may (of_fields (must t_int32 ∷ []))) (plain optional int32) ≡ true
   -- the Arrow type of an optional list over a repeated group `my_list_tuple` over one required text
   pub tuple : fits_to (may (t_list (may (of_fields (must t_utf8 ∷ []))))) (list_of (leaf (node required (Some Converted.utf8) None) byte_array)) ≡ false
+  pub tuple_differs : agrees_with (may (t_list (may (of_fields (must t_utf8 ∷ []))))) (list_of (leaf (node required (Some Converted.utf8) None) byte_array)) ≡ false
 
 -- ---- rows and units
 
