@@ -716,3 +716,57 @@ fn deep_trees_are_told(rt: HostRuntime) -> Result<(), Fail> {
     }
     Ok(())
 }
+
+#[test]
+fn converted_types_are_read(rt: HostRuntime) -> Result<(), Fail> {
+    let alloc = rt.alloc();
+    // each number in zigzag, and what it stands for; 22 and -1 are none of them
+    let cases: [(u8, Option<ConvertedType>); 24] = [
+        (0, Some(ConvertedType::Utf8)),
+        (2, Some(ConvertedType::Map)),
+        (4, Some(ConvertedType::MapKeyValue)),
+        (6, Some(ConvertedType::List)),
+        (8, Some(ConvertedType::Enum)),
+        // the scale 2 and the precision 9 beside it
+        (10, Some(ConvertedType::Decimal(9, 2))),
+        (12, Some(ConvertedType::Date)),
+        (14, Some(ConvertedType::TimeMillis)),
+        (16, Some(ConvertedType::TimeMicros)),
+        (18, Some(ConvertedType::TimestampMillis)),
+        (20, Some(ConvertedType::TimestampMicros)),
+        (22, Some(ConvertedType::Uint8)),
+        (24, Some(ConvertedType::Uint16)),
+        (26, Some(ConvertedType::Uint32)),
+        (28, Some(ConvertedType::Uint64)),
+        (30, Some(ConvertedType::Int8)),
+        (32, Some(ConvertedType::Int16)),
+        (34, Some(ConvertedType::Int32)),
+        (36, Some(ConvertedType::Int64)),
+        (38, Some(ConvertedType::Json)),
+        (40, Some(ConvertedType::Bson)),
+        (42, Some(ConvertedType::Interval)),
+        (44, None),
+        (1, None),
+    ];
+    for (number, converted_type) in cases {
+        let mut bytes = b"\x35\x02\x18\x00\x25".to_vec(alloc)?;
+        bytes.push(number)?;
+        bytes.extend_from_slice(b"\x15\x04\x15\x12\x00")?;
+        let (value, _) = read_thrift(alloc, &bytes)?;
+        let element = element_from(alloc, &value)?;
+        assert_eq!(rt; element.converted_type, converted_type, "{number}");
+    }
+    Ok(())
+}
+
+#[test]
+fn a_footer_without_its_last_byte_is_refused(rt: HostRuntime) -> Result<(), Fail> {
+    let alloc = rt.alloc();
+    let mut bytes = FILE[..136].to_vec(alloc)?;
+    bytes.extend_from_slice(&FILE[137..])?;
+    match read_metadata(alloc, &bytes) {
+        Ok(_) => assert!(rt; false, "it is read"),
+        Err(error) => assert_eq!(rt; error, OUTSIDE),
+    }
+    Ok(())
+}
