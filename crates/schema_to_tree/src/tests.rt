@@ -448,3 +448,25 @@ fn encodings_go_by_type(rt: HostRuntime) -> TestResult {
     assert!(rt; !can_encode(&DataType::Utf8, Encoding::RleDictionary));
     Ok(())
 }
+
+#[test]
+fn each_leaf_has_an_encoding(rt: HostRuntime) -> TestResult {
+    let alloc = rt.alloc();
+    let data_type = two_columns(alloc)?;
+    let encodings = transverse(alloc, &data_type, |_leaf: &DataType| Encoding::Plain)?;
+    assert_eq!(rt;
+        encodings.as_slice(),
+        [Encoding::Plain, Encoding::Plain].as_slice()
+    );
+    Ok(())
+}
+
+#[test]
+fn a_nullable_number_is_an_optional_leaf(rt: HostRuntime) -> TestResult {
+    let alloc = rt.alloc();
+    let stored = leaf(alloc, DataType::Int32, true)?;
+    assert_eq!(rt; stored.field_info.name.as_str(), "a");
+    assert_eq!(rt; stored.field_info.repetition, Repetition::Optional);
+    assert_eq!(rt; stored.physical_type, PhysicalType::Int32);
+    Ok(())
+}
