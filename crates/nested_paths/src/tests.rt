@@ -5,7 +5,7 @@ use columns_array::{
 };
 use columns_base::{A, Error, N, PhysicalType, Result as Answer};
 use columns_core::{Bitmap, DataType, Field, IntegerType, Metadata, OffsetsBuffer};
-use columns_leaf::{DictionaryKeys, NullArray, PrimitiveArray, Utf8Array};
+use columns_leaf::{BooleanArray, DictionaryKeys, NullArray, PrimitiveArray, Utf8Array};
 use levels::Nested;
 use pq_container::{FieldInfo, ParquetType, PrimitiveType, Repetition};
 use std::alloc::Global;
@@ -666,5 +666,75 @@ fn the_leaves_of_a_tree_stand_in_order(rt: HostRuntime) -> TestResult {
         names.push_str(" ")?;
     }
     assert_eq!(rt; names.as_str(), "b c item ");
+    Ok(())
+}
+
+// ---- a struct over truths and numbers, and a struct over a number and a list
+
+fn has_truths(array: &ArrayBox, bits: &[bool]) -> bool {
+    let ArrayBox::Boolean(found) = array else {
+        return false;
+    };
+    let found = found.values();
+    if found.len() != bits.len() {
+        return false;
+    }
+    for i in 0..bits.len() {
+        if found.get_bit(i) != bits[i] {
+            return false;
+        }
+    }
+    true
+}
+
+fn has_numbers(array: &ArrayBox, numbers: &[i32]) -> bool {
+    match array {
+        ArrayBox::Int32(found) => found.values() == numbers,
+        _ => false,
+    }
+}
+
+fn stored(alloc: Global, name: &str, physical_type: PhysicalType) -> Answer<ParquetType> {
+    Ok(ParquetType::PrimitiveType(PrimitiveType {
+        field_info: info(alloc, name, REQUIRED)?,
+        logical_type: None,
+        converted_type: None,
+        physical_type,
+    }))
+}
+
+#[test]
+fn a_struct_over_truths_and_numbers(rt: HostRuntime) -> TestResult {
+    let alloc = rt.alloc();
+    let truths = Bitmap::from_slice(alloc, &[false, false, true, true])?;
+    let truths = BooleanArray::try_new(alloc, DataType::Boolean, truths, None)?;
+    let array = two_structs(
+        alloc,
+        ArrayBox::Boolean(truths),
+        numbers(alloc, &[42, 28, 19, 31], &[])?,
+        MASK,
+    )?;
+    let first = stored(alloc, "b", PhysicalType::Boolean)?;
+    let second = stored(alloc, "c", PhysicalType::Int32)?;
+    let tree = group(alloc, "a", OPTIONAL, two(alloc, first, second)?)?;
+    let path: &[Part] = &[Part::Struct(true, MASK, 4), Part::Leaf(false, &[], 4)];
+    assert!(rt; are_paths(&to_nested(alloc, &array, &tree)?, &[path, path]));
+    let leaves = to_leaves(alloc, &array)?;
+    assert_eq!(rt; leaves.len(), 2);
+    assert!(rt; has_truths(leaves[0], &[false, false, true, true]));
+    assert!(rt; has_numbers(leaves[1], &[42, 28, 19, 31]));
+    Ok(())
+}
+
+#[test]
+fn a_struct_over_a_number_and_a_list_has_two_leaves(rt: HostRuntime) -> TestResult {
+    let alloc = rt.alloc();
+    let number = stored(alloc, "a", PhysicalType::Int64)?;
+    let items = list_node(alloc, OPTIONAL, leaf(alloc, "item", OPTIONAL)?)?;
+    let tree = group(alloc, "s", REQUIRED, two(alloc, number, items)?)?;
+    let leaves = to_parquet_leaves(alloc, tree)?;
+    assert_eq!(rt; leaves.len(), 2);
+    assert_eq!(rt; leaves[0].physical_type, PhysicalType::Int64);
+    assert_eq!(rt; leaves[1].physical_type, PhysicalType::Int32);
     Ok(())
 }
