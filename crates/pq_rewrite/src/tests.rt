@@ -190,7 +190,12 @@ fn refusals(rt: HostRuntime) -> Result<(), AllocError> {
 #[test]
 fn bad_words(rt: HostRuntime) -> Result<(), AllocError> {
     let alloc = rt.alloc();
-    let cases: [&[&str]; 3] = [&["--version=1"], &[""], &["--delta", "--delta"]];
+    let cases: [&[&str]; 4] = [
+        &["--version=1"],
+        &[""],
+        &["--delta", "--delta"],
+        &["--chunk=x"],
+    ];
     for words in cases {
         let mut setting = sound(&FIRST_FILE);
         setting.words = words;
