@@ -4,7 +4,7 @@ ghost use Rattle.std.specs.Io.KnownBytes.{Keeps};
 ghost use Rattle.row_file.specs.Causes.{Rose};
 ghost use Rattle.pq_rewrite.specs.FormOne.{byte_limit, IsGiven, IsOutOfFrame, IsOfNoForm, IsTooLong};
 ghost use Rattle.pq_rewrite.specs.Notes.{Told};
-ghost use Rattle.pq_rewrite.specs.Reading.{GavePast};
+ghost use Rattle.pq_rewrite.specs.Reading.{GaveSome, GavePast};
 ghost use Rattle.pq_rewrite.specs.Run.{Converts, ConvertsInPart, GaveSuch, Held, words_of};
 
 use crate::Source;
@@ -48,6 +48,7 @@ pub fn run<S: Source, K: Sink, M: Sink>(
     ensures after_memory { result ≡ 10 → Keeps (K.taken sink.old) (K.taken sink.new) ⊎ ConvertsInPart IsGiven byte_limit (S.left source.old) (S.left source.new) (K.taken sink.old) (K.taken sink.new) }
     ensures reads_later { S.faults source.old ≤ S.faults source.new }
     ensures writes_later { K.faults sink.old ≤ K.faults sink.new }
+    ensures read_some { GaveSome byte_limit (S.left source.old) (S.left source.new) }
     ensures read_whole { (result ≡ 0) ⊎ (result ≡ 4) ⊎ ((6 ≤ result) × (result ≤ 7)) → Held (S.left source.old) (λ bytes. S.left source.new ≡ Some []) }
     ensures read_past { result ≡ 5 → GavePast byte_limit (S.left source.old) (S.left source.new) }
     // The line on the notes of every other status than 0.

@@ -2,6 +2,7 @@
 ghost use Rattle.std.specs.Prelude.{◌≡◌, ◌≤◌, ◌<◌, ◌↔◌, length};
 ghost use Rattle.pq_rewrite.specs.Notes.{bad_words, Told};
 ghost use Rattle.pq_rewrite.specs.FormOne.{byte_limit as largest_input};
+ghost use Rattle.pq_rewrite.specs.Reading.{GaveSome};
 ghost use Rattle.pq_rewrite.specs.Answer.{Rewrote, Answered, KeptUnlessWritten, meaning, ends};
 
 use crate::conversion::Conversion;
@@ -23,6 +24,7 @@ pub(crate) fn rewrite<S: Source, K: Sink, C: Conversion>(
     requires { byte_limit ≤ largest_input }
     ensures answer { Rewrote (meaning (C.gives conversion.now) (C.refuses conversion.now)) byte_limit (ends S.left S.faults K.taken K.faults source.old source.new sink.old sink.new) result }
     ensures kept { KeptUnlessWritten (sink.new ≡ sink.old) result }
+    ensures read_some { GaveSome byte_limit (S.left source.old) (S.left source.new) }
     ensures reads_later { S.faults source.old ≤ S.faults source.new }
     ensures writes_later { K.faults sink.old ≤ K.faults sink.new }
 {
@@ -49,6 +51,7 @@ pub(crate) fn run_with<S: Source, K: Sink, M: Sink, C: Conversion>(
     ensures words { (result ≡ 2) ↔ (0 < length words.now) }
     ensures after_words { result ≡ 2 → Told M.taken M.faults M.wants notes.old notes.new bad_words × (source.new ≡ source.old) × (sink.new ≡ sink.old) }
     ensures answer { length words.now ≡ 0 → Answered (meaning (C.gives conversion.now) (C.refuses conversion.now)) byte_limit (ends S.left S.faults K.taken K.faults source.old source.new sink.old sink.new) (Told M.taken M.faults M.wants notes.old notes.new) (sink.new ≡ sink.old) result }
+    ensures read_some { GaveSome byte_limit (S.left source.old) (S.left source.new) }
     ensures reads_later { S.faults source.old ≤ S.faults source.new }
     ensures writes_later { K.faults sink.old ≤ K.faults sink.new }
 {

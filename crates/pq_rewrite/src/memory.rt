@@ -1,5 +1,8 @@
 //! A source in memory that fails at the calls of a list.
-ghost use Rattle.std.specs.Prelude.{◌≡◌, Some, drop, length, ◌≤◌};
+ghost use Rattle.std.specs.Prelude.{◌≡◌, ◌≤◌, ◌↔◌, Some, IfOk, IsErr, OnOk, OnErr, drop, length, min};
+ghost use Rattle.std.specs.Io.{ReadsAtMost};
+ghost use Rattle.std.specs.Io.KnownBytes.{ReadConsumes};
+ghost use Rattle.row_file.specs.Causes.{Rose, raised};
 
 use crate::{Failed, Source};
 
@@ -35,11 +38,24 @@ impl MemorySource {
 }
 
 impl Source for MemorySource {
+    ghost use Rattle.pq_rewrite.specs.Memory.{memory_left, IsToFail, IsCalled};
+
     ghost left = { λ s. Some (drop s.at s.bytes.items) };
 
     ghost faults = { λ s. s.faults };
 
-    fn pull(&mut self, into: &mut [u8]) -> Result<usize, Failed> {
+    /// Fails exactly at the calls of the list, and else gives what is left, or as much of it as the buffer holds.
+    fn pull(&mut self, into: &mut [u8]) -> Result<usize, Failed>
+        ensures bound { ReadsAtMost result into.new }
+        ensures bytes { ReadConsumes (Some (drop self.old.at self.old.bytes.items)) (Some (drop self.new.at self.new.bytes.items)) result into.new }
+        ensures later { self.old.faults ≤ self.new.faults }
+        ensures cause { OnErr result (Rose self.old.faults self.new.faults) }
+        ensures fails { IsErr result ↔ IsToFail self.old }
+        ensures gives { IfOk result (λ n. n ≡ min (length into.old) (length (memory_left self.old))) }
+        ensures called { IsCalled self.old self.new }
+        ensures uncounted { OnOk result (self.new.faults ≡ self.old.faults) }
+        ensures counted { OnErr result (self.new.faults ≡ raised self.old.faults) }
+    {
         self.calls = self.calls.saturating_add(1);
         if self.failing.contains(&self.calls) {
             self.faults = self.faults.saturating_add(1);

@@ -1,5 +1,8 @@
 //! A source in memory that never fails.
-ghost use Rattle.std.specs.Prelude.{◌≡◌, Some, drop, length, ◌≤◌};
+ghost use Rattle.std.specs.Prelude.{◌≡◌, ◌≤◌, Some, Ok, OnErr, drop, length, min};
+ghost use Rattle.std.specs.Io.{ReadsAtMost};
+ghost use Rattle.std.specs.Io.KnownBytes.{ReadConsumes};
+ghost use Rattle.row_file.specs.Causes.{Rose};
 
 use crate::{Failed, Source};
 
@@ -23,11 +26,20 @@ impl PlainSource {
 }
 
 impl Source for PlainSource {
+    ghost use Rattle.pq_rewrite.specs.Plain.{plain_left};
+
     ghost left = { λ s. Some (drop s.at s.bytes.items) };
 
     ghost faults = { λ _. 0 };
 
-    fn pull(&mut self, into: &mut [u8]) -> Result<usize, Failed> {
+    /// Gives what is left, or as much of it as the buffer holds.
+    fn pull(&mut self, into: &mut [u8]) -> Result<usize, Failed>
+        ensures bound { ReadsAtMost result into.new }
+        ensures bytes { ReadConsumes (Some (drop self.old.at self.old.bytes.items)) (Some (drop self.new.at self.new.bytes.items)) result into.new }
+        ensures later { 0 ≤ 0 }
+        ensures cause { OnErr result (Rose 0 0) }
+        ensures gives { result ≡ Ok (min (length into.old) (length (plain_left self.old))) }
+    {
         let count = into.len().min(self.bytes.len() - self.at);
         into[..count].copy_from_slice(&self.bytes[self.at..self.at + count]);
         self.at += count;

@@ -1,10 +1,13 @@
 //! A source over a real stream.
-ghost use Rattle.std.specs.Prelude.{◌≡◌, None};
+ghost use Rattle.std.specs.Prelude.{◌≡◌, ◌≤◌, OnOk, OnErr};
+ghost use Rattle.std.specs.Io.{ReadsAtMost};
+ghost use Rattle.std.specs.Io.KnownBytes.{ReadConsumes};
+ghost use Rattle.row_file.specs.Causes.{Rose, raised};
 
 use crate::{Failed, Source};
 use std::io::Read;
 
-/// A source over a reader of std, as standard input. It tells nothing of the bytes, and counts its faults.
+/// A source over a reader of std. It tells the bytes that the reader tells: none of standard input. It counts its faults.
 #[derive(Drop)]
 pub struct StdSource<R> {
     inner: R,
@@ -21,11 +24,19 @@ impl<R: Read> StdSource<R> {
 }
 
 impl<R: Read> Source for StdSource<R> {
-    ghost left = { λ _. None };
+    ghost left = { λ s. R.remaining s.inner };
 
     ghost faults = { λ s. s.faults };
 
-    fn pull(&mut self, into: &mut [u8]) -> Result<usize, Failed> {
+    /// Gives what one read gives. Each fault counts one, and nothing else does.
+    fn pull(&mut self, into: &mut [u8]) -> Result<usize, Failed>
+        ensures bound { ReadsAtMost result into.new }
+        ensures bytes { ReadConsumes (R.remaining self.old.inner) (R.remaining self.new.inner) result into.new }
+        ensures later { self.old.faults ≤ self.new.faults }
+        ensures cause { OnErr result (Rose self.old.faults self.new.faults) }
+        ensures uncounted { OnOk result (self.new.faults ≡ self.old.faults) }
+        ensures counted { OnErr result (self.new.faults ≡ raised self.old.faults) }
+    {
         match self.inner.read(into) {
             Ok(count) => Ok(count),
             Err(_) => {

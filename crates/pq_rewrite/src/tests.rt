@@ -126,8 +126,9 @@ pub(crate) fn small(number: usize) -> u8 {
     u8::try_from(number).unwrap_or(0)
 }
 
+// The contract lets `run` answer want of memory at any file: that it does not is seen here.
 #[test]
-fn first_file(rt: HostRuntime) -> Result<(), AllocError> {
+fn first_file_is_rewritten_where_there_is_memory(rt: HostRuntime) -> Result<(), AllocError> {
     let alloc = rt.alloc();
     let made = run_on(alloc, &sound(&FIRST_FILE))?;
     assert_eq!(rt; made.status, 0);
