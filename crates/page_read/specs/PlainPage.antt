@@ -1,5 +1,5 @@
 -- A data page of version 1 with plain INT32 values, by the numbers that a reader goes by.
-use Rattle.std.specs.Prelude.{◌≡◌, ◌⊎◌, ◌↔◌, ℕ, pos, List, length, count_by, nat_eq, Result, Ok, Err}
+use Rattle.std.specs.Prelude.{◌≡◌, ◌⊎◌, ℕ, pos, List, length, count_by, nat_eq}
 use Rattle.columns_base.specs.declared.error.Error.{Error}
 use Rattle.columns_base.specs.declared.error.Error.TheVariants.{OutOfSpec, Memory}
 use Rattle.columns_base.specs.declared.error.S.TheVariants.{S4, S5, S6}
@@ -12,7 +12,6 @@ use Rattle.pq_files.specs.Levels.{HasLevels, IsBehindLength}
 use Rattle.pq_files.specs.Page.{LevelsAreRuns}
 use Rattle.pq_files.specs.Plain.{IsPlain}
 use Rattle.pq_numbers.specs.Texts.{Begins}
-use Rattle.page_read.specs.declared.pairs.LevelPairs.{LevelPairs}
 
 -- the leaf has these maxima, and the header this number of pairs and the plain encoding
 pub record IsPlainPage (l : Leaf) (h : DataHeader) (max_r max_d count : ℕ) : Type 0 where
@@ -78,8 +77,3 @@ RefusesBody max_r max_d count body e =
     ⊎ ((e ≡ OutOfSpec S4) × LacksLevelPairs max_r max_d count body)
     ⊎ ((e ≡ OutOfSpec S5) × BeginsInRow max_r max_d count body)
     ⊎ ((e ≡ OutOfSpec S6) × LacksValues max_r max_d count body)
-
--- the error comes exactly where the condition holds, want of memory aside
-abbrev pub ComesWhere : Error → Type 0 → Result LevelPairs Error → Type 0
-ComesWhere reason condition (Ok pairs) = condition → ⊥
-ComesWhere reason condition (Err e) = (e ≡ Memory) ⊎ ((e ≡ reason) ↔ condition)

@@ -10,7 +10,8 @@ ghost use Rattle.pq_container.specs.Header.{DataHeader, data_page};
 ghost use Rattle.pq_container.specs.Tree.{Leaf};
 ghost use Rattle.pq_files.specs.Page.{IsPage};
 ghost use Rattle.page_read.specs.LevelPairs.{triples};
-ghost use Rattle.page_read.specs.PlainPage.{IsPlainPage, IsPlainBody, RefusesBody, ComesWhere, LacksLevelPairs, BeginsInRow, LacksValues};
+ghost use Rattle.pq_container.specs.Reads.{ComesWhere};
+ghost use Rattle.page_read.specs.PlainPage.{IsPlainPage, IsPlainBody, RefusesBody, LacksLevelPairs, BeginsInRow, LacksValues};
 
 use crate::levels::read_levels;
 use crate::pairs::LevelPairs;
