@@ -55,6 +55,9 @@ runs_are_worked = record {
   too_few = none_spelled 1 5 (8 ∷ 1 ∷ []) refl;
   no_header = none_spelled 1 1 (128 ∷ []) refl;
   only_zeros = λ s. let e : Ok 0 ∷ [] ≡ Ok 1 ∷ [] = is_read 0 1 [] (1 ∷ []) s in absurd cc;
+  three_stretches = refl;
+  one_stretch = refl;
+  no_stretch = refl;
   other = λ s. let e : Ok 1 ∷ Ok 1 ∷ [] ≡ Ok 1 ∷ Ok 0 ∷ [] = is_read 1 2 (8 ∷ 1 ∷ []) (1 ∷ 0 ∷ []) s in absurd cc;
 }
 

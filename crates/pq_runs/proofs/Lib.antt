@@ -12,4 +12,5 @@ pub mod Items
 pub mod Packs
 pub mod Sound
 pub mod Steps
+pub mod Short
 pub mod Taken

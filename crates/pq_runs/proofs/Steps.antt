@@ -84,7 +84,7 @@ more_runs w start out out' pending xs text ys s e none closed size =
 as_done : (w : ℕ) (start out pending xs : List ℕ) (s : Wrote w start out pending xs) → Wrote w start out [] s.done
 as_done w start out pending xs s = record { text = s.text; done = s.done; parts = s.parts; all = append-nil s.done; closed = s.closed; size = s.size }
 
-header-size : (g : ℕ) → g ≤ 63 → length (varint (2 * g + 1)) ≡ 1
+pub header-size : (g : ℕ) → g ≤ 63 → length (varint (2 * g + 1)) ≡ 1
 header-size g h = ap length (digits-last (2 * g + 1) (2 * g + 1) (omega (arith, h)))
 
 pub wrote_groups : (w g : ℕ) (start out out' pending xs body : List ℕ) → 0 < g → g ≤ 63 → length pending ≡ 8 * g → ArePacked w pending body → out' ≡ out ++ (varint (2 * g + 1) ++ body) → Wrote w start out pending xs → Wrote w start out' [] xs

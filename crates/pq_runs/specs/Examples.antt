@@ -1,9 +1,10 @@
 -- Runs and deltas as the standard spells them, and texts that spell none.
-use Rattle.std.specs.Prelude.{ℕ, ℤ, pos, negsuc, List, [], ◌∷◌, true, false}
+use Rattle.std.specs.Prelude.{◌≡◌, ℕ, ℤ, pos, negsuc, List, [], ◌∷◌, true, false}
 use Rattle.std.specs.Int.{w32, w64}
 use Rattle.pq_runs.specs.Delta.{IsDelta}
 use Rattle.pq_runs.specs.Runs.{Runs}
 use Rattle.pq_runs.specs.Spelled.{Spelled}
+use Rattle.pq_runs.specs.Stretches.{stretches}
 
 -- the standard's example of bit packing: 0 to 7 in three bits each
 abbrev pub packed : List ℕ
@@ -31,6 +32,10 @@ pub record RunsAreWorked : Type 0 where
   pub no_header : (xs : List ℕ) → Spelled 1 1 (128 ∷ []) xs → ⊥
   pub only_zeros : Spelled 0 1 [] (1 ∷ []) → ⊥
   pub other : Spelled 1 2 (8 ∷ 1 ∷ []) (1 ∷ 0 ∷ []) → ⊥
+  -- equal numbers side by side are one stretch
+  pub three_stretches : stretches (5 ∷ 5 ∷ 2 ∷ 2 ∷ 2 ∷ 5 ∷ []) ≡ 3
+  pub one_stretch : stretches (0 ∷ 0 ∷ []) ≡ 1
+  pub no_stretch : stretches [] ≡ 0
 
 -- blocks of 128 in 4 miniblocks, eight numbers, the first is 7; the least delta is -2, and seven deltas stand in two bits each
 abbrev pub deltas : List ℕ

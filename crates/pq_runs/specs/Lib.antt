@@ -11,3 +11,4 @@ pub mod Spelled
 pub mod State
 pub mod Taking
 pub mod Writing
+pub mod Stretches

@@ -8,6 +8,7 @@ ghost use Rattle.pq_numbers.specs.Bits.{bytes_for};
 ghost use Rattle.pq_numbers.specs.Texts.{number_of};
 ghost use Rattle.pq_runs.specs.Packing.{ArePacked};
 ghost use Rattle.pq_numbers.specs.Varint.{varint};
+ghost use Rattle.pq_runs.specs.Stretches.{IsShort, Spent, Takes, one_if_any, stretch_bits};
 ghost use Rattle.pq_runs.specs.Writing.{Extends, Wrote, IsWhole, Spelling, IsReady, Encoded};
 
 use crate::pack::{push_packed, push_whole_bytes};
@@ -59,6 +60,7 @@ fn flush(
     requires fits { width ≤ 32 }
     requires whole { length pending.old % 8 ≡ 0 }
     requires below { All (λ v. v < 2 ^ width) pending.old }
+    ensures short { OnOk result (Takes width out.old.items pending.old out.new.items [] 8) }
     ensures ok { OnOk result ((pending.new ≡ []) × ((start xs : List ℕ) → Wrote width start out.old.items pending.old xs → Wrote width start out.new.items [] xs)) }
     ensures kept { Extends out.old.items out.new.items }
 {
@@ -83,6 +85,7 @@ fn settle(
     requires below { All (λ v. v < 2 ^ width) pending.old }
     requires number { number < 2 ^ width }
     ensures room { OnOk result (length pending.new < 504) }
+    ensures short { OnOk result (Takes width out.old.items pending.old out.new.items pending.new (stretch_bits width * one_if_any count)) }
     ensures below { OnOk result (All (λ v. v < 2 ^ width) pending.new) }
     ensures wrote { OnOk result ((start xs : List ℕ) → Wrote width start out.old.items pending.old xs → Wrote width start out.new.items pending.new (xs ++ replicate count number)) }
     ensures kept { Extends out.old.items out.new.items }
@@ -106,6 +109,7 @@ fn settle(
 fn finish(out: &mut Vec<u8>, pending: &Pending, width: u32) -> std::result::Result<(), AllocError>
     requires fits { width ≤ 32 }
     requires below { All (λ v. v < 2 ^ width) pending.now }
+    ensures short { OnOk result (Takes width out.old.items pending.now out.new.items [] 15) }
     ensures ok { OnOk result ((start xs : List ℕ) → Wrote width start out.old.items pending.now xs → Spelling width start out.new.items xs) }
     ensures kept { Extends out.old.items out.new.items }
 {
@@ -145,6 +149,7 @@ fn add(
     requires fits { width ≤ 32 }
     requires ready { IsReady width pending.old copies.old.number copies.old.count }
     ensures ready { OnOk result (IsReady width pending.new copies.new.number copies.new.count) }
+    ensures short { OnOk result ((start xs : List ℕ) → Encoded width start out.old.items pending.old copies.old.number copies.old.count xs → Spent width start out.old.items pending.old copies.old.count xs → Spent width start out.new.items pending.new copies.new.count (xs ++ value % 2 ^ width ∷ [])) }
     ensures added { OnOk result ((start xs : List ℕ) → Encoded width start out.old.items pending.old copies.old.number copies.old.count xs → Encoded width start out.new.items pending.new copies.new.number copies.new.count (xs ++ value % 2 ^ width ∷ [])) }
     ensures kept { Extends out.old.items out.new.items }
 {
@@ -168,6 +173,7 @@ fn encode_numbers<I: Iterator<Item = u32>>(
     requires ends { IsFinite (I.remaining values) }
     requires fits { width ≤ 32 }
     ensures ok { OnOk result ((vs : List ℕ) × Drains I.next_gives values vs × Spelling width out.old.items out.new.items (map (λ v. v % 2 ^ width) vs)) }
+    ensures short { OnOk result ((vs : List ℕ) × Drains I.next_gives values vs × IsShort width out.old.items out.new.items (map (λ v. v % 2 ^ width) vs)) }
     ensures kept { Extends out.old.items out.new.items }
 {
     let mut pending = Pending::new();
@@ -182,8 +188,8 @@ fn encode_numbers<I: Iterator<Item = u32>>(
     finish(out, &pending, width)
 }
 
-/// Appends hybrid runs of the numbers, each below `2^width`, in at most `width + 1` bits a number and 15 bits.
-/// Eight and more equal ones are written as a repeated run, of which no clause tells.
+/// Appends hybrid runs of the numbers, each below `2^width`, in at most `width + 1` bits a number and 15 bits, and in at most `2 * width + 19`
+/// bytes for each stretch of up to `2^40` equal numbers and one byte: eight and more equal ones are written as a repeated run.
 ///
 /// # Errors
 ///
@@ -199,6 +205,7 @@ pub fn encode_u32<I: Iterator<Item = u32>>(
     requires fits { width ≤ 32 }
     requires gives { (vs : List ℕ) → Drains I.next_gives values vs → (count vs ≡ length) × All (λ v. v < 2 ^ width) vs }
     ensures ok { OnOk result ((vs : List ℕ) × Drains I.next_gives values vs × Spelling width out.old.items out.new.items vs) }
+    ensures short { OnOk result ((vs : List ℕ) × Drains I.next_gives values vs × IsShort width out.old.items out.new.items vs) }
     ensures err { IfErr result (λ e. (e ≡ Memory) × (out.new.items ≡ out.old.items)) }
 {
     if width == 0 {
@@ -220,6 +227,7 @@ fn encode_bools<I: Iterator<Item = bool>>(
     requires can { I.can_next values }
     requires ends { IsFinite (I.remaining values) }
     ensures ok { OnOk result ((vs : List Bool) × Drains I.next_gives values vs × Spelling 1 out.old.items out.new.items (map bit vs)) }
+    ensures short { OnOk result ((vs : List Bool) × Drains I.next_gives values vs × IsShort 1 out.old.items out.new.items (map bit vs)) }
     ensures kept { Extends out.old.items out.new.items }
 {
     let mut pending = Pending::new();
@@ -234,7 +242,7 @@ fn encode_bools<I: Iterator<Item = bool>>(
     finish(out, &pending, 1)
 }
 
-/// Appends hybrid runs of width 1.
+/// Appends hybrid runs of width 1, as `encode_u32` does.
 ///
 /// # Errors
 ///
@@ -248,6 +256,7 @@ pub fn encode_bool<I: Iterator<Item = bool>>(
     requires ends { IsFinite (I.remaining values) }
     requires gives { (vs : List Bool) → Drains I.next_gives values vs → count vs ≡ length }
     ensures ok { OnOk result ((vs : List Bool) × Drains I.next_gives values vs × Spelling 1 out.old.items out.new.items (map bit vs)) }
+    ensures short { OnOk result ((vs : List Bool) × Drains I.next_gives values vs × IsShort 1 out.old.items out.new.items (map bit vs)) }
     ensures err { IfErr result (λ e. (e ≡ Memory) × (out.new.items ≡ out.old.items)) }
 {
     let before = out.len();

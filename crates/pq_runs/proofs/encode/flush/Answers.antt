@@ -1,4 +1,5 @@
 use Rattle.std.proofs.Common.{arith}
+use Rattle.pq_runs.proofs.Short.{flush_takes}
 use Rattle.pq_runs.proofs.Steps.{wrote_flush}
 use Rattle.pq_runs.proofs.encode.flush.Goals as goal
 
@@ -6,3 +7,8 @@ pub returns-in_ok-push_groups-clause-ok : goal.returns-in_ok-push_groups-clause-
 returns-in_ok-push_groups-clause-ok c =
     let e = rw c.as_slice.ensures at c.in_ok-push_groups.ensures.ok in
     (c.clear.ensures, λ start xs s. wrote_flush c.args.width start c.args.out.now.items c.push_groups.new.out.items c.args.pending.now xs e.0 (omega arith) (omega arith) c.requires.whole e.2 e.1 s)
+
+pub returns-in_ok-push_groups-clause-short : goal.returns-in_ok-push_groups-clause-short
+returns-in_ok-push_groups-clause-short c =
+    let e = rw c.as_slice.ensures at c.in_ok-push_groups.ensures.ok in
+    flush_takes c.args.width c.args.out.now.items c.push_groups.new.out.items c.args.pending.now e.0 (omega arith) c.requires.whole e.2 e.1
