@@ -12,7 +12,8 @@ use Rattle.pq_container.specs.Frame.{HasFrame, footer_place, footer_of}
 use Rattle.pq_container.specs.Header.{Header, DataHeader, data_page}
 use Rattle.pq_container.specs.Tree.{Leaf, columns_of}
 use Rattle.pq_container.proofs.Framed.{are_told}
-use Rattle.pq_files.specs.Carried.{SpellsRecord, IsChunkOf, AreChunks, IsGroup}
+use Rattle.pq_container.specs.Metadata.{IsFooterText}
+use Rattle.pq_files.specs.Carried.{IsChunkOf, AreChunks, IsGroup}
 use Rattle.pq_files.specs.Chunk.{RawPage, IsPageText, Pages, here, page, HasPages, Page, Chunk, IsPageIn, IsChunk, HasEntries, count_in, triples_of}
 use Rattle.pq_files.proofs.CarriedOnce.{frame_same}
 use Rattle.pq_container.proofs.Injective.{cons_same}
@@ -63,10 +64,10 @@ said_flat (struct fs) f h = record {
 }
 said_flat _ f h = absurd h
 
-record_whole : (footer : List ℕ) (f : Footer) → Begins SpellsFlatRecord footer (flat_form f) → Begins SpellsRecord footer f
+record_whole : (footer : List ℕ) (f : Footer) → Begins SpellsFlatRecord footer (flat_form f) → Begins IsFooterText footer f
 record_whole footer f b = record { text = b.text; rest = b.rest; parts = b.parts; spells = (b.spells.0, b.spells.1, b.spells.2, said_whole b.spells.0 f b.spells.3) }
 
-record_flat : (footer : List ℕ) (f : Footer) → Begins SpellsRecord footer f → Begins SpellsFlatRecord footer (flat_form f)
+record_flat : (footer : List ℕ) (f : Footer) → Begins IsFooterText footer f → Begins SpellsFlatRecord footer (flat_form f)
 record_flat footer f b = record { text = b.text; rest = b.rest; parts = b.parts; spells = (b.spells.0, b.spells.1, b.spells.2, said_flat b.spells.0 f b.spells.3) }
 
 -- ---- the chunk
@@ -128,7 +129,7 @@ found bytes p h body ts rows r =
     let n : p.rows ≡ length rows = rows_of ts rows p.rows r.are.1 r.counted in
     let m = r.planned.meta in
     let pairs : p.pairs ≡ length ts = sym r.only.counted ∙ r.page.counted in
-    let said : Begins SpellsRecord (footer_of bytes) (footer_in p m) = record_whole (footer_of bytes) (footer_in p m) (subst (λ (x : FlatFooter). Begins SpellsFlatRecord (footer_of bytes) x) (flat_same (footer_place bytes) r.footer p r.planned) r.said) in
+    let said : Begins IsFooterText (footer_of bytes) (footer_in p m) = record_whole (footer_of bytes) (footer_in p m) (subst (λ (x : FlatFooter). Begins SpellsFlatRecord (footer_of bytes) x) (flat_same (footer_place bytes) r.footer p r.planned) r.said) in
     record {
       header = h;
       triples = ts;

@@ -4,7 +4,8 @@ use Rattle.std.proofs.lemmas.List.{append_assoc, length-append}
 use Rattle.std.specs.List.{AllZip}
 use Rattle.pq_thrift.specs.Value.{Value as Thrift}
 use Rattle.pq_thrift.proofs.OneReading.{same_reading}
-use Rattle.pq_files.specs.Carried.{SpellsRecord, IsChunkOf, AreChunks, IsGroup, GroupPages, HoldsPages, Group, group_in, Carried}
+use Rattle.pq_container.specs.Metadata.{IsFooterText}
+use Rattle.pq_files.specs.Carried.{IsChunkOf, AreChunks, IsGroup, GroupPages, HoldsPages, Group, group_in, Carried}
 use Rattle.pq_files.specs.Chunk.{Chunk, IsChunk}
 use Rattle.pq_container.specs.Frame.{magic, IsFramed}
 use Rattle.pq_container.specs.Footer.{ChunkMeta, GroupMeta, Key, Footer, SpellsFooter}
@@ -37,7 +38,7 @@ frame_same bytes p q f g a b =
     let parts = append_same a.pages b.pages f g pages cut.0 in
     record { places = omega (arith, a.is_place, b.is_place, pages); footers = parts.1 }
 
-pub record_same : (footer footer' : List ℕ) (f g : Footer) → footer ≡ footer' → Begins SpellsRecord footer f → Begins SpellsRecord footer' g → f ≡ g
+pub record_same : (footer footer' : List ℕ) (f g : Footer) → footer ≡ footer' → Begins IsFooterText footer f → Begins IsFooterText footer' g → f ≡ g
 record_same footer footer' f g e a b =
     let x = a.spells in
     let y = b.spells in

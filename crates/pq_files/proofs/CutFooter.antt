@@ -9,11 +9,10 @@ use Rattle.pq_thrift.specs.declared.kind.Kind.TheVariants.{Struct}
 use Rattle.pq_thrift.specs.Nesting.{NestsPast}
 use Rattle.pq_thrift.proofs.Deep.{too_deep}
 use Rattle.pq_thrift.proofs.OneReading.{same_reading}
-use Rattle.pq_files.specs.Carried.{SpellsRecord}
 use Rattle.pq_container.specs.Encrypted.{SaysEncrypted}
 use Rattle.pq_container.specs.Footer.{Footer, SpellsFooter}
 use Rattle.pq_container.specs.Frame.{HasFrame, footer_of}
-use Rattle.pq_container.specs.Metadata.{FooterIsDeep}
+use Rattle.pq_container.specs.Metadata.{IsFooterText, FooterIsDeep}
 use Rattle.pq_files.specs.Reasons.{S1}
 use Rattle.pq_container.specs.Tree.{schema_nesting}
 use Rattle.pq_files.specs.NearMiss.{cut_file}
@@ -33,7 +32,7 @@ read : thrift_at (footer_of cut_file) ≡ Ok (struct no_fields, drop 1 (footer_o
 unfolding varint_up_to signed_at binary_at list_head_at field_head_at values_at fields_at list_with struct_with value_at
 read = refl
 
-no_record : (f : Footer) → Begins SpellsRecord (footer_of cut_file) f → ⊥
+no_record : (f : Footer) → Begins IsFooterText (footer_of cut_file) f → ⊥
 no_record f b =
     let x = b.spells in
     let v = reads_empty x.0 (record { text = b.text; rest = b.rest; parts = b.parts; spells = x.1 }) in
@@ -46,7 +45,7 @@ no_record f b =
 not_deep : ¬ FooterIsDeep (footer_of cut_file)
 not_deep = either
   where
-    either : (NestsPast max_depth Struct (footer_of cut_file) ⊎ ((f : Footer) × Begins SpellsRecord (footer_of cut_file) f × (128 < schema_nesting f.schema))) → ⊥
+    either : (NestsPast max_depth Struct (footer_of cut_file) ⊎ ((f : Footer) × Begins IsFooterText (footer_of cut_file) f × (128 < schema_nesting f.schema))) → ⊥
     either (inl d) = cc (too_deep max_depth Struct (footer_of cut_file) d, read)
     either (inr f) = no_record f.0 f.1
 

@@ -14,7 +14,8 @@ use Rattle.pq_container.specs.Frame.{IsFramed}
 use Rattle.pq_container.specs.Header.{Header, data_page, data_page_2, dictionary_page}
 use Rattle.pq_container.specs.Tree.{Leaf, Schema, columns_of, max_definition, max_repetition}
 use Rattle.pq_container.proofs.Injective.{pos_same}
-use Rattle.pq_files.specs.Carried.{SpellsRecord, IsChunkOf, AreChunks, IsGroup, GroupPages, Group, Carried}
+use Rattle.pq_container.specs.Metadata.{IsFooterText}
+use Rattle.pq_files.specs.Carried.{IsChunkOf, AreChunks, IsGroup, GroupPages, Group, Carried}
 use Rattle.pq_files.specs.Chunk.{Chunk, RawPage, IsDictionary, count_in}
 use Rattle.pq_files.specs.Excluded.{Excludes, IsNoPage, ReasonsExclude}
 use Rattle.pq_files.specs.Levels.{HasLevels}
@@ -35,7 +36,7 @@ record Told (bytes : List ℕ) (place : ℕ) (f : Footer) : Type 0 where
   pub groups : List GroupPages
   pub are : AllZip (λ m g. IsGroup bytes place (columns_of f.schema) m g.rows g.chunks) f.groups groups
 
-told : (bytes : List ℕ) (place : ℕ) (footer : List ℕ) (f : Footer) → IsFramed bytes place footer → Begins SpellsRecord footer f → (tree : Schema) (keys : List Key) (groups : List Group) → Carried bytes tree keys groups → Told bytes place f
+told : (bytes : List ℕ) (place : ℕ) (footer : List ℕ) (f : Footer) → IsFramed bytes place footer → Begins IsFooterText footer f → (tree : Schema) (keys : List Key) (groups : List Group) → Carried bytes tree keys groups → Told bytes place f
 told bytes place footer f framed said tree keys groups c =
     let h = c.1 in
     let frame = frame_same bytes place h.place footer h.footer framed h.framed in

@@ -19,7 +19,8 @@ use Rattle.pq_container.specs.Ids.{get}
 use Rattle.pq_container.specs.Tree.{Leaf, Schema, columns_of}
 use Rattle.pq_container.proofs.Framed.{has_frame, is_framed}
 use Rattle.pq_container.proofs.Injective.{pos_same}
-use Rattle.pq_files.specs.Carried.{SpellsRecord, IsChunkOf, AreChunks, IsGroup, GroupPages, Group, Carried, IsNotCarried}
+use Rattle.pq_container.specs.Metadata.{IsFooterText}
+use Rattle.pq_files.specs.Carried.{IsChunkOf, AreChunks, IsGroup, GroupPages, Group, Carried, IsNotCarried}
 use Rattle.pq_files.specs.Chunk.{RawPage, IsPageText, IsData, IsDictionary, Pages, here, page, HasPages, Page, Chunk, IsPageIn, HasEntries, IsChunk, triples_of, count_in}
 use Rattle.pq_files.specs.FirstFile.{head, body, footer, file, file_of, schema, the_leaf}
 use Rattle.pq_files.specs.Layout.{OutGroup}
@@ -40,7 +41,7 @@ use Rattle.pq_files.proofs.WrittenExample as out
 
 -- ---- what such a file says of its only chunk
 
-says : (n : ℕ) (said : List ℕ) → Spells said (struct (footer_fields n)) → Begins SpellsRecord said (the_footer n)
+says : (n : ℕ) (said : List ℕ) → Spells said (struct (footer_fields n)) → Begins IsFooterText said (the_footer n)
 unfolding footer_fields
 says n said s = record { text = said; rest = []; parts = sym (append-nil said); spells = (struct (footer_fields n), s, omega arith, meta_is n) }
 
@@ -193,7 +194,7 @@ none_carried bytes (inl s) tree keys groups c = s.0 (has_frame bytes c.1.place c
 none_carried bytes (inr s) tree keys groups c =
     let h = c.1 in
     let frame = frame_same bytes h.place (footer_place bytes) h.footer (footer_of bytes) h.framed (is_framed bytes s.0) in
-    s.1.none (record { schema = tree; groups = h.metas; keys = keys }) (subst (λ (x : List ℕ). Begins SpellsRecord x (record { schema = tree; groups = h.metas; keys = keys })) frame.footers h.said)
+    s.1.none (record { schema = tree; groups = h.metas; keys = keys }) (subst (λ (x : List ℕ). Begins IsFooterText x (record { schema = tree; groups = h.metas; keys = keys })) frame.footers h.said)
 
 pub are_not_carried : AreNotCarried
 are_not_carried = record { levels_cut = cut_is_not_carried; one_pair_more = six_is_not_carried; one_row_more = five_is_not_carried; footer_cut = (is_out_of_spec, none_carried cut_file is_out_of_spec) }

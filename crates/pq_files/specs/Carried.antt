@@ -12,12 +12,6 @@ use Rattle.pq_container.specs.Physical.{number_of_physical}
 use Rattle.pq_numbers.specs.Texts.{Begins, IsAt}
 use Rattle.pq_container.specs.Tree.{Schema, Leaf, columns_of}
 
--- ---- the footer
-
--- the footer begins with a struct that says this
-abbrev pub SpellsRecord : List ℕ → Footer → Type 0
-SpellsRecord = IsFooterText
-
 -- ---- chunks
 
 -- where the chunk starts: at the dictionary page, where that lies between place 4 and the data pages
@@ -67,7 +61,7 @@ pub record HoldsPages (bytes : List ℕ) (tree : Schema) (keys : List Key) (grou
   pub footer : List ℕ
   pub framed : IsFramed bytes place footer
   pub metas : List GroupMeta
-  pub said : Begins SpellsRecord footer (record { schema = tree; groups = metas; keys = keys })
+  pub said : Begins IsFooterText footer (record { schema = tree; groups = metas; keys = keys })
   pub are : AllZip (λ m g. IsGroup bytes place (columns_of tree) m g.rows g.chunks) metas groups
 
 -- ---- what is carried: for each group its rows, and for each column its entries and triples

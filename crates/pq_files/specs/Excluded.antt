@@ -6,7 +6,8 @@ use Rattle.shredding.specs.Slot.{Value}
 use Rattle.pq_container.specs.Footer.{Footer}
 use Rattle.pq_container.specs.Frame.{IsFramed}
 use Rattle.pq_container.specs.Tree.{Leaf}
-use Rattle.pq_files.specs.Carried.{SpellsRecord, IsNotCarried}
+use Rattle.pq_container.specs.Metadata.{IsFooterText}
+use Rattle.pq_files.specs.Carried.{IsNotCarried}
 use Rattle.pq_files.specs.Chunk.{RawPage}
 use Rattle.pq_files.specs.Page.{IsPage}
 use Rattle.pq_files.specs.PageReasons.{N4Page, S4, S6, HasPairs}
@@ -15,7 +16,7 @@ use Rattle.pq_files.specs.RowReasons.{CountsOtherwise}
 
 -- of what the footer of the bytes says, the place of which is known
 abbrev pub Excludes : (ℕ → Footer → Type 0) → Type 0
-Excludes R = (bytes : List ℕ) (place : ℕ) (footer : List ℕ) (f : Footer) → IsFramed bytes place footer → Begins SpellsRecord footer f → R place f → IsNotCarried bytes
+Excludes R = (bytes : List ℕ) (place : ℕ) (footer : List ℕ) (f : Footer) → IsFramed bytes place footer → Begins IsFooterText footer f → R place f → IsNotCarried bytes
 
 -- the page holds no triples
 abbrev pub IsNoPage : Leaf → Option (List Value) → RawPage → Type 0
