@@ -1,5 +1,5 @@
 -- Bits that grow by whole bytes.
-use Rattle.std.proofs.Common.{◌≡◌, ℕ, zero, suc, ◌+◌, ◌-◌, ◌*◌, ◌/◌, ◌%◌, ◌<◌, List, [], ◌∷◌, ◌++◌, length, replicate, slice_index_or, Bool, append_assoc, length-append, refl, ap, sym, ◌∙◌, arith}
+use Rattle.std.proofs.Common.{◌≡◌, ℕ, zero, suc, ◌+◌, ◌-◌, ◌*◌, ◌/◌, ◌%◌, ◌<◌, ◌≤◌, List, [], ◌∷◌, ◌++◌, length, replicate, slice_index_or, Bool, append_assoc, length-append, refl, ap, sym, ◌∙◌, arith}
 use Rattle.std.proofs.lemmas.List.{replicate-append-replicate}
 use Rattle.columns_core.specs.Bits.{bit_of, bits_from}
 use Rattle.columns_core.proofs.Bits.{byte_more, length_bits}
@@ -60,3 +60,7 @@ pub filled_then : (xs ys : List Bool) (bs : List ℕ) (at a n : ℕ) → ys ≡ 
 filled_then xs ys bs at a n e f h =
     let l : length ys ≡ length xs + a = omega (arith, ap length e, length-append xs (bits_from bs at a), length_bits bs at a) in
     rw l (f (omega (arith, h)))
+
+-- truth values with the room beside them are no fewer where bits came into that room
+pub run_in_room : (xs ys : List Bool) (bs : List ℕ) (at n room left : ℕ) → ys ≡ xs ++ bits_from bs at n → room ≤ left + n → length xs + room ≤ length ys + left
+run_in_room xs ys bs at n room left e h = omega (arith, h, ap length e ∙ length-append xs (bits_from bs at n), length_bits bs at n)

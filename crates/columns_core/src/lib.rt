@@ -28,7 +28,6 @@ pub use native::{DaysMs, NativeType};
 pub use offsets::{Offset, OffsetsBuffer};
 pub use parquet_native::ParquetNativeType;
 pub use types::{DataType, Field, IntegerType, IntervalUnit, Schema, TimeUnit};
-pub use walk::{depth, n_columns};
 
 #[cfg(test)]
 mod tests;

@@ -61,6 +61,7 @@ impl MutableBitmap {
         ensures ok { IfOk result (λ _. additional ≤ self.new.1) }
         ensures err { IfErr result (λ e. e ≡ Error.Memory) }
         ensures reserved { additional ≤ self.old.1 → IsOk result }
+        ensures room { self.old.1 ≤ self.new.1 }
     {
         let Some(size) = self.size.checked_add(additional) else {
             return Err(Error::Memory);
@@ -99,6 +100,7 @@ impl MutableBitmap {
         ensures ok { IfOk result (λ _. self.new.0 ≡ self.old.0 ++ replicate additional value) }
         ensures err { IfErr result (λ e. (e ≡ Error.Memory) × (self.new.0 ≡ self.old.0)) }
         ensures reserved { additional ≤ self.old.1 → IsOk result }
+        ensures room { list_length self.old.0 + self.old.1 ≤ list_length self.new.0 + self.new.1 }
     {
         self.reserve(additional)?;
         let front = self.until_byte(additional);
@@ -120,6 +122,7 @@ impl MutableBitmap {
         ensures ok { IfOk result (λ _. self.new.0 ≡ self.old.0 ++ bits_from slice.now offset length) }
         ensures err { IfErr result (λ e. (e ≡ Error.Memory) × (self.new.0 ≡ self.old.0)) }
         ensures reserved { length ≤ self.old.1 → IsOk result }
+        ensures room { list_length self.old.0 + self.old.1 ≤ list_length self.new.0 + self.new.1 }
     {
         self.reserve(length)?;
         let front = self.until_byte(length);

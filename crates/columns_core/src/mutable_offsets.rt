@@ -54,6 +54,7 @@ impl<O: Offset> Offsets<O> {
         ensures err { IfErr result (λ e. e ≡ Error.Memory) }
         ensures same { self.new.0 ≡ self.old.0 }
         ensures ok { IfOk result (λ _. additional ≤ self.new.1) }
+        ensures room { self.old.1 ≤ self.new.1 }
     {
         self.values.reserve(additional)?;
         Ok(())
@@ -89,7 +90,7 @@ impl<O: Offset> Offsets<O> {
         ensures overflow { IsErrOf result (Error.Overflow V.V1) ↔ O.limit ≤ last_place self.old.0 + length }
         ensures err { IfErr result (λ e. ((e ≡ Error.Memory) ⊎ (e ≡ Error.Overflow V.V1)) × (self.new.0 ≡ self.old.0)) }
         ensures reserved { 0 < self.old.1 → last_place self.old.0 + length < O.limit → IsOk result }
-        ensures room { self.old.1 ≤ self.new.1 + 1 }
+        ensures room { list_length self.old.0 + self.old.1 ≤ list_length self.new.0 + self.new.1 }
     {
         let Some(place) = sum_place::<O>(self.end, length) else {
             return Err(Error::Overflow(V::V1));
@@ -113,6 +114,7 @@ impl<O: Offset> Offsets<O> {
         ensures ok { OnOk result (GrewBy I.next_gives lengths O.limit self.old.0 self.new.0) }
         ensures overflow { IsErrOf result (Error.Overflow V.V1) → Passes I.next_gives lengths O.limit self.old.0 }
         ensures err { IfErr result (λ e. ((e ≡ Error.Memory) ⊎ (e ≡ Error.Overflow V.V1)) × (self.new.0 ≡ self.old.0)) }
+        ensures room { list_length self.old.0 + self.old.1 ≤ list_length self.new.0 + self.new.1 }
     {
         let ranges = self.len_proxy();
         if let Err(error) = self.push_lengths(lengths) {
@@ -131,6 +133,7 @@ impl<O: Offset> Offsets<O> {
         ensures ok { IfOk result (λ _. self.new.0 ≡ self.old.0 ++ replicate additional (last_place self.old.0)) }
         ensures err { IfErr result (λ e. (e ≡ Error.Memory) × (self.new.0 ≡ self.old.0)) }
         ensures reserved { additional ≤ self.old.1 → IsOk result }
+        ensures room { list_length self.old.0 + self.old.1 ≤ list_length self.new.0 + self.new.1 }
     {
         let Some(count) = self.values.len().checked_add(additional) else {
             return Err(Error::Memory);
@@ -175,6 +178,7 @@ impl<O: Offset> Offsets<O> {
         ensures overflow { IsErrOf result (Error.Overflow V.V1) → Passes I.next_gives lengths O.limit self.old.0 }
         ensures err { IfErr result (λ e. (e ≡ Error.Memory) ⊎ (e ≡ Error.Overflow V.V1)) }
         ensures kept { take (list_length self.old.0) self.new.0 ≡ self.old.0 }
+        ensures room { list_length self.old.0 + self.old.1 ≤ list_length self.new.0 + self.new.1 }
     {
         self.know_last();
         for length in lengths {
@@ -192,7 +196,8 @@ impl<O: Offset> Offsets<O> {
     // Keeps the first ranges.
     fn shorten(&mut self, ranges: usize)
         requires { ranges < list_length self.old.0 }
-        ensures { self.new.0 ≡ take (ranges + 1) self.old.0 }
+        ensures same { self.new.0 ≡ take (ranges + 1) self.old.0 }
+        ensures room { list_length self.new.0 + self.new.1 ≡ list_length self.old.0 + self.old.1 }
     {
         self.values.truncate(ranges + 1);
         self.end = self.values[ranges].to_usize();

@@ -14,6 +14,7 @@ loop-length-preserved g c =
     record {
       grown = length_more c.args.self.now.0 c.loop-length.self.0 c.try_push_usize.new.self.0 _ c.in-Some.length _ c.loop-length.yielded v.grown v.end h.ok;
       end = end_more c.loop-length.self.0 c.try_push_usize.new.self.0 _ c.in-Some.length _ c.loop-length.yielded v.end h.ok;
+      room = omega (arith, v.room, h.room);
       fits = rw (h.ok, e) (lt_of_not-le (λ o. let k = h.overflow.1 o in cc));
     }
 

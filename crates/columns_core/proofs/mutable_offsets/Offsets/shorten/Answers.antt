@@ -21,5 +21,5 @@ invariant_of-self g c =
       c.to_usize-self-inside.ensures.value ∙ ap (λ v. whole (g.O.Offset.number v)) c.index.ensures ∙ s.end,
     )
 
-pub returns : goal.returns
-returns g c = (short g c).seen
+pub returns-clause-same : goal.returns-clause-same
+returns-clause-same g c = (short g c).seen
