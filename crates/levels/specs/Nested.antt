@@ -22,6 +22,11 @@ is_list (ListOf list) = true
 is_list (LargeList list) = true
 is_list _ = false
 
+-- a list with offsets of 64 bits (Arrow columnar format, "Variable-size List Layout")
+abbrev pub is_large : Nested → Bool
+is_large (LargeList list) = true
+is_large _ = false
+
 abbrev pub is_nullable : Nested → Bool
 is_nullable (Primitive mask is_optional count) = is_optional
 is_nullable (ListOf list) = list.is_optional

@@ -3,9 +3,9 @@ use Rattle.std.proofs.Common.{◌≡◌, ℕ, zero, suc, ◌+◌, ◌≤◌, ◌
 use Rattle.std.proofs.lemmas.List.{drop_more, take_more_set, drop-set-lt, length-set, length-map, map-set, take_all, drop_all, append-nil}
 use Rattle.shredding.specs.Parts.{Part, leaf_part, list_part, struct_part, MaskFits, slot_count}
 use Rattle.levels.specs.declared.nested.Nested.{Nested}
-use Rattle.levels.specs.Nested.{part_of, parts_of}
+use Rattle.levels.specs.Nested.{part_of, parts_of, is_large}
 use Rattle.levels.specs.InBounds.{ReachesInto, AreWithin}
-use Rattle.nested_slice.specs.CutPath.{cut_part, first_beneath, count_beneath, cut_parts, leaf_rows, is_large, part_mask, Rises, AreRising}
+use Rattle.nested_slice.specs.CutPath.{cut_part, first_beneath, count_beneath, cut_parts, leaf_rows, part_mask, Rises, AreRising}
 use Rattle.nested_slice.proofs.Paths.{rows_beneath}
 
 -- the parts from i on are not cut yet, and are to be cut to count rows from row first on

@@ -1,12 +1,10 @@
 -- What a cut of a path to some of its rows leaves (Arrow columnar format, "Variable-size List Layout", "Struct Layout", "Validity bitmaps").
 -- Each part keeps n positions from position o on. Of a list it keeps the offsets of these lists, and they keep their numbers; the places from
 -- the first to the last of them are the rows that the next part keeps.
-use Rattle.std.specs.Prelude.{ℕ, ◌+◌, ◌-◌, Bool, true, false, Option, List, [], ◌∷◌, take, drop, slice_index}
+use Rattle.std.specs.Prelude.{ℕ, ◌+◌, ◌-◌, Bool, Option, List, [], ◌∷◌, take, drop, slice_index}
 use Rattle.shredding.specs.Parts.{Part, leaf_part, list_part, struct_part}
 use Rattle.columns_core.specs.Rising.{IsRising}
 use Rattle.columns_slots.specs.Slots.{cut_mask}
-use Rattle.levels.specs.declared.nested.Nested.{Nested}
-use Rattle.levels.specs.declared.nested.Nested.TheVariants.{LargeList}
 
 -- a part at n positions from position o on
 abbrev pub cut_part : Part → ℕ → ℕ → Part
@@ -46,11 +44,6 @@ Rises (struct_part is_optional mask count) = Unit {0}
 abbrev pub AreRising : List Part → Type 0
 AreRising [] = Unit {0}
 AreRising (part ∷ parts) = Rises part × AreRising parts
-
--- a list with offsets of 64 bits
-abbrev pub is_large : Nested → Bool
-is_large (LargeList list) = true
-is_large _ = false
 
 -- the mask of a part
 abbrev pub part_mask : Part → Option (List Bool)

@@ -4,10 +4,10 @@ ghost use Rattle.shredding.specs.Parts.{list_part, IsPath, MaskFits, slot_count,
 ghost use Rattle.columns_core.specs.Rising.{IsRising};
 ghost use Rattle.columns_slots.specs.Slots.{slot_at, tree_len, cut, cut_mask};
 ghost use Rattle.columns_array.specs.Boxed.{boxed};
-ghost use Rattle.levels.specs.Nested.{part_of, parts_of};
+ghost use Rattle.levels.specs.Nested.{part_of, parts_of, is_large};
 ghost use Rattle.levels.specs.InBounds.{AreWithin, IsInBounds, bounded_slots};
 ghost use Rattle.levels.specs.Ranges.{leaf_count_or};
-ghost use Rattle.nested_slice.specs.CutPath.{cut_part, first_beneath, count_beneath, cut_parts, leaf_rows, is_large, part_mask, Rises, AreRising};
+ghost use Rattle.nested_slice.specs.CutPath.{cut_part, first_beneath, count_beneath, cut_parts, leaf_rows, part_mask, Rises, AreRising};
 ghost use Rattle.nested_slice.specs.Laws.{IsReadAsCut};
 
 use columns_array::ArrayBox;

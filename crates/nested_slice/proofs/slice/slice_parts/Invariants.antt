@@ -1,6 +1,5 @@
 use Rattle.std.proofs.Common.{◌≡◌, map}
-use Rattle.levels.specs.Nested.{parts_of}
-use Rattle.nested_slice.specs.CutPath.{is_large}
+use Rattle.levels.specs.Nested.{parts_of, is_large}
 use Rattle.nested_slice.proofs.Steps.{IsLeft}
 use Rattle.nested_slice.proofs.slice.slice_parts.Given as goal
 
