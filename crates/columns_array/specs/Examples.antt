@@ -1,13 +1,16 @@
 -- Examples, computed when the crate is checked: bits, offsets, metadata and shapes of the crates below, and which parts make an array.
 use Rattle.std.specs.Prelude.{◌≡◌, ℕ, pos, negsuc, true, false, Some, None, List, [], ◌∷◌, codes}
+use Rattle.shredding.specs.Slot.{bytes}
 use Rattle.shredding.specs.Shape.{signed, text, leaf, list, struct, no_shapes, shape}
 use Rattle.columns_core.specs.declared.types.IntegerType.TheVariants as key
+use Rattle.columns_core.specs.declared.types.IntervalUnit.TheVariants.{YearMonth}
 use Rattle.columns_core.specs.Bits.{bits_from}
+use Rattle.columns_core.specs.Natives.{value_i32, interval_bytes}
 use Rattle.columns_core.specs.Meta.{with_text, without_key, text_at}
 use Rattle.columns_core.specs.Rising.{ArePlaces, IsRising, last_place, places_from}
 use Rattle.columns_core.specs.Shapes.{shape_of, base}
 use Rattle.columns_core.specs.Measures.{nesting}
-use Rattle.columns_core.specs.Tree.{TypeTree, t_null, t_int8, t_int32, t_utf8, t_fixed_size_binary, t_list, t_fixed_size_list, t_struct, t_map, t_dictionary, t_extension, FieldTree, field, FieldTrees, no_fields, more_fields}
+use Rattle.columns_core.specs.Tree.{TypeTree, t_null, t_int8, t_int32, t_utf8, t_interval, t_fixed_size_binary, t_list, t_fixed_size_list, t_struct, t_map, t_dictionary, t_extension, FieldTree, field, FieldTrees, no_fields, more_fields}
 use Rattle.columns_slots.specs.Tree.{ArrayTree, null_array, ArrayTrees, no_arrays, more_arrays}
 use Rattle.columns_leaf.specs.Fixed.{fixed_count, AreWhole}
 use Rattle.columns_leaf.specs.declared.keys.DictionaryKeys.{DictionaryKeys}
@@ -39,6 +42,9 @@ pub record BuffersAreWorked : Type 0 where
   pub not_rising : IsRising (1 ∷ 0 ∷ []) → ⊥
   pub ends : places_from 2 (1 ∷ 0 ∷ 3 ∷ []) ≡ 3 ∷ 3 ∷ 6 ∷ []
   pub last : last_place (2 ∷ 3 ∷ 6 ∷ []) ≡ 6
+  -- intervals of less than nothing: a month, and a day with 256 milliseconds
+  pub month_back : value_i32 (t_interval YearMonth) (negsuc 0) ≡ bytes (255 ∷ 255 ∷ 255 ∷ 255 ∷ 0 ∷ 0 ∷ 0 ∷ 0 ∷ 0 ∷ 0 ∷ 0 ∷ 0 ∷ [])
+  pub day_back : interval_bytes (pos 0) (negsuc 0) (negsuc 255) ≡ 0 ∷ 0 ∷ 0 ∷ 0 ∷ 255 ∷ 255 ∷ 255 ∷ 255 ∷ 0 ∷ 255 ∷ 255 ∷ 255 ∷ []
   -- keys ascend byte by byte, and a text takes the place of that of the same key
   pub text_before : with_text (codes "B") (codes "1") ((codes "a", codes "2") ∷ []) ≡ (codes "B", codes "1") ∷ (codes "a", codes "2") ∷ []
   pub text_again : with_text (codes "a") (codes "1") ((codes "a", codes "2") ∷ []) ≡ (codes "a", codes "1") ∷ []
