@@ -4,13 +4,14 @@ use Rattle.shredding.specs.Parts.{leaf_part, list_part, struct_part}
 use Rattle.shredding.specs.Slot.{null}
 use Rattle.columns_base.specs.declared.error.Error.TheVariants.{NotYetImplemented}
 use Rattle.columns_base.specs.declared.error.N.TheVariants.{N5}
-use Rattle.columns_core.specs.Tree.{t_null}
-use Rattle.columns_slots.specs.Tree.{ArrayTree, struct_array, ArrayTrees, no_arrays, more_arrays}
+use Rattle.columns_core.specs.Tree.{t_null, t_large_list}
+use Rattle.columns_slots.specs.Tree.{ArrayTree, list_array, struct_array, ArrayTrees, no_arrays, more_arrays}
 use Rattle.columns_slots.specs.Slots.{slots}
-use Rattle.columns_slots.specs.Worked.{number_slot, list_slot, five, lists, pairs, structs, keyed}
+use Rattle.columns_slots.specs.Worked.{a_field, number_slot, list_slot, five, lists, pairs, structs, keyed}
 use Rattle.pq_container.specs.Physical.{int32}
 use Rattle.pq_container.specs.Tree.{Tree, leaf, group, no_trees, tree}
 use Rattle.pq_container.specs.Types.{Repetition, required, optional, repeated, Info}
+use Rattle.nested_paths.specs.Kinds.{kinds}
 use Rattle.nested_paths.specs.Leaves.{array_leaves}
 use Rattle.nested_paths.specs.Paths.{differs, misfit, paths}
 use Rattle.nested_paths.specs.Seen.{read_by}
@@ -51,6 +52,10 @@ pub record AreWorked : Type 0 where
   pub struct :
       paths structs (pair_node required)
       ≡ (struct_part false (Some (true ∷ false ∷ [])) 2 ∷ leaf_part false None 2 ∷ []) ∷ (struct_part false (Some (true ∷ false ∷ [])) 2 ∷ leaf_part false None 2 ∷ []) ∷ []
+  -- lists with offsets of 64 bits, over lists with offsets of 32 bits
+  pub kinds_of_lists : kinds lists ≡ (false ∷ false ∷ []) ∷ []
+  pub kinds_of_large_lists : kinds (list_array (t_large_list (a_field t_null)) (0 ∷ 3 ∷ []) lists None) ≡ (true ∷ false ∷ false ∷ []) ∷ []
+  pub kinds_of_structs : kinds structs ≡ (false ∷ false ∷ []) ∷ (false ∷ false ∷ []) ∷ []
   pub dictionary : array_leaves keyed ≡ keyed ∷ []
   -- ---- masks of required nodes are not looked at
   pub optional_leaf : slots (read_by five (column optional)) ≡ number_slot 1 ∷ null ∷ number_slot 3 ∷ number_slot 4 ∷ number_slot 5 ∷ []

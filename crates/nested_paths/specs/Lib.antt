@@ -3,6 +3,7 @@ pub mod Inner
 pub mod Leaves
 pub mod Nodes
 pub mod Paths
+pub mod Kinds
 pub mod Taken
 pub mod Seen
 pub mod Levels

@@ -3,8 +3,9 @@ ghost use Rattle.std.specs.Prelude.{◌≡◌, IfOk, IfErr};
 ghost use Rattle.columns_base.specs.declared.error.Error.TheVariants.{Memory};
 ghost use Rattle.columns_slots.specs.Slots.{mask_of};
 ghost use Rattle.columns_array.specs.Boxed.{boxed};
-ghost use Rattle.levels.specs.Nested.{part_of};
+ghost use Rattle.levels.specs.Nested.{part_of, is_large};
 ghost use Rattle.nested_paths.specs.Inner.{IsInner};
+ghost use Rattle.nested_paths.specs.Kinds.{is_large_array};
 ghost use Rattle.nested_paths.specs.Paths.{part_at};
 
 use columns_array::ArrayBox;
@@ -68,9 +69,10 @@ fn shared_validity(array: &ArrayBox) -> Result<Option<Bitmap>>
 }
 
 // The part of a path that the array is. It shares the array's mask and offsets.
-#[tactic(auto, using(crate::proofs::Inners::list_is, crate::proofs::Inners::struct_is, crate::proofs::Inners::fixed_is, crate::proofs::Inners::keyed_is))]
+#[tactic(auto, using(crate::proofs::Inners::list_is, crate::proofs::Widths::small_is, crate::proofs::Widths::large_is, crate::proofs::Widths::map_is, crate::proofs::Widths::struct_is_small, crate::proofs::Widths::fixed_is_small, crate::proofs::Widths::keyed_is_small, crate::proofs::Inners::struct_is, crate::proofs::Inners::fixed_is, crate::proofs::Inners::keyed_is))]
 pub(crate) fn part_of(array: &ArrayBox, is_optional: bool) -> Result<Nested>
     ensures ok { IfOk result (λ part. part_of part ≡ part_at is_optional (boxed array.now)) }
+    ensures kind { IfOk result (λ part. is_large part ≡ is_large_array (boxed array.now)) }
     ensures err { IfErr result (λ e. e ≡ Memory) }
 {
     let validity = shared_validity(array)?;

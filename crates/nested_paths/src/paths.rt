@@ -12,6 +12,7 @@ ghost use Rattle.nested_paths.specs.Nodes.{is_optional};
 ghost use Rattle.nested_paths.specs.Leaves.{array_leaves};
 ghost use Rattle.nested_paths.specs.Levels.{path_levels, leaf_levels};
 ghost use Rattle.nested_paths.specs.Seen.{read_by, shape_by, AreSeen};
+ghost use Rattle.nested_paths.specs.Kinds.{is_large_array, kinds, kinds_in, kinds_of, kinds_below, all_kinds};
 ghost use Rattle.nested_paths.specs.Taken.{all_parts, TakesPaths};
 
 use crate::inner::{Inner, inner_of, part_of};
@@ -25,7 +26,8 @@ use std::alloc::Global;
 const DIFFERS: Error = Error::InvalidArgumentError(A::A8);
 
 /// The paths of an array along a tree of columns, one for each leaf, in order: the parts from the outermost array to the leaf. A map is
-/// a list. A part is optional where its node in the tree is. Masks and offsets are shared with the array.
+/// a list, and a list keeps the size of its offsets. A part is optional where its node in the tree is. Masks and offsets are shared with
+/// the array.
 ///
 /// # Errors
 ///
@@ -36,6 +38,7 @@ const DIFFERS: Error = Error::InvalidArgumentError(A::A8);
 /// - `Memory`: memory ran out.
 pub fn to_nested(alloc: Global, array: &ArrayBox, type_: &ParquetType) -> Result<Vec<Vec<Nested>>>
     ensures ok { IfOk result (λ found. all_parts found.items ≡ paths (boxed array.now) (tree_view type_.now)) }
+    ensures kinds { IfOk result (λ found. all_kinds found.items ≡ kinds (boxed array.now)) }
     ensures fits { IfOk result (λ found. misfit (boxed array.now) (tree_view type_.now) ≡ None) }
     ensures seen { IfOk result (λ found. AreSeen (slots (read_by (boxed array.now) (tree_view type_.now))) (ways (shape_by (boxed array.now) (tree_view type_.now))) (all_parts found.items) (array_leaves (boxed array.now))) }
     ensures levels { IfOk result (λ found. map path_levels (all_parts found.items) ≡ map leaf_levels (leaves (tree_view type_.now))) }
@@ -55,7 +58,8 @@ fn push_paths(
     parents: &[Nested],
     found: &mut Vec<Vec<Nested>>,
 ) -> Result<()>
-    ensures { TakesPaths (parts_of parents.now) (all_parts found.old.items) (all_parts found.new.items) (paths (boxed array.now) (tree_view node.now)) (misfit (boxed array.now) (tree_view node.now)) result }
+    ensures taken { TakesPaths (parts_of parents.now) (all_parts found.old.items) (all_parts found.new.items) (paths (boxed array.now) (tree_view node.now)) (misfit (boxed array.now) (tree_view node.now)) result }
+    ensures kinds { IfOk result (λ u. all_kinds found.new.items ≡ all_kinds found.old.items ++ kinds_below (kinds_of parents.now) (kinds (boxed array.now))) }
 {
     match inner_of(array) {
         Inner::Leaf => {
@@ -96,7 +100,8 @@ fn push_all_paths(
     found: &mut Vec<Vec<Nested>>,
 ) -> Result<()>
     requires { length arrays.now ≡ length nodes.now }
-    ensures { TakesPaths (parts_of parents.now) (all_parts found.old.items) (all_parts found.new.items) (paths_in (all_boxed arrays.now) (trees_view nodes.now)) (misfits (all_boxed arrays.now) (trees_view nodes.now)) result }
+    ensures taken { TakesPaths (parts_of parents.now) (all_parts found.old.items) (all_parts found.new.items) (paths_in (all_boxed arrays.now) (trees_view nodes.now)) (misfits (all_boxed arrays.now) (trees_view nodes.now)) result }
+    ensures kinds { IfOk result (λ u. all_kinds found.new.items ≡ all_kinds found.old.items ++ kinds_below (kinds_of parents.now) (kinds_in (all_boxed arrays.now))) }
 {
     for i in 0..arrays.len() {
         push_paths(alloc, &arrays[i], &nodes[i], parents, found)?;
@@ -112,6 +117,7 @@ fn path_to(
     node: &ParquetType,
 ) -> Result<Vec<Nested>>
     ensures ok { IfOk result (λ path. parts_of path.items ≡ parts_of parents.now ++ part_at (is_optional (tree_view node.now)) (boxed array.now) ∷ []) }
+    ensures kinds { IfOk result (λ path. kinds_of path.items ≡ kinds_of parents.now ++ is_large_array (boxed array.now) ∷ []) }
     ensures err { IfErr result (λ e. e ≡ Memory) }
 {
     let mut path = copy_of(alloc, parents)?;
