@@ -5,7 +5,7 @@ ghost use Rattle.pq_container.specs.TreeViews.{trees_view};
 
 use super::*;
 use columns_core::{DataType, Field, IntegerType, Metadata, Schema};
-use pq_container::{FileMetaData, KeyValue};
+use pq_container::{FileMetaData, KeyValue, SchemaDescriptor};
 use std::alloc::Global;
 use std::test::Fail;
 
@@ -60,6 +60,31 @@ fn a_decimal_fits_its_tree_by_itself(rt: HostRuntime) -> TestResult {
         let price = field(alloc, "a", DataType::Decimal(precision, 1), true)?;
         assert!(rt; fits_its_tree(alloc, &price)?, "{precision}");
     }
+    Ok(())
+}
+
+// The columns of the tree that the field is written as, its leaf types, and its leaves as they are counted.
+fn leaf_counts(alloc: Global, field: &Field) -> Result<[usize; 3], Fail> {
+    let tree = to_parquet_type(alloc, field)?;
+    let root = String::from_str(alloc, "root")?;
+    let written = SchemaDescriptor::new(alloc, root, vec![in alloc; tree]?)?;
+    let leaves = transverse(alloc, &field.data_type, |_leaf: &DataType| 0u8)?;
+    Ok([
+        written.columns().len(),
+        leaves.len(),
+        n_columns(&field.data_type)?,
+    ])
+}
+
+#[test]
+fn each_call_tells_as_many_leaves(rt: HostRuntime) -> TestResult {
+    let alloc = rt.alloc();
+    let number = field(alloc, "a", DataType::Int32, true)?;
+    assert_eq!(rt; leaf_counts(alloc, &number)?, [1; 3]);
+    let two = points(alloc, DataType::Utf8)?;
+    assert_eq!(rt; leaf_counts(alloc, &two)?, [2; 3]);
+    let three = points(alloc, points(alloc, DataType::Date32)?.data_type)?;
+    assert_eq!(rt; leaf_counts(alloc, &three)?, [3; 3]);
     Ok(())
 }
 
