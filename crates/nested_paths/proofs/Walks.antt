@@ -1,23 +1,20 @@
 -- Steps of the walks to the leaves.
-use Rattle.std.proofs.Common.{◌≡◌, ℕ, zero, suc, ◌+◌, ◌≤◌, ◌<◌, Bool, true, false, ◌||◌, ◌==◌, ◌≢◌, ◌⊎◌, cond, Option, Some, None, List, [], ◌∷◌, ◌++◌, length, drop, get_or, Result, Ok, Err, inl, inr, append_assoc, refl, sym, ap, ◌∙◌, true≢false, arith}
+use Rattle.std.proofs.Common.{◌≡◌, ℕ, zero, suc, ◌+◌, ◌≤◌, ◌<◌, Bool, true, false, ◌||◌, ◌==◌, ◌≢◌, ◌⊎◌, cond, Option, Some, None, List, [], ◌∷◌, ◌++◌, length, drop, get_or, Result, Ok, Err, inl, inr, append_assoc, refl, sym, ap, ◌∙◌, arith}
 use Rattle.std.proofs.lemmas.Bool.{eq-eqb}
 use Rattle.std.proofs.lemmas.Bool.Decides.{eqb_tells}
-use Rattle.std.proofs.lemmas.List.{map-append, append-nil, at_drop_more, at_drop_all}
+use Rattle.std.proofs.lemmas.List.{at_drop_more}
 use Rattle.shredding.specs.Parts.{Part}
 use Rattle.columns_base.specs.declared.error.Error.{Error}
-use Rattle.columns_base.specs.declared.error.Error.TheVariants.{NotYetImplemented}
-use Rattle.columns_base.specs.declared.error.N.TheVariants.{N5}
-use Rattle.columns_slots.specs.Tree.{ArrayTree, null_array, leaf_array, list_array, fixed_list_array, struct_array, dictionary_array}
+use Rattle.columns_slots.specs.Tree.{ArrayTree, list_array, struct_array}
 use Rattle.columns_slots.specs.Slots.{type_of, mask_of, offsets_of, tree_size, trees_size, count_arrays}
 use Rattle.columns_array.specs.Boxed.{boxed, all_boxed}
 use Rattle.columns_array.specs.declared.arrays.ArrayBox.{ArrayBox}
 use Rattle.pq_container.specs.Tree.{Tree, count_trees}
-use Rattle.pq_container.specs.TreeViews.{tree_view, trees_view}
+use Rattle.pq_container.specs.TreeViews.{trees_view}
 use Rattle.pq_container.specs.declared.types.ParquetType.{ParquetType}
-use Rattle.nested_paths.specs.Inner.{is_leaf, is_fixed_list}
 use Rattle.nested_paths.specs.Leaves.{array_leaves, leaves_in, has_fixed_list, have_fixed_list}
-use Rattle.nested_paths.specs.Nodes.{only_tree, given, is_optional, item_node, field_nodes, is_leaf_node}
-use Rattle.nested_paths.specs.Paths.{first_of_two, differs, counted, part_at, misfit, misfits, below, paths, paths_in}
+use Rattle.nested_paths.specs.Nodes.{only_tree, given, is_optional, item_node, field_nodes}
+use Rattle.nested_paths.specs.Paths.{differs, counted, part_at, misfit, misfits, below, paths, paths_in}
 use Rattle.nested_paths.specs.Taken.{TakesPaths}
 
 -- ---- the only child
@@ -42,18 +39,9 @@ leaves_step xs k x old new all h so grown =
     rw grown (append_assoc old (array_leaves (boxed (get_or xs k x))) (leaves_in (all_boxed (drop (k + 1) xs)))
     ∙ sym (at_drop_more (λ ys. old ++ leaves_in (all_boxed ys)) xs k x h) ∙ so)
 
-pub leaves_done : (xs : List ArrayBox) (k : ℕ) (old all : List ArrayTree) → length xs ≤ k → old ++ leaves_in (all_boxed (drop k xs)) ≡ all → old ≡ all
-leaves_done xs k old all h so = sym (append-nil old) ∙ sym (at_drop_all (λ ys. old ++ leaves_in (all_boxed ys)) xs k h) ∙ so
-
 pub fixed_step : (xs : List ArrayBox) (k : ℕ) (x : ArrayBox) (all : Bool) → k < length xs → have_fixed_list (all_boxed (drop k xs)) ≡ all → has_fixed_list (boxed (get_or xs k x)) ≡ false
     → have_fixed_list (all_boxed (drop (k + 1) xs)) ≡ all
 fixed_step xs k x all h so is = ap (λ b. b || have_fixed_list (all_boxed (drop (k + 1) xs))) (sym is) ∙ sym (at_drop_more (λ ys. have_fixed_list (all_boxed ys)) xs k x h) ∙ so
-
-pub fixed_here : (xs : List ArrayBox) (k : ℕ) (x : ArrayBox) (all : Bool) → k < length xs → have_fixed_list (all_boxed (drop k xs)) ≡ all → has_fixed_list (boxed (get_or xs k x)) ≡ true → all ≡ true
-fixed_here xs k x all h so is = sym so ∙ at_drop_more (λ ys. have_fixed_list (all_boxed ys)) xs k x h ∙ ap (λ b. b || have_fixed_list (all_boxed (drop (k + 1) xs))) is
-
-pub fixed_done : (xs : List ArrayBox) (k : ℕ) (all : Bool) → length xs ≤ k → have_fixed_list (all_boxed (drop k xs)) ≡ all → all ≡ false
-fixed_done xs k all h so = sym so ∙ at_drop_all (λ ys. have_fixed_list (all_boxed ys)) xs k h
 
 -- ---- paths
 
@@ -62,39 +50,6 @@ fits_at xs ns = misfits (all_boxed xs) (trees_view ns)
 
 abbrev paths_at : List ArrayBox → List ParquetType → List (List Part)
 paths_at xs ns = paths_in (all_boxed xs) (trees_view ns)
-
-both_drop : {A : Type 0} (F : List ArrayBox → List ParquetType → A) (xs : List ArrayBox) (ns : List ParquetType) (k : ℕ) (x : ArrayBox) (n : ParquetType) → k < length xs → length xs ≡ length ns
-    → F (drop k xs) (drop k ns) ≡ F (get_or xs k x ∷ drop (k + 1) xs) (get_or ns k n ∷ drop (k + 1) ns)
-both_drop F xs ns k x n h e = at_drop_more (λ ys. F ys (drop k ns)) xs k x h ∙ at_drop_more (λ ms. F (get_or xs k x ∷ drop (k + 1) xs) ms) ns k n (omega (arith, h, e))
-
-pub paths_step : (parents : List Part) (xs : List ArrayBox) (ns : List ParquetType) (k : ℕ) (x : ArrayBox) (n : ParquetType) (old new all : List (List Part)) → k < length xs → length xs ≡ length ns
-    → old ++ below parents (paths_at (drop k xs) (drop k ns)) ≡ all → new ≡ old ++ below parents (paths (boxed (get_or xs k x)) (tree_view (get_or ns k n)))
-    → new ++ below parents (paths_at (drop (k + 1) xs) (drop (k + 1) ns)) ≡ all
-paths_step parents xs ns k x n old new all h e so grown =
-    let here = paths (boxed (get_or xs k x)) (tree_view (get_or ns k n)) in
-    let rest = paths_at (drop (k + 1) xs) (drop (k + 1) ns) in
-    rw grown (append_assoc old (below parents here) (below parents rest)
-    ∙ ap (λ ps. old ++ ps) (sym (map-append (λ path. parents ++ path) here rest))
-    ∙ sym (both_drop (λ ys ms. old ++ below parents (paths_at ys ms)) xs ns k x n h e) ∙ so)
-
-pub paths_done : (parents : List Part) (xs : List ArrayBox) (ns : List ParquetType) (k : ℕ) (old all : List (List Part)) → length xs ≤ k → length xs ≡ length ns
-    → old ++ below parents (paths_at (drop k xs) (drop k ns)) ≡ all → old ≡ all
-paths_done parents xs ns k old all h e so =
-    sym (append-nil old) ∙ sym (at_drop_all (λ ys. old ++ below parents (paths_at ys [])) xs k h) ∙ sym (at_drop_all (λ ms. old ++ below parents (paths_at (drop k xs) ms)) ns k (omega (arith, h, e))) ∙ so
-
-pub fits_step : (xs : List ArrayBox) (ns : List ParquetType) (k : ℕ) (x : ArrayBox) (n : ParquetType) (all : Option Error) → k < length xs → length xs ≡ length ns → fits_at (drop k xs) (drop k ns) ≡ all
-    → misfit (boxed (get_or xs k x)) (tree_view (get_or ns k n)) ≡ None → fits_at (drop (k + 1) xs) (drop (k + 1) ns) ≡ all
-fits_step xs ns k x n all h e so is =
-    ap (λ o. first_of_two o (fits_at (drop (k + 1) xs) (drop (k + 1) ns))) (sym is) ∙ sym (both_drop fits_at xs ns k x n h e) ∙ so
-
-pub fits_here : (xs : List ArrayBox) (ns : List ParquetType) (k : ℕ) (x : ArrayBox) (n : ParquetType) (all : Option Error) (error : Error) → k < length xs → length xs ≡ length ns → fits_at (drop k xs) (drop k ns) ≡ all
-    → misfit (boxed (get_or xs k x)) (tree_view (get_or ns k n)) ≡ Some error → all ≡ Some error
-fits_here xs ns k x n all error h e so is =
-    sym so ∙ both_drop fits_at xs ns k x n h e ∙ ap (λ o. first_of_two o (fits_at (drop (k + 1) xs) (drop (k + 1) ns))) is
-
-pub fits_done : (xs : List ArrayBox) (ns : List ParquetType) (k : ℕ) (all : Option Error) → length xs ≤ k → length xs ≡ length ns → fits_at (drop k xs) (drop k ns) ≡ all → all ≡ None
-fits_done xs ns k all h e so =
-    sym so ∙ at_drop_all (λ ys. fits_at ys (drop k ns)) xs k h ∙ at_drop_all (λ ms. fits_at [] ms) ns k (omega (arith, h, e))
 
 -- ---- the parts of one array
 
@@ -117,9 +72,6 @@ items_taken parents path a c node item old new r e is path_is h =
     ∙ ap (λ b. below (part_at (is_optional node) b ∷ []) (paths c item)) (sym e) in
     let same : misfit a node ≡ misfit c item = ap (λ b. misfit b node) e ∙ ap (given differs (misfit c)) is in
     deeper parents path (part_at (is_optional node) a) old new (paths c item) (paths a node) (misfit c item) (misfit a node) r path_is out same h
-
-pub no_item : (a c : ArrayTree) (node : Tree) → a ≡ list_array (type_of a) (offsets_of a) c (mask_of a) → item_node node ≡ None → misfit a node ≡ differs
-no_item a c node e is = ap (λ b. misfit b node) e ∙ ap (given differs (misfit c)) is
 
 other_count : (n m : ℕ) → (n ≡ m → ⊥) → (n == m) ≡ false
 other_count n m e = by (eqb_tells n m)
@@ -149,53 +101,11 @@ fields_taken parents path a xs node ns old new r e is len path_is h =
     ap (λ b. misfit b node) e ∙ ap (given differs (counted (count_arrays cs) (misfits cs))) is ∙ ap (λ b. cond b (fits_at xs ns) differs) count in
     deeper parents path (part_at (is_optional node) a) old new (paths_at xs ns) (paths a node) (fits_at xs ns) (misfit a node) r path_is out same h
 
-pub no_fields : (a : ArrayTree) (xs : List ArrayBox) (node : Tree) → a ≡ struct_array (type_of a) (all_boxed xs) (mask_of a) → field_nodes node ≡ None → misfit a node ≡ differs
-no_fields a xs node e is = ap (λ b. misfit b node) e ∙ ap (given differs (counted (count_arrays (all_boxed xs)) (misfits (all_boxed xs)))) is
-
 pub other_fields : (a : ArrayTree) (xs : List ArrayBox) (node : Tree) (ns : List ParquetType) → a ≡ struct_array (type_of a) (all_boxed xs) (mask_of a) → field_nodes node ≡ Some (trees_view ns) → (length xs ≡ length ns → ⊥) → misfit a node ≡ differs
 other_fields a xs node ns e is len =
     let cs = all_boxed xs in
     let count : (count_arrays cs == count_trees (trees_view ns)) ≡ false = other_count _ _ (λ k. len (sym (count_boxed xs) ∙ k ∙ count_viewed ns)) in
     ap (λ b. misfit b node) e ∙ ap (given differs (counted (count_arrays cs) (misfits cs))) is ∙ ap (λ b. cond b (fits_at xs ns) differs) count
-
--- ---- a leaf, and lists of a fixed size
-
-pub leaf_misfits : (a : ArrayTree) (node : Tree) → is_leaf a ≡ true → is_leaf_node node ≡ false → misfit a node ≡ differs
-leaf_misfits (null_array t n) node e is = rw is refl
-leaf_misfits (leaf_array t vs m) node e is = rw is refl
-leaf_misfits (list_array t os c m) node e is = absurd (true≢false (sym e))
-leaf_misfits (fixed_list_array t w n c m) node e is = absurd (true≢false (sym e))
-leaf_misfits (struct_array t cs m) node e is = absurd (true≢false (sym e))
-leaf_misfits (dictionary_array t ks c m) node e is = rw is refl
-
-leaf_fits : (a : ArrayTree) (node : Tree) → is_leaf a ≡ true → is_leaf_node node ≡ true → misfit a node ≡ None
-leaf_fits (null_array t n) node e is = rw is refl
-leaf_fits (leaf_array t vs m) node e is = rw is refl
-leaf_fits (list_array t os c m) node e is = absurd (true≢false (sym e))
-leaf_fits (fixed_list_array t w n c m) node e is = absurd (true≢false (sym e))
-leaf_fits (struct_array t cs m) node e is = absurd (true≢false (sym e))
-leaf_fits (dictionary_array t ks c m) node e is = rw is refl
-
-leaf_path : (a : ArrayTree) (node : Tree) → is_leaf a ≡ true → paths a node ≡ (part_at (is_optional node) a ∷ []) ∷ []
-leaf_path (null_array t n) node e = refl
-leaf_path (leaf_array t vs m) node e = refl
-leaf_path (list_array t os c m) node e = absurd (true≢false (sym e))
-leaf_path (fixed_list_array t w n c m) node e = absurd (true≢false (sym e))
-leaf_path (struct_array t cs m) node e = absurd (true≢false (sym e))
-leaf_path (dictionary_array t ks c m) node e = refl
-
-pub leaf_taken : (parents path : List Part) (a : ArrayTree) (node : Tree) (old new : List (List Part)) (u : Unit {0}) → is_leaf a ≡ true → is_leaf_node node ≡ true → path ≡ parents ++ part_at (is_optional node) a ∷ [] → new ≡ old ++ path ∷ []
-    → TakesPaths parents old new (paths a node) (misfit a node) (Ok u)
-leaf_taken parents path a node old new u e is path_is grown =
-    (grown ∙ ap (λ q. old ++ q ∷ []) path_is ∙ ap (λ ps. old ++ below parents ps) (sym (leaf_path a node e)), leaf_fits a node e is)
-
-pub fixed_misfits : (a : ArrayTree) (node : Tree) → is_fixed_list a ≡ true → misfit a node ≡ Some (NotYetImplemented N5)
-fixed_misfits (null_array t n) node e = absurd (true≢false (sym e))
-fixed_misfits (leaf_array t vs m) node e = absurd (true≢false (sym e))
-fixed_misfits (list_array t os c m) node e = absurd (true≢false (sym e))
-fixed_misfits (fixed_list_array t w n c m) node e = refl
-fixed_misfits (struct_array t cs m) node e = absurd (true≢false (sym e))
-fixed_misfits (dictionary_array t ks c m) node e = absurd (true≢false (sym e))
 
 -- ---- without parents
 

@@ -1,15 +1,11 @@
 -- The kinds of the parts of paths.
-use Rattle.std.proofs.Common.{◌≡◌, ℕ, ◌+◌, ◌≤◌, ◌<◌, Bool, true, false, true≢false, Some, List, [], ◌∷◌, ◌++◌, length, drop, get_or, Result, Ok, Err, IfOk, append_assoc, refl, sym, ap, ◌∙◌}
-use Rattle.std.proofs.lemmas.List.{map-append, append-nil, at_drop_more, at_drop_all}
+use Rattle.std.proofs.Common.{◌≡◌, ℕ, Bool, true, false, Some, List, [], ◌∷◌, ◌++◌, Result, Ok, Err, IfOk, append_assoc, refl, sym, ap, ◌∙◌}
 use Rattle.columns_base.specs.declared.error.Error.{Error}
 use Rattle.columns_core.specs.Shapes.{base}
 use Rattle.columns_core.specs.Tree.{TypeTree, t_list, t_large_list, t_map}
-use Rattle.columns_slots.specs.Tree.{ArrayTree, null_array, leaf_array, list_array, fixed_list_array, struct_array, dictionary_array, ArrayTrees}
+use Rattle.columns_slots.specs.Tree.{ArrayTree, list_array, fixed_list_array, struct_array, dictionary_array, ArrayTrees}
 use Rattle.columns_slots.specs.Slots.{type_of, mask_of, offsets_of, keys_in, child_of, children_of, tree_len}
 use Rattle.columns_slots.specs.Types.{small_item, large_item, map_item}
-use Rattle.columns_array.specs.Boxed.{boxed, all_boxed}
-use Rattle.columns_array.specs.declared.arrays.ArrayBox.{ArrayBox}
-use Rattle.nested_paths.specs.Inner.{is_leaf}
 use Rattle.nested_paths.specs.Kinds.{is_large_type, is_large_array, kinds_below, kinds, kinds_in}
 
 -- ---- the kind of one array
@@ -46,27 +42,6 @@ keyed_is_small a e = ap is_large_array e
 
 -- ---- walks
 
-leaf_kinds : (a : ArrayTree) → is_leaf a ≡ true → kinds a ≡ (false ∷ []) ∷ []
-leaf_kinds (null_array t n) e = refl
-leaf_kinds (leaf_array t vs m) e = refl
-leaf_kinds (list_array t os c m) e = absurd (true≢false (sym e))
-leaf_kinds (fixed_list_array t w n c m) e = absurd (true≢false (sym e))
-leaf_kinds (struct_array t cs m) e = absurd (true≢false (sym e))
-leaf_kinds (dictionary_array t ks c m) e = refl
-
-leaf_is_small : (a : ArrayTree) → is_leaf a ≡ true → is_large_array a ≡ false
-leaf_is_small (null_array t n) e = refl
-leaf_is_small (leaf_array t vs m) e = refl
-leaf_is_small (list_array t os c m) e = absurd (true≢false (sym e))
-leaf_is_small (fixed_list_array t w n c m) e = absurd (true≢false (sym e))
-leaf_is_small (struct_array t cs m) e = absurd (true≢false (sym e))
-leaf_is_small (dictionary_array t ks c m) e = refl
-
--- the path to a leaf is pushed
-pub leaf_kept : (parents path : List Bool) (a : ArrayTree) (old new : List (List Bool)) → is_leaf a ≡ true → path ≡ parents ++ is_large_array a ∷ [] → new ≡ old ++ path ∷ [] → new ≡ old ++ kinds_below parents (kinds a)
-leaf_kept parents path a old new e path_is grown =
-    grown ∙ ap (λ q. old ++ q ∷ []) (path_is ∙ ap (λ b. parents ++ b ∷ []) (leaf_is_small a e)) ∙ ap (λ ps. old ++ kinds_below parents ps) (sym (leaf_kinds a e))
-
 below_below : (parents : List Bool) (b : Bool) (ps : List (List Bool)) → kinds_below parents (kinds_below (b ∷ []) ps) ≡ kinds_below (parents ++ b ∷ []) ps
 below_below parents b [] = refl
 below_below parents b (p ∷ ps) = rw (below_below parents b ps, append_assoc parents (b ∷ []) p) refl
@@ -86,21 +61,6 @@ pub fields_kept : (parents path : List Bool) (a : ArrayTree) (cs : ArrayTrees) (
 fields_kept parents path a cs old new (Ok u) e path_is h =
     deeper parents path false old new (kinds_in cs) (kinds a) (path_is ∙ ap (λ b. parents ++ b ∷ []) (ap is_large_array e)) (ap kinds e) h
 fields_kept parents path a cs old new (Err error) e path_is h = tt
-
-abbrev kinds_at : List ArrayBox → List (List Bool)
-kinds_at xs = kinds_in (all_boxed xs)
-
-pub kinds_step : (parents : List Bool) (xs : List ArrayBox) (k : ℕ) (x : ArrayBox) (old new all : List (List Bool)) → k < length xs → old ++ kinds_below parents (kinds_at (drop k xs)) ≡ all
-    → new ≡ old ++ kinds_below parents (kinds (boxed (get_or xs k x))) → new ++ kinds_below parents (kinds_at (drop (k + 1) xs)) ≡ all
-kinds_step parents xs k x old new all h so grown =
-    let here = kinds (boxed (get_or xs k x)) in
-    let rest = kinds_at (drop (k + 1) xs) in
-    rw grown (append_assoc old (kinds_below parents here) (kinds_below parents rest)
-    ∙ ap (λ ps. old ++ ps) (sym (map-append (λ path. parents ++ path) here rest))
-    ∙ sym (at_drop_more (λ ys. old ++ kinds_below parents (kinds_at ys)) xs k x h) ∙ so)
-
-pub kinds_done : (parents : List Bool) (xs : List ArrayBox) (k : ℕ) (old all : List (List Bool)) → length xs ≤ k → old ++ kinds_below parents (kinds_at (drop k xs)) ≡ all → old ≡ all
-kinds_done parents xs k old all h so = sym (append-nil old) ∙ sym (at_drop_all (λ ys. old ++ kinds_below parents (kinds_at ys)) xs k h) ∙ so
 
 -- without parents
 pub kinds_below_none : (ps : List (List Bool)) → kinds_below [] ps ≡ ps

@@ -27,9 +27,6 @@ flush_takes w out out' pending body few whole p e =
     let bits : w * n ≡ 8 * (w * ((n + 7) / 8)) = ap (λ (k : ℕ). w * k) count ∙ omega arith in
     groups_take w ((n + 7) / 8) 0 out out' pending body (omega (arith, few)) p e (omega (arith, p.size, bits))
 
-pub none_takes : (w bits : ℕ) (out pending : List ℕ) → pending ≡ [] → Takes w out pending out [] bits
-none_takes w bits out pending e = let none : w * length {A = ℕ} [] ≡ 0 = omega arith in omega (arith, none)
-
 pub finish_takes : (w : ℕ) (out out' pending body : List ℕ) → length pending ≤ 504 → ArePacked w pending body → out' ≡ out ++ (varint (2 * ((length pending + 7) / 8) + 1) ++ body) → Takes w out pending out' [] 15
 finish_takes w out out' pending body few p e = groups_take w ((length pending + 7) / 8) 7 out out' pending body (omega (arith, few)) p e (omega (arith, p.size))
 
@@ -52,9 +49,6 @@ flushed_takes w base pending0 out out' pending v count left some most h f =
     omega (arith, bits, push_takes w base pending0 out pending v count left some most h, f)
 
 -- ---- how many are taken one by one
-
-pub turning_begins : (m count : ℕ) → m < 8 → IsTurning m count count
-turning_begins m count h = inl (omega (arith, h))
 
 -- in a group that is not whole
 turns_within : (n count left : ℕ) → 0 < left → left ≤ count → 0 < n % 8 → IsTurning (n % 8) count left → IsTurning ((n + 1) % 8) count (left - 1)
@@ -84,18 +78,6 @@ none_pending b m f e = by (eqb_tells m 0)
 few_bits : (w k most : ℕ) → k ≤ most → (w + 8) * k ≤ (w + 8) * most
 few_bits w k most h = mul-le (w + 8) k (w + 8) most (omega arith) h
 
--- all copies were taken one by one
-pub turned : (w m count left : ℕ) (base pending0 out pending : List ℕ) → left ≡ 0 → IsTurning m count left → Takes w base pending0 out pending ((w + 8) * (count - left)) → Takes w base pending0 out pending (stretch_bits w * one_if_any count)
-turned w m zero left base pending0 out pending none t h =
-    let k : (w + 8) * (0 - left) ≡ 0 = ap (λ (j : ℕ). (w + 8) * (0 - j)) none ∙ omega arith in
-    let bits : stretch_bits w * 0 ≡ 0 = omega arith in
-    omega (arith, k, bits, h)
-turned w m (suc c) left base pending0 out pending none t h =
-    let few : suc c - left ≤ 14 = elim t [ inl a ↦ omega (arith, a) | inr b ↦ omega (arith, b.1) ] in
-    let bits : (w + 8) * 14 ≡ 14 * w + 112 = omega arith in
-    let one : stretch_bits w * 1 ≡ 14 * w + 152 = omega arith in
-    omega (arith, few_bits w (suc c - left) 14 few, bits, one, h)
-
 -- the others are a run of their own
 pub turned_copies : (w n count left : ℕ) (base pending0 out mid out' pending value : List ℕ) → 8 ≤ left → left ≤ count → count < 2 ^ 62 → IsTurning (n % 8) count left → n % 8 ≡ 0 → Takes w base pending0 out pending ((w + 8) * (count - left)) → Takes w out pending mid [] 8
     → length value ≡ bytes_for w → out' ≡ mid ++ (varint (2 * left) ++ value) → Takes w base pending0 out' [] (stretch_bits w * one_if_any count)
@@ -124,9 +106,6 @@ last_copy settled c number xs e =
 
 more_stretches : (settled : List ℕ) (c number value : ℕ) (xs : List ℕ) → settled ++ replicate (suc c) number ≡ xs → stretches (xs ++ value ∷ []) ≡ stretches xs + cond (number == value) 0 1
 more_stretches settled c number value xs e = rw (last_copy settled c number xs e) (stretches-push (settled ++ replicate c number) number value)
-
-pub spent_begins : (w : ℕ) (start : List ℕ) → Spent w start start [] 0 []
-spent_begins w start = record { settled = 0; bits = omega arith; some = omega arith; most = omega arith; none = λ e. refl }
 
 nothing_settled : (settled : ℕ) (xs : List ℕ) → xs ≡ [] → settled + one_if_any 0 ≤ stretches xs + (length xs - 0) / 2 ^ 40 → settled ≡ 0
 nothing_settled settled xs e h = let s : settled + 0 ≤ 0 = subst (λ (t : List ℕ). settled + 0 ≤ stretches t + (length t - 0) / 2 ^ 40) e h in omega (arith, s)
