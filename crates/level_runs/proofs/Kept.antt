@@ -8,10 +8,12 @@ use Rattle.pq_numbers.specs.Texts.{number_of}
 use Rattle.pq_numbers.proofs.Writes.{is_number}
 use Rattle.pq_runs.specs.Packing.{ArePacked}
 use Rattle.pq_runs.specs.Runs.{Runs, last_groups}
+use Rattle.pq_runs.specs.Stretches.{one_if_any, stretch_bits, Takes}
 use Rattle.pq_runs.specs.Writing.{Wrote}
 use Rattle.pq_runs.proofs.Steps.{replicate-append, none_waits}
 use Rattle.level_runs.specs.Writing.{Waiting, Keeps, AppendsRuns, IsTight}
 use Rattle.level_runs.proofs.Tight.{Tighter, packed_size}
+use Rattle.level_runs.proofs.Short.{nothing_spent, spent_copies, spent_others, spent_done}
 
 pub both_ok : {A E P Q R : Type 0} (r : Result A E) → (P → Q → R) → OnOk r P → OnOk r Q → OnOk r R
 both_ok (Ok x) f p q = f p q
@@ -21,7 +23,7 @@ abbrev pub waiting : ℕ → List ℕ → ℕ → ℕ → Waiting
 waiting width block level count = record { width = width; block = block; level = level; count = count }
 
 pub keeps_begin : (width level : ℕ) (start : List ℕ) → Keeps start start (waiting width [] 0 0) []
-keeps_begin width level start = record { encoded = none_waits width start; done = 0; split = refl; tight = omega arith }
+keeps_begin width level start = record { encoded = none_waits width start; done = 0; split = refl; tight = omega arith; spent = nothing_spent width start }
 
 -- more copies of the level that waits
 pub keeps_more : (start out : List ℕ) (width : ℕ) (block : List ℕ) (level count more : ℕ) (xs : List ℕ) → Keeps start out (waiting width block level count) xs → Keeps start out (waiting width block level (count + more)) (xs ++ replicate more level)
@@ -35,20 +37,23 @@ keeps_more start out width block level count more xs k = record {
   done = k.done;
   split = omega (arith, k.split, length-append xs (replicate more level), length-replicate more level);
   tight = k.tight;
+  spent = spent_copies width start out block k.encoded.settled level count more xs k.encoded.all k.spent;
 }
 
 -- the level that waited is settled, and another one waits
 pub keeps_settled : (start out out' : List ℕ) (width : ℕ) (block block' : List ℕ) (level count level' count' : ℕ) (xs : List ℕ)
+    → 0 < count' → (level ≡ level' → 2 ^ 40 ≤ count) → Takes width out block out' block' (stretch_bits width * one_if_any count)
     → ((start' ys : List ℕ) → Wrote width start' out block ys → Wrote width start' out' block' (ys ++ replicate count level))
     → ((start' done : ℕ) → IsTight width start' (length out) done → Tighter width start' (length out') (length block') (done + length block + count))
     → Keeps start out (waiting width block level count) xs → Keeps start out' (waiting width block' level' count') (xs ++ replicate count' level')
-keeps_settled start out out' width block block' level count level' count' xs f g k =
+keeps_settled start out out' width block block' level count level' count' xs some ends t' f g k =
     let t = g (length start) k.done k.tight in
     record {
       encoded = record { settled = xs; all = refl; wrote = subst (λ (ys : List ℕ). Wrote width start out' block' ys) k.encoded.all (f start k.encoded.settled k.encoded.wrote) };
       done = t.0;
       split = omega (arith, t.1, k.split, length-append xs (replicate count' level'), length-replicate count' level');
       tight = t.2;
+      spent = spent_others width start out out' block block' k.encoded.settled level count level' count' xs some k.encoded.all ends k.spent t';
     }
 
 -- some of the copies and the others
@@ -99,13 +104,14 @@ pub keeps_end : (start out mid out' : List ℕ) (width : ℕ) (block block' : Li
     → ((start' ys : List ℕ) → Wrote width start' out block ys → Wrote width start' mid block' (ys ++ replicate count level))
     → ((start' done : ℕ) → IsTight width start' (length out) done → Tighter width start' (length mid) (length block') (done + length block + count))
     → ((start' ys : List ℕ) → Wrote width start' mid block' ys → (text : List ℕ) × (out' ≡ start' ++ text) × Runs width text ys)
-    → 504 * length out' ≤ 504 * length mid + 63 * width * length block' + 4032
+    → Takes width out block mid block' (stretch_bits width * one_if_any count) → 504 * length out' ≤ 504 * length mid + 63 * width * length block' + 4032
     → Keeps start out (waiting width block level count) xs → AppendsRuns width start out' xs
-keeps_end start out mid out' width block block' level count xs f g h size k =
+keeps_end start out mid out' width block block' level count xs f g h taken size k =
     let t = g (length start) k.done k.tight in
     let wrote : Wrote width start mid block' xs = subst (λ (ys : List ℕ). Wrote width start mid block' ys) k.encoded.all (f start k.encoded.settled k.encoded.wrote) in
     let last = h start xs wrote in
     let n : length out' ≡ length start + length last.0 = ap length last.1 ∙ length-append start last.0 in
     let all : t.0 + length block' ≡ length xs = omega (arith, t.1, k.split) in
     let weight : (63 * width + 1) * (t.0 + length block') ≡ (63 * width + 1) * length xs = ap (λ (j : ℕ). (63 * width + 1) * j) all in
-    record { text = last.0; parts = last.1; runs = last.2; size = omega (arith, size, t.2, n, weight) }
+    let short = spent_done width start out mid out' block block' count xs k.spent taken size in
+    record { text = last.0; parts = last.1; runs = last.2; size = omega (arith, size, t.2, n, weight); short = omega (arith, short, n) }

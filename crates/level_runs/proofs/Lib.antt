@@ -1,3 +1,4 @@
 pub mod Groups
 pub mod Tight
+pub mod Short
 pub mod Kept

@@ -2,6 +2,7 @@
 
 ghost use Rattle.std.specs.Prelude.{◌≡◌, ◌<◌, ◌≤◌, ◌^◌, ◌+◌, ◌*◌, ◌/◌, ◌++◌, ℕ, List, length, replicate, OnOk, All};
 ghost use Rattle.pq_runs.specs.Writing.{Extends, Wrote};
+ghost use Rattle.pq_runs.specs.Stretches.{Takes, one_if_any, stretch_bits};
 ghost use Rattle.level_runs.specs.Writing.{IsTight};
 
 use crate::block::Block;
@@ -14,6 +15,7 @@ fn fewest(width: u32) -> u64
     ensures eight { 8 ≤ result }
     ensures low { 24 ≤ width * result }
     ensures most { result ≤ 32 }
+    ensures high { width * result ≤ 8 * width + 24 }
 {
     u64::from(24 / width) + 8
 }
@@ -36,6 +38,7 @@ pub fn settle(
     ensures below { OnOk result (All (λ v. v < 2 ^ width) block.new) }
     ensures wrote { OnOk result ((start xs : List ℕ) → Wrote width start out.old.items block.old xs → Wrote width start out.new.items block.new (xs ++ replicate count level)) }
     ensures tight { OnOk result ((start done : ℕ) → IsTight width start (length out.old.items) done → (more : ℕ) × (done + length block.old + count ≡ more + length block.new) × IsTight width start (length out.new.items) more) }
+    ensures short { OnOk result (Takes width out.old.items block.old out.new.items block.new (stretch_bits width * one_if_any count)) }
     ensures kept { Extends out.old.items out.new.items }
 {
     let many = fewest(width);

@@ -10,6 +10,7 @@ fn equal_levels_are_one_run(rt: HostRuntime) -> Result<(), Fail> {
     let mut writer = RunWriter::new(2);
     writer.push(&mut out, 3, 600)?;
     writer.push(&mut out, 3, 0)?;
+    writer.push(&mut out, 1, 0)?;
     writer.push(&mut out, 3, 400)?;
     writer.finish(&mut out)?;
     assert_eq!(rt; out.as_slice(), [7, 0xd0, 0x0f, 3].as_slice());

@@ -50,9 +50,10 @@ impl RunWriter {
         }
     }
 
-    // At most MOST_COPIES copies of a level.
+    // Some copies of a level, at most MOST_COPIES.
     fn push_some(&mut self, out: &mut Vec<u8>, level: u8, count: u64) -> Result<(), AllocError>
         requires low { level < 2 ^ self.old.width }
+        requires some { 0 < count }
         requires few { count ≤ 2 ^ 40 }
         ensures width { self.new.width ≡ self.old.width }
         ensures added { OnOk result ((start xs : List ℕ) → Keeps start out.old.items self.old xs → Keeps start out.new.items self.new (xs ++ replicate count level)) }
@@ -72,7 +73,7 @@ impl RunWriter {
         Ok(())
     }
 
-    /// Takes so many copies of a level.
+    /// Takes so many copies of a level. None change nothing.
     ///
     /// # Errors
     ///
@@ -84,14 +85,16 @@ impl RunWriter {
         ensures kept { Extends out.old.items out.new.items }
     {
         let mut left = count as u64;
-        while left > MOST_COPIES {
-            self.push_some(out, level, MOST_COPIES)?;
-            left -= MOST_COPIES;
+        while left > 0 {
+            let some = left.min(MOST_COPIES);
+            self.push_some(out, level, some)?;
+            left -= some;
         }
-        self.push_some(out, level, left)
+        Ok(())
     }
 
-    /// Writes what waits. What was appended since the start is then runs of all levels that were given.
+    /// Writes what waits. What was appended since the start is then runs of all levels that were given, in at most `2 * width + 19` bytes for each
+    /// stretch of up to `2^40` equal ones and 8 bytes.
     ///
     /// # Errors
     ///

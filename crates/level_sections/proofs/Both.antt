@@ -44,7 +44,7 @@ sections_of values version nested before after r d well few both =
       repetitions = subst (λ (levels : List ℕ). HoldsLevels version (greatest Repetition parts) a.text levels) (repetitions-column values nested (path_pairs parts) refl) a.holds;
       definitions = subst (λ (levels : List ℕ). HoldsLevels version (greatest Definition parts) b.text levels) (definitions-column values nested (path_pairs parts) refl) b.holds;
       sizes_are = ap (λ (k : ℕ). (k, d)) a.size_is ∙ ap (λ (k : ℕ). (length a.text, k)) b.size_is;
-      room = in_room a.holds.are.width b.holds.are.width (length a.text) (length b.text) (length (nested_column values nested)) (width-repetition parts a.holds.are.width well short a.holds.are.is_width) (width-most Definition parts b.holds.are.width well short b.holds.are.is_width) (omega (arith, a.short, la)) (omega (arith, b.short, lb));
+      room = in_room a.holds.are.width b.holds.are.width (length a.text) (length b.text) (length (nested_column values nested)) (width-repetition parts a.holds.are.width well short a.holds.are.is_width) (width-most Definition parts b.holds.are.width well short b.holds.are.is_width) (omega (arith, a.tight, la)) (omega (arith, b.tight, lb));
     }
 
 -- a definition section alone
@@ -53,7 +53,7 @@ levels_of values version nested before after d well few b =
     let parts = parts_of nested in
     let short : length parts ≤ 128 = rw (length-map nested part_of) few in
     let e = definitions-column values nested (path_pairs parts) refl in
-    let both = in_room 0 b.holds.are.width 0 (length b.text) (length (map (level_of Definition) (path_pairs parts))) (omega arith) (width-most Definition parts b.holds.are.width well short b.holds.are.is_width) (omega arith) b.short in
+    let both = in_room 0 b.holds.are.width 0 (length b.text) (length (map (level_of Definition) (path_pairs parts))) (omega arith) (width-most Definition parts b.holds.are.width well short b.holds.are.is_width) (omega arith) b.tight in
     let room : length b.text ≤ level_room (length (map (level_of Definition) (path_pairs parts))) = omega (arith, both) in
     record {
       text = b.text;

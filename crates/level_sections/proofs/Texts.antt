@@ -59,9 +59,10 @@ one_none version zero before levels e h = record {
               within = h;
               none = λ z. refl;
             };
+        short = omega arith;
       };
   size_is = refl;
-  short = omega arith;
+  tight = omega arith;
 }
 one_none version (suc max) before levels e h = absurd (omega (arith, e))
 
@@ -76,9 +77,9 @@ one_alone max width size before after levels some w h r e =
     record {
       text = r.text;
       parts = r.parts;
-      holds = record { section = r.text; stands = refl; are = are_levels max width r.text levels some w h r.runs };
+      holds = record { section = r.text; stands = refl; are = are_levels max width r.text levels some w h r.runs; short = omega (arith, r.short) };
       size_is = omega (arith, e, n);
-      short = omega (arith, r.size);
+      tight = omega (arith, r.size);
     }
 
 -- ---- a section behind its length
@@ -103,9 +104,9 @@ one_behind max width size before mid after new levels four head some w h m n4 r 
     record {
       text = head ++ r.text;
       parts = is;
-      holds = record { section = r.text; stands = λ rest. behind_some max head r.text rest h4 long some; are = are_levels max width r.text levels some w h r.runs };
+      holds = record { section = r.text; stands = λ rest. behind_some max head r.text rest h4 long some; are = are_levels max width r.text levels some w h r.runs; short = omega (arith, r.short, length-append head r.text, h4) };
       size_is = omega (arith, e, n, length-append head r.text, h4);
-      short = omega (arith, r.size, length-append head r.text, h4);
+      tight = omega (arith, r.size, length-append head r.text, h4);
     }
 
 pub parted : (before mid after four text : List ℕ) → mid ≡ before ++ four → after ≡ mid ++ text → after ≡ before ++ (four ++ text)

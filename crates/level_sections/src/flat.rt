@@ -27,7 +27,7 @@ fn shared(validity: Option<&Bitmap>) -> Result<Option<Bitmap>>
 /// Appends the section of a flat column's definition levels, as a data page of the version has it, and nothing for a required one.
 ///
 /// The levels are 1 for a value and 0 for a null, where an optional column's mask is false (Parquet format, "Data Pages", "Nulls").
-/// The mask has `len` bits; a required column's is not looked at.
+/// The mask has `len` bits; a required column's is not looked at. Long repetitions are repeated runs, as `write_rep_and_def` has them.
 ///
 /// # Errors
 ///

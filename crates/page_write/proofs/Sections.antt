@@ -6,7 +6,8 @@ use Rattle.std.proofs.Math.Nat.{mul-le-mul_right}
 use Rattle.pq_numbers.specs.Bits.{IsWidth}
 use Rattle.pq_runs.specs.Runs.{Runs, no_bits}
 use Rattle.pq_runs.specs.Writing.{Spelling}
-use Rattle.page_write.specs.Sections.{IsSection, AppendsLevels}
+use Rattle.pq_runs.proofs.Short.{nothing_short}
+use Rattle.page_write.specs.Sections.{IsSection, AppendsLevels, AppendsShort}
 
 -- ---- where the greatest level is 0
 
@@ -29,6 +30,10 @@ section_of_zeros xs h = record {
 pub no_section : (max : ℕ) (out xs : List ℕ) → max ≡ 0 → All (λ v. v ≤ max) xs → AppendsLevels max out out xs
 no_section zero out xs e h = record { section = []; parts = sym (append-nil out); is = section_of_zeros xs h }
 no_section (suc max) out xs e h = absurd (omega (arith, e))
+
+pub no_section_short : (max : ℕ) (out xs : List ℕ) → max ≡ 0 → AppendsShort max out out xs
+no_section_short zero out xs e = record { width = 0; is_width = no_width; short = nothing_short 0 out xs }
+no_section_short (suc max) out xs e = absurd (omega (arith, e))
 
 -- ---- else
 

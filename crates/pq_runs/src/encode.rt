@@ -189,7 +189,7 @@ fn encode_numbers<I: Iterator<Item = u32>>(
 }
 
 /// Appends hybrid runs of the numbers, each below `2^width`, in at most `width + 1` bits a number and 15 bits, and in at most `2 * width + 19`
-/// bytes for each stretch of up to `2^40` equal numbers and one byte: eight and more equal ones are written as a repeated run.
+/// bytes for each stretch of up to `2^40` equal numbers and one byte, so long repetitions are repeated runs.
 ///
 /// # Errors
 ///

@@ -1,11 +1,13 @@
-use Rattle.std.proofs.Common.{◌<◌, ◌≤◌, ◌^◌, ◌-◌, ◌+◌, ◌*◌, ◌++◌, [], ◌∷◌, length, replicate, arith, sym, ap, ◌∙◌, ◌≡◌}
+use Rattle.std.proofs.Common.{◌<◌, ◌≤◌, ◌^◌, ◌-◌, ◌+◌, ◌*◌, ◌%◌, ◌++◌, [], ◌∷◌, ℕ, inl, inr, length, replicate, arith, sym, ap, subst, ◌∙◌, ◌≡◌}
 use Rattle.std.proofs.lemmas.Bool.{false≢true, lt-ltb}
 use Rattle.std.proofs.lemmas.List.{length-append}
 use Rattle.std.proofs.lemmas.List.Elements.{All-push}
 use Rattle.pq_runs.proofs.Packs.{kept_then}
+use Rattle.pq_runs.proofs.Short.{some_pending, none_pending}
 use Rattle.pq_runs.proofs.Steps.{wrote_one, wrote_left}
 use Rattle.pq_numbers.specs.Varint.{varint}
 use Rattle.level_runs.proofs.Tight.{tight_pushed, tight_flushed, tight_copied, tight_same, copies_short, copies_length, times_more}
+use Rattle.level_runs.proofs.Short.{IsFilling, taken_pushed, taken_flushed, filling_on, few_filled, run_taken, packed_taken}
 use Rattle.level_runs.proofs.settle.settle.Goals as goal
 use Rattle.level_runs.proofs.settle.settle.Goals.{then-loop-left-test+else-len-ne0, then-left-many, else-left-many, else-loop-left-test}
 
@@ -13,8 +15,15 @@ pub loop-left-preserved-in-Continue-1 : goal.loop-left-preserved-in-Continue-1
 loop-left-preserved-in-Continue-1 c =
     let f = c.in_ok-flush.ensures.ok in
     let n : length c.push.new.self ≡ 504 = omega arith in
+    let filling : IsFilling c.fewest-many.result (0 % 8) c.args.count (c.loop-left.left - 1) =
+    filling_on c.fewest-many.result 0 (length c.loop-left.block) c.args.count c.loop-left.left (omega (arith, n, ap length c.push.ensures, length-append c.loop-left.block (c.args.level ∷ []))) c.loop-left-test.true c.loop-left.invariant.most
+    (elim c.if-left-many.branch [ then-left-many w ↦ inl w.if-left-many.true | else-left-many w ↦ inr (subst (λ (k : ℕ). 0 < k % 8) w.len.ensures.value (some_pending c.if-left-many.value (w.len.result % 8) c.if-len-ne0.true w.value-is)) ]) c.loop-left.invariant.filling in
     record {
       most = omega arith;
+      taken =
+          rw f.0 (taken_flushed c.args.width c.args.out.now.items c.args.block.now c.loop-left.out.items c.push.new.self c.flush.new.out.items (c.args.count - (c.loop-left.left - 1)) (few_filled c.fewest-many.result 0 c.args.count (c.loop-left.left - 1) c.fewest-many.ensures.most filling) c.requires.room n c.in_ok-flush.ensures.size
+          (rw c.push.ensures (taken_pushed c.args.width c.args.out.now.items c.args.block.now c.loop-left.out.items c.loop-left.block c.args.level c.args.count c.loop-left.left c.loop-left-test.true c.loop-left.invariant.most c.loop-left.invariant.taken)));
+      filling = rw f.0 filling;
       room = rw f.0 (omega arith);
       kept = kept_then c.args.out.now.items c.loop-left.out.items c.flush.new.out.items c.loop-left.invariant.kept c.in_ok-flush.ensures.kept;
       below = rw f.0 (λ k d lt. absurd (omega (arith, lt)));
@@ -25,6 +34,10 @@ loop-left-preserved-in-Continue-1 c =
 pub loop-left-preserved : goal.loop-left-preserved
 loop-left-preserved c = record {
   most = omega arith;
+  taken = rw c.push.ensures (taken_pushed c.args.width c.args.out.now.items c.args.block.now c.loop-left.out.items c.loop-left.block c.args.level c.args.count c.loop-left.left c.loop-left-test.true c.loop-left.invariant.most c.loop-left.invariant.taken);
+  filling =
+      rw c.push.ensures (filling_on c.fewest-many.result (length (c.loop-left.block ++ c.args.level ∷ [])) (length c.loop-left.block) c.args.count c.loop-left.left (ap (λ (k : ℕ). k % 8) (length-append c.loop-left.block (c.args.level ∷ []))) c.loop-left-test.true c.loop-left.invariant.most
+      (elim c.if-left-many.branch [ then-left-many w ↦ inl w.if-left-many.true | else-left-many w ↦ inr (subst (λ (k : ℕ). 0 < k % 8) w.len.ensures.value (some_pending c.if-left-many.value (w.len.result % 8) c.if-len-ne0.true w.value-is)) ]) c.loop-left.invariant.filling);
   kept = c.loop-left.invariant.kept;
   room = rw c.push.ensures (omega (arith, c.if-len-eq504.false, c.len-in-loop-left.ensures.value, c.loop-left.invariant.room, ap length c.push.ensures, length-append c.loop-left.block (c.args.level ∷ [])));
   below = rw c.push.ensures (All-push (λ v. v < 2 ^ c.args.width) c.loop-left.block c.args.level c.loop-left.invariant.below c.requires.level);
@@ -58,3 +71,18 @@ returns-in_ok-push_copies-clause-tight c =
 pub returns-else-left-gt0-clause-tight : goal.returns-else-left-gt0-clause-tight
 returns-else-left-gt0-clause-tight c =
     λ start done t. tight_same c.args.width start (length c.loop-left.out.items) (length c.loop-left.block) _ _ (omega arith) (c.loop-left.invariant.tight start done t)
+
+pub returns-in_ok-push_copies-clause-short : goal.returns-in_ok-push_copies-clause-short
+returns-in_ok-push_copies-clause-short c =
+    let f = c.in_ok-flush-2.ensures.ok in
+    let e = c.in_ok-push_copies.ensures.ok in
+    let over : (c.fewest-many.result ≤ c.loop-left.left) × (length c.loop-left.block % 8 ≡ 0) = elim c.loop-left-test.branch [
+      | then-loop-left-test+else-len-ne0 w ↦ elim w.if-left-many.branch [ then-left-many w' ↦ absurd (false≢true (sym w.if-len-ne0.false ∙ w'.value-is ∙ lt-ltb c.loop-left.left c.fewest-many.result w'.if-left-many.true)) | else-left-many w' ↦ (omega arith, ap (λ (k : ℕ). k % 8) (sym w'.len.ensures.value) ∙ none_pending w.if-left-many.value (w'.len.result % 8) w.if-len-ne0.false w'.value-is) ]
+      | else-loop-left-test w ↦ absurd (omega arith)
+    ] in
+    let size = copies_length c.args.width c.loop-left.left c.args.level c.flush-then-left-gt0.new.out.items c.push_copies.new.out.items e.0 c.requires.some c.requires.fits e.2 e.1 in
+    rw f.0 (run_taken c.args.width c.fewest-many.result (length c.loop-left.block) c.args.count c.loop-left.left c.args.out.now.items c.args.block.now c.loop-left.out.items c.loop-left.block c.flush-then-left-gt0.new.out.items c.push_copies.new.out.items over.0 c.loop-left.invariant.most (omega arith) c.requires.few over.1 c.loop-left.invariant.filling c.loop-left.invariant.taken c.in_ok-flush-2.ensures.size size)
+
+pub returns-else-left-gt0-clause-short : goal.returns-else-left-gt0-clause-short
+returns-else-left-gt0-clause-short c =
+    packed_taken c.args.width c.fewest-many.result (length c.loop-left.block % 8) c.args.count c.loop-left.left c.args.out.now.items c.args.block.now c.loop-left.out.items c.loop-left.block c.fewest-many.ensures.high c.requires.room c.loop-left.invariant.filling c.loop-left.invariant.taken

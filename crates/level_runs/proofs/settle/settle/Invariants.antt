@@ -1,6 +1,7 @@
-use Rattle.std.proofs.Common.{◌≡◌, ℕ, List, ◌<◌, ◌≤◌, ◌-◌, ◌+◌, ◌^◌, ◌++◌, length, replicate, All}
+use Rattle.std.proofs.Common.{◌≡◌, ℕ, List, ◌<◌, ◌≤◌, ◌-◌, ◌+◌, ◌%◌, ◌^◌, ◌++◌, length, replicate, All}
 use Rattle.pq_runs.specs.Writing.{Extends, Wrote}
 use Rattle.level_runs.specs.Writing.{IsTight}
+use Rattle.level_runs.proofs.Short.{Taken, IsFilling}
 use Rattle.level_runs.proofs.settle.settle.Given as goal
 
 abbrev pub decreases-loop-left : goal.decreases-loop-left
@@ -13,5 +14,7 @@ invariant-loop-left l = record {
   kept : Extends l.fn.out.items l.out.items;
   below : All (λ v. v < 2 ^ l.width) l.block;
   wrote : (start xs : List ℕ) → Wrote l.width start l.fn.out.items l.fn.block xs → Wrote l.width start l.out.items l.block (xs ++ replicate (l.count - l.left) l.level);
+  taken : Taken l.width l.fn.out.items l.fn.block l.out.items l.block (l.count - l.left);
+  filling : IsFilling l.many (length l.block % 8) l.count l.left;
   tight : (start done : ℕ) → IsTight l.width start (length l.fn.out.items) done → (more : ℕ) × (done + length l.fn.block + (l.count - l.left) ≡ more + length l.block) × IsTight l.width start (length l.out.items) more;
 }

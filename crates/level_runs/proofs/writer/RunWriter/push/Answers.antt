@@ -1,6 +1,6 @@
-use Rattle.std.proofs.Common.{arith, ◌-◌, ◌^◌, ◌∙◌}
+use Rattle.std.proofs.Common.{◌≡◌, ℕ, ◌-◌, ◌++◌, ◌∙◌, replicate, subst, arith}
 use Rattle.pq_runs.proofs.Packs.{kept_then}
-use Rattle.pq_runs.proofs.Steps.{finished}
+use Rattle.level_runs.specs.Writing.{Keeps}
 use Rattle.level_runs.proofs.Kept.{copies_on}
 use Rattle.level_runs.proofs.writer.RunWriter.push.Goals as goal
 
@@ -9,10 +9,10 @@ loop-left-preserved c = record {
   most = omega arith;
   width = c.in_ok-push_some.ensures.width ∙ c.loop-left.invariant.width;
   kept = kept_then c.args.out.now.items c.loop-left.out.items c.push_some.new.out.items c.loop-left.invariant.kept c.in_ok-push_some.ensures.kept;
-  added = λ start xs k. copies_on start c.push_some.new.out.items c.push_some.new.self xs c.args.level (c.args.count - c.loop-left.left) (2 ^ 40) (c.args.count - (c.loop-left.left - 2 ^ 40)) (omega arith) (c.in_ok-push_some.ensures.added start _ (c.loop-left.invariant.added start xs k));
+  added = λ start xs k. copies_on start c.push_some.new.out.items c.push_some.new.self xs c.args.level (c.args.count - c.loop-left.left) c.min-some.result (c.args.count - (c.loop-left.left - c.min-some.result)) (omega arith) (c.in_ok-push_some.ensures.added start _ (c.loop-left.invariant.added start xs k));
 }
 
 pub returns-clause-added : goal.returns-clause-added
-returns-clause-added c = finished c.push_some-2.result
-    (λ f start xs k. copies_on start c.push_some-2.new.out.items c.push_some-2.new.self xs c.args.level (c.args.count - c.loop-left.left) c.loop-left.left c.args.count (omega arith) (f start _ (c.loop-left.invariant.added start xs k)))
-    c.push_some-2.ensures.added
+returns-clause-added c = λ start xs k.
+    let all : c.args.count - c.loop-left.left ≡ c.args.count = omega arith in
+    subst (λ (n : ℕ). Keeps start c.loop-left.out.items c.loop-left.self (xs ++ replicate n c.args.level)) all (c.loop-left.invariant.added start xs k)
