@@ -138,24 +138,33 @@ def body_of(chunk, values):
     return bytes(reader.take(size))
 
 
-def levels(section, width, greatest, count):
+def levels(section, width, greatest, count, is_output):
+    """The levels that a section spells. The runs of an output are exact: none is empty, none has a number too many but for the zeros that fill a
+    last packed group up, heads have no padding, and nothing stands behind them."""
     reader, found = Reader(section), []
     while len(found) < count:
+        start = reader.at
         head = reader.varint()
-        wanted = min((head >> 1) * (8 if head & 1 else 1), count - len(found))
+        run = (head >> 1) * (8 if head & 1 else 1)
+        wanted = min(run, count - len(found))
+        if is_output:
+            check(reader.at - start == max(1, (head.bit_length() + 6) // 7), "a padded head of a run")
+            check(run > 0 and run - wanted < (8 if head & 1 else 1), "an empty run, or one that is too long")
         if head & 1:
-            found += packed(reader, width, head >> 1, wanted)
+            found += packed(reader, width, head >> 1, wanted, is_output)
         else:
             found += [reader.byte()] * wanted
+    check(not is_output or reader.at == len(reader.data), "bytes behind the runs")
     check(all(it <= greatest for it in found), "a level past its maximum")
     return found
 
 
-def packed(reader, width, groups, wanted):
+def packed(reader, width, groups, wanted, is_output):
     body = reader.data[reader.at : reader.at + groups * width]
     check(8 * len(body) >= wanted * width, "packed levels end early")
     reader.at += groups * width
     number = int.from_bytes(body, "little")
+    check(not is_output or len(body) == groups * width and not number >> width * wanted, "a group that is cut, or surplus bits")
     return [number >> width * place & (1 << width) - 1 for place in range(wanted)]
 
 
@@ -163,12 +172,13 @@ def section_in(reader):
     return reader.take(int.from_bytes(reader.take(4), "little"))
 
 
-def pairs_in(body, count):
+def pairs_in(body, count, is_output):
     reader = Reader(body)
     repetitions, definitions = section_in(reader), section_in(reader)
-    definitions = levels(definitions, 2, 3, count)
+    definitions = levels(definitions, 2, 3, count, is_output)
     numbers = [reader.take(4) for it in definitions if it == 3]
-    return levels(repetitions, 1, 1, count), definitions, [int.from_bytes(it, "little", signed=True) for it in numbers]
+    check(not is_output or reader.at == len(reader.data), "bytes behind the values")
+    return levels(repetitions, 1, 1, count, is_output), definitions, [int.from_bytes(it, "little", signed=True) for it in numbers]
 
 
 def rows_of(repetitions, definitions, values):
@@ -188,7 +198,7 @@ def rows_of(repetitions, definitions, values):
 def read(file, is_output=False):
     """The column that the file holds. `NoFrame`, or `Malformed` where it is of no such form.
 
-    An output has the logical type LIST besides, and the name `root`.
+    An output has the logical type LIST besides, and the name `root`, and its runs are exact.
     """
     end = footer_place(file)
     footer = Reader(file[end:-8]).struct()
@@ -199,6 +209,6 @@ def read(file, is_output=False):
     field, item = names_in(all_of(needed(footer, 2, "list"), "struct"), is_output)
     meta, row_count = chunk_in(all_of(needed(footer, 4, "list"), "struct"))
     chunk, values = page_bytes(file, end, meta)
-    rows = rows_of(*pairs_in(body_of(chunk, values), values))
+    rows = rows_of(*pairs_in(body_of(chunk, values), values, is_output))
     check(len(rows) == row_count, "another number of rows")
     return Column(field, item, rows)

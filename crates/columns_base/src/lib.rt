@@ -7,6 +7,3 @@ pub mod physical;
 
 pub use error::{A, Error, Limit, N, Result, S, V};
 pub use physical::PhysicalType;
-
-#[cfg(test)]
-mod tests;

@@ -36,14 +36,14 @@ low_byte n i h =
     let e : n ≡ n / 2 ^ 8 * 2 ^ 8 + n % 2 ^ 8 = omega arith in
     sym (ap (λ m. bit_at m i) e ∙ bit_at_cat_low (n / 2 ^ 8) 8 (n % 2 ^ 8) i h)
 
-shifted_bit : (n s i : ℕ) → bit_at (n / 2 ^ s) i ≡ bit_at n (s + i)
+pub shifted_bit : (n s i : ℕ) → bit_at (n / 2 ^ s) i ≡ bit_at n (s + i)
 shifted_bit n s i = ap (λ m. m % 2) (div-div-eq-div-mul n (2 ^ s) (2 ^ i) ∙ ap (λ m. n / m) (sym (pow-add 2 s i)))
 
 -- a bit of the byte that the code puts together
 pub put_together : (a b s i : ℕ) → a < 2 ^ 8 → s < 8 → i < 8 → bit_at ((b * 2 ^ 8 + a) / 2 ^ s % 2 ^ 8) i ≡ bit_at (b * 2 ^ 8 + a) (s + i)
 put_together a b s i la ls li = low_byte ((b * 2 ^ 8 + a) / 2 ^ s) i li ∙ shifted_bit (b * 2 ^ 8 + a) s i
 
-below_or_from : (a b : ℕ) → (a < b) ⊎ (b ≤ a)
+pub below_or_from : (a b : ℕ) → (a < b) ⊎ (b ≤ a)
 below_or_from a zero = inr (omega arith)
 below_or_from zero (suc b) = inl (omega arith)
 below_or_from (suc a) (suc b) = next a b (below_or_from a b)

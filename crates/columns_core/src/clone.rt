@@ -1,8 +1,9 @@
 //! `clone`, which gives an equal value.
-ghost use Rattle.std.specs.Prelude.{◌≡◌, IfOk, IfErr, option_map};
+ghost use Rattle.std.specs.Prelude.{◌≡◌, IfOk, IfErr, option_map, string_bytes};
+ghost use Rattle.columns_core.specs.Tree.{t_timestamp, t_fixed_size_list, t_union, t_map, t_dictionary, t_extension};
 ghost use Rattle.columns_core.specs.View.{type_view, field_view, fields_view, schema_view};
 
-use crate::types::{DataType, Field, Schema};
+use crate::types::{DataType, Field, IntegerType, Schema, TimeUnit};
 use columns_base::{Error, Result};
 use std::alloc::Global;
 
@@ -70,7 +71,7 @@ fn copy_type(data_type: &DataType, alloc: Global) -> Result<DataType>
         DataType::Float16 => Ok(DataType::Float16),
         DataType::Float32 => Ok(DataType::Float32),
         DataType::Float64 => Ok(DataType::Float64),
-        DataType::Timestamp(p0, p1) => Ok(DataType::Timestamp(*p0, p1.clone()?)),
+        DataType::Timestamp(unit, zone) => copy_timestamp(*unit, zone),
         DataType::Date32 => Ok(DataType::Date32),
         DataType::Date64 => Ok(DataType::Date64),
         DataType::Time32(p0) => Ok(DataType::Time32(*p0)),
@@ -82,35 +83,100 @@ fn copy_type(data_type: &DataType, alloc: Global) -> Result<DataType>
         DataType::LargeBinary => Ok(DataType::LargeBinary),
         DataType::Utf8 => Ok(DataType::Utf8),
         DataType::LargeUtf8 => Ok(DataType::LargeUtf8),
-        DataType::List(p0) => Ok(DataType::List(Box::new(alloc, copy_field(p0, alloc)?)?)),
-        DataType::FixedSizeList(p0, p1) => Ok(DataType::FixedSizeList(
-            Box::new(alloc, copy_field(p0, alloc)?)?,
-            *p1,
-        )),
-        DataType::LargeList(p0) => Ok(DataType::LargeList(Box::new(
-            alloc,
-            copy_field(p0, alloc)?,
-        )?)),
-        DataType::Struct(p0) => Ok(DataType::Struct(copy_fields(p0, alloc)?)),
-        DataType::Union(p0, p1, p2) => Ok(DataType::Union(
-            copy_fields(p0, alloc)?,
-            copy_ids(p1)?,
-            *p2,
-        )),
-        DataType::Map(p0, p1) => Ok(DataType::Map(Box::new(alloc, copy_field(p0, alloc)?)?, *p1)),
-        DataType::Dictionary(p0, p1, p2) => Ok(DataType::Dictionary(
-            *p0,
-            Box::new(alloc, copy_type(p1, alloc)?)?,
-            *p2,
-        )),
+        DataType::List(item) => copy_item(item, alloc).map(DataType::List),
+        DataType::FixedSizeList(item, size) => copy_fixed_size_list(item, *size, alloc),
+        DataType::LargeList(item) => copy_item(item, alloc).map(DataType::LargeList),
+        DataType::Struct(fields) => copy_fields(fields, alloc).map(DataType::Struct),
+        DataType::Union(fields, ids, is_sparse) => copy_union(fields, ids, *is_sparse, alloc),
+        DataType::Map(entry, is_sorted) => copy_map(entry, *is_sorted, alloc),
+        DataType::Dictionary(key, value, is_sorted) => {
+            copy_dictionary(*key, value, *is_sorted, alloc)
+        }
         DataType::Decimal(p0, p1) => Ok(DataType::Decimal(*p0, *p1)),
         DataType::Decimal256(p0, p1) => Ok(DataType::Decimal256(*p0, *p1)),
-        DataType::Extension(p0, p1, p2) => Ok(DataType::Extension(
-            p0.clone()?,
-            Box::new(alloc, copy_type(p1, alloc)?)?,
-            p2.clone()?,
-        )),
+        DataType::Extension(name, inner, text) => copy_extension(name, inner, text, alloc),
     }
+}
+
+fn copy_timestamp(unit: TimeUnit, zone: &Option<String>) -> Result<DataType>
+    ensures ok { IfOk result (λ t. type_view t ≡ t_timestamp unit (option_map string_bytes zone.now)) }
+    ensures err { IfErr result (λ e. e ≡ Error.Memory) }
+{
+    Ok(DataType::Timestamp(unit, zone.clone()?))
+}
+
+#[cycle(copy)]
+fn copy_item(field: &Field, alloc: Global) -> Result<Box<Field>>
+    ensures ok { IfOk result (λ f. field_view f.value ≡ field_view field.now) }
+    ensures err { IfErr result (λ e. e ≡ Error.Memory) }
+{
+    let copy = copy_field(field, alloc)?;
+    Ok(Box::new(alloc, copy)?)
+}
+
+#[cycle(copy)]
+fn copy_inner(data_type: &DataType, alloc: Global) -> Result<Box<DataType>>
+    ensures ok { IfOk result (λ t. type_view t.value ≡ type_view data_type.now) }
+    ensures err { IfErr result (λ e. e ≡ Error.Memory) }
+{
+    let copy = copy_type(data_type, alloc)?;
+    Ok(Box::new(alloc, copy)?)
+}
+
+#[cycle(copy)]
+fn copy_fixed_size_list(item: &Field, size: usize, alloc: Global) -> Result<DataType>
+    ensures ok { IfOk result (λ t. type_view t ≡ t_fixed_size_list (field_view item.now) size) }
+    ensures err { IfErr result (λ e. e ≡ Error.Memory) }
+{
+    Ok(DataType::FixedSizeList(copy_item(item, alloc)?, size))
+}
+
+#[cycle(copy)]
+fn copy_map(entry: &Field, is_sorted: bool, alloc: Global) -> Result<DataType>
+    ensures ok { IfOk result (λ t. type_view t ≡ t_map (field_view entry.now) is_sorted) }
+    ensures err { IfErr result (λ e. e ≡ Error.Memory) }
+{
+    Ok(DataType::Map(copy_item(entry, alloc)?, is_sorted))
+}
+
+#[cycle(copy)]
+fn copy_union(
+    fields: &Vec<Field>,
+    ids: &Option<Vec<i32>>,
+    is_sparse: bool,
+    alloc: Global,
+) -> Result<DataType>
+    ensures ok { IfOk result (λ t. type_view t ≡ t_union (fields_view fields.now.items) (option_map (λ v. v.items) ids.now) is_sparse) }
+    ensures err { IfErr result (λ e. e ≡ Error.Memory) }
+{
+    let ids = copy_ids(ids)?;
+    Ok(DataType::Union(copy_fields(fields, alloc)?, ids, is_sparse))
+}
+
+#[cycle(copy)]
+fn copy_dictionary(
+    key: IntegerType,
+    value: &DataType,
+    is_sorted: bool,
+    alloc: Global,
+) -> Result<DataType>
+    ensures ok { IfOk result (λ t. type_view t ≡ t_dictionary key (type_view value.now) is_sorted) }
+    ensures err { IfErr result (λ e. e ≡ Error.Memory) }
+{
+    Ok(DataType::Dictionary(key, copy_inner(value, alloc)?, is_sorted))
+}
+
+#[cycle(copy)]
+fn copy_extension(
+    name: &String,
+    inner: &DataType,
+    text: &Option<String>,
+    alloc: Global,
+) -> Result<DataType>
+    ensures ok { IfOk result (λ t. type_view t ≡ t_extension (string_bytes name.now) (type_view inner.now) (option_map string_bytes text.now)) }
+    ensures err { IfErr result (λ e. e ≡ Error.Memory) }
+{
+    Ok(DataType::Extension(name.clone()?, copy_inner(inner, alloc)?, text.clone()?))
 }
 
 #[cycle(copy)]
@@ -142,8 +208,8 @@ fn copy_ids(ids: &Option<Vec<i32>>) -> Result<Option<Vec<i32>>>
     ensures ok { IfOk result (λ o. option_map (λ v. v.items) o ≡ option_map (λ v. v.items) ids.now) }
     ensures err { IfErr result (λ e. e ≡ Error.Memory) }
 {
-    match ids {
-        Some(ids) => Ok(Some(ids.clone()?)),
-        None => Ok(None),
-    }
+    let Some(ids) = ids else {
+        return Ok(None);
+    };
+    Ok(Some(ids.clone()?))
 }

@@ -2,6 +2,7 @@
 #![tactic(auto)]
 
 mod bit_runs;
+mod bit_words;
 pub mod bitmap;
 mod bitmap_iter;
 mod clone;
@@ -11,6 +12,7 @@ pub mod metadata;
 pub mod mutable_bitmap;
 pub mod mutable_offsets;
 pub mod native;
+pub mod nesting;
 pub mod offsets;
 pub mod parquet_native;
 pub mod types;
@@ -25,9 +27,7 @@ pub use metadata::Metadata;
 pub use mutable_bitmap::MutableBitmap;
 pub use mutable_offsets::Offsets;
 pub use native::{DaysMs, NativeType};
+pub use nesting::{MAX_NESTING, all_nest_within};
 pub use offsets::{Offset, OffsetsBuffer};
 pub use parquet_native::ParquetNativeType;
 pub use types::{DataType, Field, IntegerType, IntervalUnit, Schema, TimeUnit};
-
-#[cfg(test)]
-mod tests;

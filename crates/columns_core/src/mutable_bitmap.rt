@@ -1,6 +1,6 @@
 //! Truth values that grow.
-ghost use Rattle.std.specs.Prelude.{◌≡◌, ◌+◌, ◌-◌, ◌*◌, ◌%◌, ◌<◌, ◌≤◌, ◌^◌, ◌==◌, ◌≢◌, ℕ, [], ◌∷◌, ◌++◌, IfOk, IfErr, IsOk, replicate, vec_len, vec_capacity, length as list_length};
-ghost use Rattle.columns_core.specs.Bits.{bits_from, bit_of};
+ghost use Rattle.std.specs.Prelude.{◌≡◌, ◌+◌, ◌-◌, ◌*◌, ◌/◌, ◌%◌, ◌<◌, ◌≤◌, ◌^◌, ◌==◌, ◌≢◌, ℕ, [], ◌∷◌, ◌++◌, IfOk, IfErr, IsOk, replicate, slice_index_or, vec_len, vec_capacity, length as list_length};
+ghost use Rattle.columns_core.specs.Bits.{bits_from, bit_of, word_bits};
 ghost use Rattle.std.specs.Int.{bit_at};
 
 use crate::bit_runs::{bit_in, eight_bits};
@@ -28,6 +28,16 @@ impl Model for MutableBitmap {
 }
 
 impl MutableBitmap {
+    /// No truth value. Takes no memory.
+    pub fn new(alloc: Global) -> Self
+        ensures { result.0 ≡ [] }
+    {
+        MutableBitmap {
+            bytes: Vec::new(alloc),
+            size: 0,
+        }
+    }
+
     /// No truth value, and room for as many.
     ///
     /// # Errors
@@ -132,6 +142,33 @@ impl MutableBitmap {
         let done = front + 8 * whole;
         self.push_single(slice, offset + done, length - done);
         Ok(())
+    }
+
+    /// The low `length` bits of a word more, the lowest first.
+    ///
+    /// # Errors
+    ///
+    /// `Memory`; the truth values are then as before.
+    pub fn extend_from_word(&mut self, word: u64, length: usize) -> Result<()>
+        requires { length ≤ 64 }
+        ensures ok { IfOk result (λ _. self.new.0 ≡ self.old.0 ++ word_bits word length) }
+        ensures err { IfErr result (λ e. (e ≡ Error.Memory) × (self.new.0 ≡ self.old.0)) }
+        ensures reserved { length ≤ self.old.1 → IsOk result }
+        ensures room { list_length self.old.0 + self.old.1 ≤ list_length self.new.0 + self.new.1 }
+    {
+        self.reserve(length)?;
+        put_word(&mut self.bytes, self.size, word, length);
+        self.size += length;
+        Ok(())
+    }
+
+    /// The truth values in packed bytes, the lowest bit of each byte first. What stands in the last byte behind them may be anything.
+    pub fn as_slice(&self) -> &[u8]
+        ensures bits { bits_from result.now 0 (list_length self.now.0) ≡ self.now.0 }
+        ensures enough { list_length self.now.0 ≤ 8 * list_length result.now }
+        ensures least { 8 * list_length result.now < list_length self.now.0 + 8 }
+    {
+        &self.bytes
     }
 
     /// The truth values, in memory that can be shared.
@@ -259,6 +296,53 @@ fn full_byte(value: bool) -> u8
     ensures { bits_from (result ∷ []) 0 8 ≡ replicate 8 value }
 {
     if value { 0xff } else { 0 }
+}
+
+// The first bits of a byte, as a number.
+fn low_bits(byte: u8, count: usize) -> u8
+    requires { count < 8 }
+    ensures { result ≡ byte % 2 ^ count }
+{
+    byte % (1 << count)
+}
+
+// The bits of the last byte that are in use, where it is not full.
+fn open_bits(bytes: &[u8], size: usize) -> u8
+    requires { size ≤ 8 * list_length bytes.now }
+    ensures { result ≡ slice_index_or bytes.now (size / 8) 0 % 2 ^ (size % 8) }
+{
+    if size % 8 == 0 {
+        return 0;
+    }
+    low_bits(bytes[size / 8], size % 8)
+}
+
+// A word behind the first bits of a byte.
+fn word_behind(word: u64, low: u8, count: usize) -> u128
+    requires { count < 8 }
+    ensures { result ≡ word * 2 ^ count + low }
+{
+    (u128::from(word) << count) + u128::from(low)
+}
+
+// Writes the low bits of a word behind the first bits, where there is room.
+fn put_word(bytes: &mut Vec<u8>, size: usize, word: u64, length: usize)
+    requires short { length ≤ 64 }
+    requires below { size ≤ 8 * vec_len bytes.old }
+    requires above { 8 * vec_len bytes.old < size + 8 }
+    requires room { size + length ≤ 8 * vec_capacity bytes.old }
+    ensures bits { bits_from bytes.new.items 0 (size + length) ≡ bits_from bytes.old.items 0 size ++ word_bits word length }
+    ensures below { size + length ≤ 8 * vec_len bytes.new }
+    ensures above { 8 * vec_len bytes.new < size + length + 8 }
+    ensures capacity { vec_capacity bytes.old ≤ vec_capacity bytes.new }
+{
+    let open = size % 8;
+    let low = open_bits(bytes, size);
+    let joined = word_behind(word, low, open).to_le_bytes();
+    bytes.truncate(size / 8);
+    bytes
+        .extend_from_slice(&joined[..bytes_for(open + length)])
+        .unwrap();
 }
 
 // A byte more where the last one is full.

@@ -6,7 +6,7 @@ ghost use Rattle.columns_core.specs.View.{type_view};
 use crate::types::{DataType, IntervalUnit};
 
 /// Days and milliseconds.
-#[derive(Clone, Copy, Debug, PartialEq, Eq, Drop)]
+#[derive(Clone, Copy, Debug, Default, PartialEq, Eq, Drop)]
 pub struct DaysMs {
     pub days: i32,
     pub milliseconds: i32,

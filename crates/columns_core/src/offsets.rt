@@ -223,8 +223,18 @@ impl<O: Offset> OffsetsBuffer<O> {
         self.size
     }
 
-    /// Keeps `length` ranges from the range `offset` on. Nothing is copied.
+    /// Keeps `length` offsets from the offset `offset` on, at least one. Nothing is copied.
     pub fn slice(&mut self, offset: usize, length: usize)
+        requires some { 0 < length }
+        requires within { offset + length ≤ list_length self.old }
+        ensures { self.new ≡ take length (drop offset self.old) }
+    {
+        self.start += offset;
+        self.size = length - 1;
+    }
+
+    /// Keeps `length` ranges from the range `offset` on, and so one offset more. Nothing is copied.
+    pub fn slice_ranges(&mut self, offset: usize, length: usize)
         requires { offset + length ≤ list_length self.old - 1 }
         ensures { self.new ≡ take (length + 1) (drop offset self.old) }
     {

@@ -128,7 +128,7 @@ impl<O: Offset> BinaryArray<O> {
         requires { offset + length ≤ list_length self.old.1.0 - 1 }
         ensures { self.new ≡ (self.old.0, (take (length + 1) (drop offset self.old.1.0), (self.old.1.1.0, cut_mask self.old.1.1.1 offset length))) }
     {
-        self.offsets.slice(offset, length);
+        self.offsets.slice_ranges(offset, length);
         cut_validity(&mut self.validity, offset, length);
     }
 

@@ -139,14 +139,14 @@ impl DictionaryKeys {
         ensures err { IfErr result (λ e. e ≡ Error.Memory) }
     {
         match self {
-            DictionaryKeys::Int8(a) => Ok(DictionaryKeys::Int8(a.clone(alloc)?)),
-            DictionaryKeys::Int16(a) => Ok(DictionaryKeys::Int16(a.clone(alloc)?)),
-            DictionaryKeys::Int32(a) => Ok(DictionaryKeys::Int32(a.clone(alloc)?)),
-            DictionaryKeys::Int64(a) => Ok(DictionaryKeys::Int64(a.clone(alloc)?)),
-            DictionaryKeys::UInt8(a) => Ok(DictionaryKeys::UInt8(a.clone(alloc)?)),
-            DictionaryKeys::UInt16(a) => Ok(DictionaryKeys::UInt16(a.clone(alloc)?)),
-            DictionaryKeys::UInt32(a) => Ok(DictionaryKeys::UInt32(a.clone(alloc)?)),
-            DictionaryKeys::UInt64(a) => Ok(DictionaryKeys::UInt64(a.clone(alloc)?)),
+            DictionaryKeys::Int8(a) => a.clone(alloc).map(DictionaryKeys::Int8),
+            DictionaryKeys::Int16(a) => a.clone(alloc).map(DictionaryKeys::Int16),
+            DictionaryKeys::Int32(a) => a.clone(alloc).map(DictionaryKeys::Int32),
+            DictionaryKeys::Int64(a) => a.clone(alloc).map(DictionaryKeys::Int64),
+            DictionaryKeys::UInt8(a) => a.clone(alloc).map(DictionaryKeys::UInt8),
+            DictionaryKeys::UInt16(a) => a.clone(alloc).map(DictionaryKeys::UInt16),
+            DictionaryKeys::UInt32(a) => a.clone(alloc).map(DictionaryKeys::UInt32),
+            DictionaryKeys::UInt64(a) => a.clone(alloc).map(DictionaryKeys::UInt64),
         }
     }
 }

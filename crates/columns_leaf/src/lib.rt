@@ -15,6 +15,3 @@ pub use fixed_size_binary::FixedSizeBinaryArray;
 pub use keys::DictionaryKeys;
 pub use leaves::{BooleanArray, NullArray, PrimitiveArray};
 pub use utf8::Utf8Array;
-
-#[cfg(test)]
-mod tests;

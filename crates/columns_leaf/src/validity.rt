@@ -36,7 +36,7 @@ pub fn copy_validity(validity: &Option<Bitmap>) -> Result<Option<Bitmap>>
     ensures err { IfErr result (λ e. e ≡ Error.Memory) }
 {
     match validity {
-        Some(mask) => Ok(Some(mask.clone()?)),
+        Some(mask) => mask.clone().map(Some),
         None => Ok(None),
     }
 }

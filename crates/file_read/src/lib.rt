@@ -15,6 +15,3 @@ pub use reading::read_list_column;
 pub fn reads_are_list_columns()
     ensures { ReadsAreListColumns }
 {}
-
-#[cfg(test)]
-mod tests;

@@ -1,6 +1,4 @@
-pub mod CanBeWritten
 pub mod Listed
-pub mod Nests
 pub mod Nodes
 pub mod Pairs
 pub mod ReadAgain

@@ -73,6 +73,10 @@ pub on_ok : {A E : Type 0} {P Q : Type 0} (r : Result A E) → (P → Q) → OnO
 on_ok (Ok a) f h = f h
 on_ok (Err e) f h = h
 
+pub both_ok : {A E : Type 0} (P Q : Type 0) (r : Result A E) → OnOk r P → OnOk r Q → OnOk r (P × Q)
+both_ok P Q (Ok a) p q = (p, q)
+both_ok P Q (Err e) p q = p
+
 pub root_pushed : (new : List Thrift) (root : Thrift) (s : Schema) (ts : List ParquetType) → s.fields ≡ trees_view ts → view root ≡ struct (at 4 (binary s.name) (at 5 (i32 (length ts)) no_fields))
     → map view new ≡ map view (root ∷ []) ++ map element_value (preorder_of (trees_view ts)) → values_view new ≡ elements_of s
 root_pushed new root s ts e h so_far =

@@ -3,10 +3,10 @@ use Rattle.std.proofs.Common.{◌≡◌, ◌+◌, [], ◌∷◌, length, None, r
 use Rattle.std.specs.List.{sum_by}
 use Rattle.std.proofs.lemmas.List.Sums.{sum_by-append}
 use Rattle.pq_container.specs.Tree.{Tree, leaf, group, Trees, no_trees, tree, count_trees, preorder, preorder_of}
-use Rattle.pq_files.specs.Room.{node_room}
+use Rattle.pq_files.specs.Room.{node_room, footer_room}
 use Rattle.footer_write.specs.declared.types.ThriftFileMetaData.{ThriftFileMetaData}
-use Rattle.pq_container.specs.TreeViews.{schema_view}
-use Rattle.footer_write.specs.Room.{tree_room, trees_room, footer_room, walked_room}
+use Rattle.footer_write.specs.FooterView.{footer_view}
+use Rattle.footer_write.specs.Room.{tree_room, trees_room, walked_room}
 
 mutual
   one_room : (t : Tree) → sum_by node_room (preorder t) ≡ tree_room t
@@ -19,5 +19,5 @@ mutual
   nodes_room no_trees = refl
   nodes_room (tree t ts) = sum_by-append node_room (preorder t) (preorder_of ts) ∙ (λ i. one_room t i + nodes_room ts i)
 
-pub room_is : (m : ThriftFileMetaData) → footer_room m ≡ walked_room m
-room_is m = omega (arith, nodes_room (schema_view m.schema).fields)
+pub room_is : (m : ThriftFileMetaData) → footer_room (footer_view m) ≡ walked_room (footer_view m)
+room_is m = omega (arith, nodes_room (footer_view m).schema.fields)

@@ -2,11 +2,9 @@
 use Rattle.std.specs.Prelude.{ℕ, ◌<◌, ◌≤◌, ◌^◌, Option, Some}
 use Rattle.pq_container.specs.Physical.{Physical}
 use Rattle.pq_container.specs.Tree.{Tree, leaf, group, Trees, no_trees, tree}
-use Rattle.pq_container.specs.TreeViews.{schema_view}
 use Rattle.pq_container.specs.Types.{Converted, Logical}
-use Rattle.pq_files.specs.Room.{max_size}
-use Rattle.footer_write.specs.declared.types.ThriftFileMetaData.{ThriftFileMetaData}
-use Rattle.footer_write.specs.Room.{footer_room}
+use Rattle.pq_files.specs.FooterRecord.{FileMetaData}
+use Rattle.pq_files.specs.Room.{footer_room, max_size}
 
 -- a number of 32 bits that is not negative
 abbrev pub IsSmall : ℕ → Type 0
@@ -35,6 +33,6 @@ abbrev mutual
   TreesFit (tree t ts) = TreeFits t × TreesFit ts
 
 -- the room of the footer, and each number of its schema
-pub record FooterFits (m : ThriftFileMetaData) : Type 0 where
+pub record FooterFits (m : FileMetaData) : Type 0 where
   pub room : footer_room m ≤ max_size
-  pub numbers : TreesFit (schema_view m.schema).fields
+  pub numbers : TreesFit m.schema.fields

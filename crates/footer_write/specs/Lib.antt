@@ -1,5 +1,5 @@
 pub mod Fits
-pub mod FooterValue
+pub mod FooterView
 pub mod Parts
 pub mod Reads
 pub mod Room

@@ -1,14 +1,10 @@
 -- The footer that a reader finds in what is written: what was given, but for what is not written. That is the field ids of nodes, and the precision and scale of a group's converted type, which count as 0.
-use Rattle.std.specs.Prelude.{◌≤◌, map, Option, Some, None, option_map}
-use Rattle.pq_container.specs.Footer.{ChunkMeta, GroupMeta, Footer}
+use Rattle.std.specs.Prelude.{◌≡◌, ◌≤◌, map, Option, Some, None}
+use Rattle.pq_container.specs.Footer.{Footer}
 use Rattle.pq_container.specs.Physical.{Physical}
 use Rattle.pq_container.specs.Tree.{Schema, Tree, leaf, group, Trees, no_trees, tree}
-use Rattle.pq_container.specs.TreeViews.{schema_view, pairs_view}
 use Rattle.pq_container.specs.Types.{Converted, Info}
-use Rattle.pq_container.specs.Views.{statistics_view}
-use Rattle.footer_write.specs.declared.types.ThriftColumnChunk.{ThriftColumnChunk}
-use Rattle.footer_write.specs.declared.types.ThriftRowGroup.{ThriftRowGroup}
-use Rattle.footer_write.specs.declared.types.ThriftFileMetaData.{ThriftFileMetaData}
+use Rattle.pq_files.specs.FooterRecord.{FileMetaData, group_meta}
 
 abbrev pub without_id : Info → Info
 without_id i = record { name = i.name; repetition = i.repetition; id = None; converted = i.converted; logical = i.logical }
@@ -47,24 +43,25 @@ abbrev mutual
 
 -- ---- the footer
 
-abbrev pub schema_told : ThriftFileMetaData → Schema
-schema_told m = record { name = (schema_view m.schema).name; fields = trees_told (schema_view m.schema).fields }
+abbrev pub schema_told : Schema → Schema
+schema_told s = record { name = s.name; fields = trees_told s.fields }
 
-abbrev pub chunk_told : ThriftColumnChunk → ChunkMeta
-chunk_told c =
-    record {
-      file_path = None;
-      physical = c.meta_data.type_;
-      codec = c.meta_data.codec;
-      num_values = c.meta_data.num_values;
-      size = c.meta_data.total_compressed_size;
-      data_page = c.meta_data.data_page_offset;
-      dictionary_page = c.meta_data.dictionary_page_offset;
-      statistics = option_map statistics_view c.meta_data.statistics;
-    }
+abbrev pub footer_told : FileMetaData → Footer
+footer_told m = record { schema = schema_told m.schema; groups = map group_meta m.row_groups; keys = m.keys }
 
-abbrev pub group_told : ThriftRowGroup → GroupMeta
-group_told g = record { chunks = map chunk_told g.columns.items; num_rows = g.num_rows }
+-- ---- trees that are read as they are
 
-abbrev pub footer_told : ThriftFileMetaData → Footer
-footer_told m = record { schema = schema_told m; groups = map group_told m.row_groups.items; keys = pairs_view m.key_value_metadata }
+-- the precision and scale of a group have no fields
+abbrev pub HasNoNumbers : Option Converted → Type 0
+HasNoNumbers (Some (Converted.decimal precision scale)) = (precision ≡ 0) × (scale ≡ 0)
+HasNoNumbers _ = Unit {0}
+
+-- no node has a field id, no leaf the fixed length 0, and no group a precision or scale
+abbrev mutual
+  pub TreeIsTold : Tree → Type 0
+  TreeIsTold (leaf info p) = (info.id ≡ None) × HasLength p
+  TreeIsTold (group info ts) = (info.id ≡ None) × HasNoNumbers info.converted × AreTold ts
+
+  pub AreTold : Trees → Type 0
+  AreTold no_trees = Unit {0}
+  AreTold (tree t ts) = TreeIsTold t × AreTold ts

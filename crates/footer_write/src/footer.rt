@@ -1,11 +1,11 @@
 //! The footer as a Thrift value.
-ghost use Rattle.std.specs.Prelude.{◌≡◌, ◌<◌, ◌^◌, IfOk, map, option_map};
-ghost use Rattle.pq_thrift.specs.Value.{view};
+ghost use Rattle.std.specs.Prelude.{◌≡◌, ◌<◌, ◌^◌, IfOk, map, option_map, string_bytes};
+ghost use Rattle.pq_thrift.specs.Value.{binary, view};
 ghost use Rattle.pq_container.specs.TreeViews.{schema_view, pairs_view};
 ghost use Rattle.pq_container.specs.Views.{key_view};
-ghost use Rattle.pq_files.specs.Written.{key_value, keys_value};
+ghost use Rattle.pq_files.specs.Written.{key_value, keys_value, footer_value};
 ghost use Rattle.footer_write.specs.Fits.{TreesFit};
-ghost use Rattle.footer_write.specs.FooterValue.{text_value, footer_value};
+ghost use Rattle.footer_write.specs.FooterView.{footer_view};
 ghost use Rattle.footer_write.specs.Room.{trees_room};
 
 use crate::elements::{elements_from, orders_from};
@@ -17,7 +17,7 @@ use pq_thrift::Thrift;
 use std::alloc::{AllocError, Global};
 
 fn some_text(alloc: Global, text: &Option<String>) -> Result<Option<Thrift>, AllocError>
-    ensures { IfOk result (λ v. option_map view v ≡ option_map text_value text.now) }
+    ensures { IfOk result (λ v. option_map view v ≡ option_map binary (option_map string_bytes text.now)) }
 {
     match text {
         Some(text) => Ok(Some(text_from(alloc, text.as_str())?)),
@@ -61,7 +61,7 @@ fn pairs_from(alloc: Global, pairs: &Option<Vec<KeyValue>>) -> Result<Option<Thr
 pub fn footer_from(alloc: Global, metadata: &ThriftFileMetaData) -> Result<Thrift, AllocError>
     requires fits { TreesFit (schema_view metadata.now.schema).fields }
     requires small { trees_room (schema_view metadata.now.schema).fields < 2 ^ 31 }
-    ensures { IfOk result (λ v. view v ≡ footer_value metadata.now) }
+    ensures { IfOk result (λ v. view v ≡ footer_value (footer_view metadata.now)) }
 {
     let elements = elements_from(alloc, &metadata.schema)?;
     let groups = groups_from(alloc, &metadata.row_groups)?;

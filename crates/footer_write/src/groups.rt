@@ -1,7 +1,9 @@
 //! Row groups and their columns as Thrift values.
 ghost use Rattle.std.specs.Prelude.{◌≡◌, IfOk, map, option_map, string_bytes};
-ghost use Rattle.pq_thrift.specs.Value.{int32, view, values_of};
-ghost use Rattle.footer_write.specs.FooterValue.{text_value, statistics_value, column_value, chunk_value, group_value};
+ghost use Rattle.pq_thrift.specs.Value.{int32, binary, view, values_of};
+ghost use Rattle.pq_container.specs.Views.{statistics_view};
+ghost use Rattle.pq_files.specs.Written.{statistics_value, column_value, chunk_value, group_value};
+ghost use Rattle.footer_write.specs.FooterView.{column_view, chunk_view, row_group_view};
 
 use crate::parts::{bytes_from, i16_from, i64_from, struct_of, text_from};
 use crate::types::{ThriftColumnChunk, ThriftColumnMetaData, ThriftRowGroup};
@@ -10,7 +12,7 @@ use pq_thrift::Thrift;
 use std::alloc::{AllocError, Global};
 
 fn statistics_from(alloc: Global, statistics: &Statistics) -> Result<Thrift, AllocError>
-    ensures { IfOk result (λ v. view v ≡ statistics_value statistics.now) }
+    ensures { IfOk result (λ v. view v ≡ statistics_value (statistics_view statistics.now)) }
 {
     let max_value = bytes_from(alloc, &statistics.max_value)?;
     let min_value = bytes_from(alloc, &statistics.min_value)?;
@@ -26,7 +28,7 @@ fn some_statistics(
     alloc: Global,
     statistics: &Option<Statistics>,
 ) -> Result<Option<Thrift>, AllocError>
-    ensures { IfOk result (λ v. option_map view v ≡ option_map statistics_value statistics.now) }
+    ensures { IfOk result (λ v. option_map view v ≡ option_map statistics_value (option_map statistics_view statistics.now)) }
 {
     match statistics {
         Some(statistics) => Ok(Some(statistics_from(alloc, statistics)?)),
@@ -34,18 +36,24 @@ fn some_statistics(
     }
 }
 
+fn number_from(number: i32) -> Thrift
+    ensures { view result ≡ int32 number }
+{
+    Thrift::I32(number)
+}
+
 fn numbers_from(alloc: Global, numbers: &[i32]) -> Result<Vec<Thrift>, AllocError>
     ensures { IfOk result (λ vs. map view vs.items ≡ map int32 numbers.now) }
 {
     let mut values = Vec::with_capacity(alloc, numbers.len())?;
     for number in numbers {
-        values.push(Thrift::I32(*number))?;
+        values.push(number_from(*number))?;
     }
     Ok(values)
 }
 
 fn texts_from(alloc: Global, texts: &[String]) -> Result<Vec<Thrift>, AllocError>
-    ensures { IfOk result (λ vs. map view vs.items ≡ map text_value texts.now) }
+    ensures { IfOk result (λ vs. map view vs.items ≡ map binary (map string_bytes texts.now)) }
 {
     let mut values = Vec::with_capacity(alloc, texts.len())?;
     for text in texts {
@@ -55,7 +63,7 @@ fn texts_from(alloc: Global, texts: &[String]) -> Result<Vec<Thrift>, AllocError
 }
 
 fn column_from(alloc: Global, column: &ThriftColumnMetaData) -> Result<Thrift, AllocError>
-    ensures { IfOk result (λ v. view v ≡ column_value column.now) }
+    ensures { IfOk result (λ v. view v ≡ column_value (column_view column.now)) }
 {
     let encodings = numbers_from(alloc, &column.encodings)?;
     let path = texts_from(alloc, &column.path_in_schema)?;
@@ -76,7 +84,7 @@ fn column_from(alloc: Global, column: &ThriftColumnMetaData) -> Result<Thrift, A
 }
 
 fn chunk_from(alloc: Global, chunk: &ThriftColumnChunk) -> Result<Thrift, AllocError>
-    ensures { IfOk result (λ v. view v ≡ chunk_value chunk.now) }
+    ensures { IfOk result (λ v. view v ≡ chunk_value (chunk_view chunk.now)) }
 {
     let column = column_from(alloc, &chunk.meta_data)?;
     let fields = vec![in alloc; (2, Thrift::I64(chunk.file_offset)), (3, column)]?;
@@ -84,7 +92,7 @@ fn chunk_from(alloc: Global, chunk: &ThriftColumnChunk) -> Result<Thrift, AllocE
 }
 
 fn chunks_from(alloc: Global, chunks: &[ThriftColumnChunk]) -> Result<Vec<Thrift>, AllocError>
-    ensures { IfOk result (λ vs. map view vs.items ≡ map chunk_value chunks.now) }
+    ensures { IfOk result (λ vs. map view vs.items ≡ map chunk_value (map chunk_view chunks.now)) }
 {
     let mut values = Vec::with_capacity(alloc, chunks.len())?;
     for chunk in chunks {
@@ -94,7 +102,7 @@ fn chunks_from(alloc: Global, chunks: &[ThriftColumnChunk]) -> Result<Vec<Thrift
 }
 
 fn group_from(alloc: Global, group: &ThriftRowGroup) -> Result<Thrift, AllocError>
-    ensures { IfOk result (λ v. view v ≡ group_value group.now) }
+    ensures { IfOk result (λ v. view v ≡ group_value (row_group_view group.now)) }
 {
     let chunks = chunks_from(alloc, &group.columns)?;
     let parts = vec![in alloc;
@@ -110,7 +118,7 @@ fn group_from(alloc: Global, group: &ThriftRowGroup) -> Result<Thrift, AllocErro
 
 /// The row groups as structs, one by one.
 pub fn groups_from(alloc: Global, groups: &[ThriftRowGroup]) -> Result<Vec<Thrift>, AllocError>
-    ensures { IfOk result (λ vs. map view vs.items ≡ map group_value groups.now) }
+    ensures { IfOk result (λ vs. map view vs.items ≡ map group_value (map row_group_view groups.now)) }
 {
     let mut values = Vec::with_capacity(alloc, groups.len())?;
     for group in groups {

@@ -1,8 +1,8 @@
 //! Structs whose fields may be absent.
 ghost use Rattle.std.specs.Prelude.{◌≡◌, ◌++◌, OnOk, IfOk, map, option_map};
 ghost use Rattle.pq_thrift.specs.Value.{struct, binary, int16, int64, view, field_view};
+ghost use Rattle.pq_container.specs.Views.{bytes_view};
 ghost use Rattle.footer_write.specs.Parts.{part_view, present, one_part};
-ghost use Rattle.footer_write.specs.FooterValue.{bytes_value};
 
 use pq_thrift::Thrift;
 use std::alloc::{AllocError, Global};
@@ -44,7 +44,7 @@ pub fn text_from(alloc: Global, text: &str) -> Result<Thrift, AllocError>
 
 /// Bytes, if there are some.
 pub fn bytes_from(alloc: Global, bytes: &Option<Vec<u8>>) -> Result<Option<Thrift>, AllocError>
-    ensures { IfOk result (λ v. option_map view v ≡ option_map bytes_value bytes.now) }
+    ensures { IfOk result (λ v. option_map view v ≡ option_map binary (option_map bytes_view bytes.now)) }
 {
     match bytes {
         Some(bytes) => Ok(Some(Thrift::Binary(Vec::from_slice(alloc, bytes)?))),

@@ -1,9 +1,10 @@
 //! How many bytes a footer may take, spent from what is left of a limit.
 ghost use Rattle.std.specs.Prelude.{◌≡◌, ◌<◌, ◌+◌, length, sum_by, map, option_map, string_bytes, MatchOption};
 ghost use Rattle.pq_container.specs.TreeViews.{tree_view, trees_view, schema_view, pairs_view};
-ghost use Rattle.pq_container.specs.Views.{bytes_view, key_view};
-ghost use Rattle.pq_files.specs.Room.{bytes_of, key_room, are_same, schema_key};
-ghost use Rattle.footer_write.specs.Room.{bounds_room, name_room, chunk_room, group_room, walked_room, tree_room, trees_room};
+ghost use Rattle.pq_container.specs.Views.{bytes_view, key_view, statistics_view};
+ghost use Rattle.pq_files.specs.Room.{bytes_of, key_room, are_same, schema_key, bounds_room, name_room, chunk_room, group_room};
+ghost use Rattle.footer_write.specs.FooterView.{chunk_view, row_group_view, footer_view};
+ghost use Rattle.footer_write.specs.Room.{walked_room, tree_room, trees_room};
 
 use crate::types::{ThriftColumnChunk, ThriftFileMetaData, ThriftRowGroup};
 use pq_container::{FieldInfo, KeyValue, ParquetType, Statistics};
@@ -110,13 +111,13 @@ fn spend_pairs(left: usize, pairs: &Option<Vec<KeyValue>>) -> Option<usize>
 }
 
 fn spend_name(left: usize, name: &String) -> Option<usize>
-    ensures { MatchOption result (left < name_room name.now) (λ rest. rest + name_room name.now ≡ left) }
+    ensures { MatchOption result (left < name_room (string_bytes name.now)) (λ rest. rest + name_room (string_bytes name.now) ≡ left) }
 {
     spend(spend(left, 8)?, name.len())
 }
 
 fn spend_path(left: usize, path: &[String]) -> Option<usize>
-    ensures { MatchOption result (left < sum_by name_room path.now) (λ rest. rest + sum_by name_room path.now ≡ left) }
+    ensures { MatchOption result (left < sum_by name_room (map string_bytes path.now)) (λ rest. rest + sum_by name_room (map string_bytes path.now) ≡ left) }
 {
     let mut rest = left;
     for name in path {
@@ -126,7 +127,7 @@ fn spend_path(left: usize, path: &[String]) -> Option<usize>
 }
 
 fn spend_bounds(left: usize, statistics: &Option<Statistics>) -> Option<usize>
-    ensures { MatchOption result (left < bounds_room statistics.now) (λ rest. rest + bounds_room statistics.now ≡ left) }
+    ensures { MatchOption result (left < bounds_room (option_map statistics_view statistics.now)) (λ rest. rest + bounds_room (option_map statistics_view statistics.now) ≡ left) }
 {
     let Some(statistics) = statistics else {
         return Some(left);
@@ -136,7 +137,7 @@ fn spend_bounds(left: usize, statistics: &Option<Statistics>) -> Option<usize>
 }
 
 fn spend_chunk(left: usize, chunk: &ThriftColumnChunk) -> Option<usize>
-    ensures { MatchOption result (left < chunk_room chunk.now) (λ rest. rest + chunk_room chunk.now ≡ left) }
+    ensures { MatchOption result (left < chunk_room (chunk_view chunk.now)) (λ rest. rest + chunk_room (chunk_view chunk.now) ≡ left) }
 {
     let left = spend(left, 256)?;
     let left = spend_path(left, &chunk.meta_data.path_in_schema)?;
@@ -144,7 +145,7 @@ fn spend_chunk(left: usize, chunk: &ThriftColumnChunk) -> Option<usize>
 }
 
 fn spend_chunks(left: usize, chunks: &[ThriftColumnChunk]) -> Option<usize>
-    ensures { MatchOption result (left < sum_by chunk_room chunks.now) (λ rest. rest + sum_by chunk_room chunks.now ≡ left) }
+    ensures { MatchOption result (left < sum_by chunk_room (map chunk_view chunks.now)) (λ rest. rest + sum_by chunk_room (map chunk_view chunks.now) ≡ left) }
 {
     let mut rest = left;
     for chunk in chunks {
@@ -154,14 +155,14 @@ fn spend_chunks(left: usize, chunks: &[ThriftColumnChunk]) -> Option<usize>
 }
 
 fn spend_group(left: usize, group: &ThriftRowGroup) -> Option<usize>
-    ensures { MatchOption result (left < group_room group.now) (λ rest. rest + group_room group.now ≡ left) }
+    ensures { MatchOption result (left < group_room (row_group_view group.now)) (λ rest. rest + group_room (row_group_view group.now) ≡ left) }
 {
     let left = spend(left, 64)?;
     spend_chunks(left, &group.columns)
 }
 
 fn spend_groups(left: usize, groups: &[ThriftRowGroup]) -> Option<usize>
-    ensures { MatchOption result (left < sum_by group_room groups.now) (λ rest. rest + sum_by group_room groups.now ≡ left) }
+    ensures { MatchOption result (left < sum_by group_room (map row_group_view groups.now)) (λ rest. rest + sum_by group_room (map row_group_view groups.now) ≡ left) }
 {
     let mut rest = left;
     for group in groups {
@@ -172,7 +173,7 @@ fn spend_groups(left: usize, groups: &[ThriftRowGroup]) -> Option<usize>
 
 /// What is left of the bytes after the room of a footer. None where that passes them.
 pub fn spend_footer(left: usize, metadata: &ThriftFileMetaData) -> Option<usize>
-    ensures { MatchOption result (left < walked_room metadata.now) (λ rest. rest + walked_room metadata.now ≡ left) }
+    ensures { MatchOption result (left < walked_room (footer_view metadata.now)) (λ rest. rest + walked_room (footer_view metadata.now) ≡ left) }
 {
     let left = spend(left, 4_224)?;
     let left = spend(left, metadata.schema.name().len())?;

@@ -3,8 +3,9 @@ ghost use Rattle.std.specs.Prelude.{◌≡◌, ◌⊎◌, ◌↔◌, ◌++◌, I
 ghost use Rattle.columns_base.specs.declared.error.Error.TheVariants.{Memory, Overflow};
 ghost use Rattle.columns_base.specs.declared.error.V.TheVariants.{V3};
 ghost use Rattle.pq_thrift.specs.Spelling.{spell};
+ghost use Rattle.pq_files.specs.Written.{footer_value};
 ghost use Rattle.footer_write.specs.Fits.{FooterFits};
-ghost use Rattle.footer_write.specs.FooterValue.{footer_value};
+ghost use Rattle.footer_write.specs.FooterView.{footer_view};
 ghost use Rattle.footer_write.specs.Written.{AppendsFooter};
 
 use crate::footer::footer_from;
@@ -28,7 +29,7 @@ fn know_name(schema: &SchemaDescriptor)
 /// Whether the footer's room and the numbers of its schema pass no field.
 #[tactic(auto, using(crate::proofs::Rooms::room_is))]
 fn footer_fits(metadata: &ThriftFileMetaData) -> bool
-    ensures { IsTrue result ↔ FooterFits metadata.now }
+    ensures { IsTrue result ↔ FooterFits (footer_view metadata.now) }
 {
     spend_footer(MAX_SIZE, metadata).is_some() && numbers_fit(&metadata.schema)
 }
@@ -48,12 +49,12 @@ fn footer_fits(metadata: &ThriftFileMetaData) -> bool
 /// - `Memory`: memory ran out. `out` is as before.
 #[tactic(auto, using(crate::proofs::Rooms::room_is))]
 pub fn write_metadata(metadata: &ThriftFileMetaData, out: &mut Vec<u8>) -> Result<()>
-    ensures ok { OnOk result (AppendsFooter metadata.now out.old.items out.new.items) }
+    ensures ok { OnOk result (AppendsFooter (footer_view metadata.now) out.old.items out.new.items) }
     // Which spelling it is: varints have no padding, and ids are steps.
-    ensures exact { OnOk result (out.new.items ≡ out.old.items ++ spell (footer_value metadata.now)) }
-    ensures fits { OnOk result (FooterFits metadata.now) }
-    ensures passed { (¬ FooterFits metadata.now) → result ≡ Err (Overflow V3) }
-    ensures refused { IfErr result (λ e. (e ≡ Memory) ⊎ ((e ≡ Overflow V3) × (¬ FooterFits metadata.now))) }
+    ensures exact { OnOk result (out.new.items ≡ out.old.items ++ spell (footer_value (footer_view metadata.now))) }
+    ensures fits { OnOk result (FooterFits (footer_view metadata.now)) }
+    ensures passed { (¬ FooterFits (footer_view metadata.now)) → result ≡ Err (Overflow V3) }
+    ensures refused { IfErr result (λ e. (e ≡ Memory) ⊎ ((e ≡ Overflow V3) × (¬ FooterFits (footer_view metadata.now)))) }
     ensures err { OnErr result (out.new.items ≡ out.old.items) }
 {
     if !footer_fits(metadata) {

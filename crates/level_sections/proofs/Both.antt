@@ -20,7 +20,7 @@ use Rattle.level_sections.proofs.Within.{width-most, width-repetition}
 times : (w m n : ℕ) → w ≤ m → w * n ≤ m * n
 times w m n h = grind (arith, mul-le-mul_right)
 
-in_room : (w v a b n : ℕ) → w ≤ 7 → v ≤ 8 → 504 * a ≤ (63 * w + 1) * n + 6048 → 504 * b ≤ (63 * v + 1) * n + 6048 → a + b ≤ level_room n
+in_room : (w v a b n : ℕ) → w ≤ 7 → v ≤ 8 → 504 * a ≤ (63 * w + 1) * n + 441 * w + 2520 → 504 * b ≤ (63 * v + 1) * n + 441 * v + 2520 → a + b ≤ level_room n
 in_room w v a b n hw hv ha hb =
     let x : (63 * w + 1) * n ≤ 442 * n = times (63 * w + 1) 442 n (omega (arith, hw)) in
     let y : (63 * v + 1) * n ≤ 505 * n = times (63 * v + 1) 505 n (omega (arith, hv)) in

@@ -9,8 +9,8 @@ use Rattle.pq_files.specs.Levels.{IsBehindLength}
 use Rattle.pq_files.specs.Packed.{AreLevels}
 use Rattle.pq_numbers.specs.Bits.{IsWidth}
 use Rattle.pq_numbers.specs.Texts.{number_of}
-use Rattle.pq_runs.specs.Runs.{Runs, no_bits}
-use Rattle.level_runs.specs.Writing.{AppendsRuns}
+use Rattle.pq_runs.specs.Writing.{AppendsRuns}
+use Rattle.pq_runs.specs.WrittenRuns.{WrittenRuns, no_bits}
 use Rattle.level_sections.specs.Sections.{Stands, AppendsOne}
 
 -- ---- four bytes
@@ -55,7 +55,7 @@ one_none version zero before levels e h = record {
             record {
               width = 0;
               is_width = record { holds = omega arith; least = λ v lt. omega arith };
-              runs = subst (λ (ys : List ℕ). Runs 0 [] ys) (sym (zeros levels h)) (no_bits (length levels) refl);
+              runs = subst (λ (ys : List ℕ). WrittenRuns 0 [] ys) (sym (zeros levels h)) (no_bits (length levels) refl);
               within = h;
               none = λ z. refl;
             };
@@ -68,7 +68,7 @@ one_none version (suc max) before levels e h = absurd (omega (arith, e))
 
 -- ---- a section alone
 
-abbrev are_levels : (max width : ℕ) (text levels : List ℕ) → 0 < max → IsWidth max width → All (λ v. v ≤ max) levels → Runs width text levels → AreLevels max text levels
+abbrev are_levels : (max width : ℕ) (text levels : List ℕ) → 0 < max → IsWidth max width → All (λ v. v ≤ max) levels → WrittenRuns width text levels → AreLevels max text levels
 are_levels max width text levels some w h r = record { width = width; is_width = w; runs = r; within = h; none = λ z. absurd (omega (arith, some, z)) }
 
 pub one_alone : (max width size : ℕ) (before after levels : List ℕ) → 0 < max → IsWidth max width → All (λ v. v ≤ max) levels → AppendsRuns width before after levels → size ≡ length after - length before → AppendsOne V2 max before after levels size
@@ -77,7 +77,7 @@ one_alone max width size before after levels some w h r e =
     record {
       text = r.text;
       parts = r.parts;
-      holds = record { section = r.text; stands = refl; are = are_levels max width r.text levels some w h r.runs; short = omega (arith, r.short) };
+      holds = record { section = r.text; stands = refl; are = are_levels max width r.text levels some w h r.runs; short = r.short };
       size_is = omega (arith, e, n);
       tight = omega (arith, r.size);
     }
@@ -104,7 +104,7 @@ one_behind max width size before mid after new levels four head some w h m n4 r 
     record {
       text = head ++ r.text;
       parts = is;
-      holds = record { section = r.text; stands = λ rest. behind_some max head r.text rest h4 long some; are = are_levels max width r.text levels some w h r.runs; short = omega (arith, r.short, length-append head r.text, h4) };
+      holds = record { section = r.text; stands = λ rest. behind_some max head r.text rest h4 long some; are = are_levels max width r.text levels some w h r.runs; short = r.short };
       size_is = omega (arith, e, n, length-append head r.text, h4);
       tight = omega (arith, r.size, length-append head r.text, h4);
     }

@@ -5,7 +5,7 @@ use Rattle.shredding.specs.Parts.{Part, slot_count}
 use Rattle.levels.specs.Levels.{run, slot_pairs, path_pairs}
 use Rattle.levels.specs.Stretch.{like_pairs}
 use Rattle.levels.proofs.Runs.{run-split}
-use Rattle.level_runs.specs.Writing.{Keeps, Waiting}
+use Rattle.pq_runs.specs.Writing.{Keeps, Waiting}
 use Rattle.levels.specs.declared.walk.Level.{Level}
 use Rattle.levels.specs.declared.walk.Level.TheVariants.{Repetition, Definition}
 use Rattle.level_sections.specs.declared.walk.Above.{Above}

@@ -1,7 +1,8 @@
 pub mod Sections
 pub mod Walk
-pub use Rattle.level_runs.specs.Writing
 pub use Rattle.pq_runs.specs.Stretches
+pub use Rattle.pq_runs.specs.Writing
+pub use Rattle.pq_runs.specs.WrittenRuns
 pub use Rattle.levels.specs.Nested
 pub use Rattle.levels.specs.Stretch
 pub use Rattle.shredding.specs.Parts

@@ -1,5 +1,5 @@
 -- The level sections of a data page (Parquet format, "Data Pages" and "Nested Encoding").
-use Rattle.std.specs.Prelude.{◌≡◌, ℕ, ◌+◌, ◌*◌, ◌/◌, ◌^◌, ◌≤◌, Bool, Option, Some, None, List, [], ◌∷◌, ◌++◌, length, map}
+use Rattle.std.specs.Prelude.{◌≡◌, ℕ, ◌+◌, ◌*◌, ◌≤◌, Bool, Option, Some, None, List, [], ◌∷◌, ◌++◌, length, map}
 use Rattle.std.proofs.Common.{Bor}
 use Rattle.shredding.specs.Parts.{Part, leaf_part, path_slots}
 use Rattle.shredding.specs.Slot.{Value, value}
@@ -14,20 +14,19 @@ use Rattle.pq_container.specs.declared.version.Version.TheVariants.{V1, V2}
 use Rattle.pq_files.specs.Levels.{IsBehindLength}
 use Rattle.pq_files.specs.Packed.{AreLevels}
 use Rattle.pq_files.specs.Room.{level_room}
-use Rattle.pq_runs.specs.Stretches.{stretches}
+use Rattle.pq_runs.specs.Stretches.{IsShort}
 
 -- where the section stands: in version 1 behind its length, in version 2 alone
 abbrev pub Stands : Version → ℕ → List ℕ → List ℕ → Type 0
 Stands V1 max text section = (rest : List ℕ) → IsBehindLength max (text ++ rest) section rest
 Stands V2 max text section = text ≡ section
 
--- The text is a section of these levels and no other byte. It takes at most 2 w + 19 bytes for each stretch of equal levels, which have w bits
--- (one of more than 2^40 counts as several), and 12 bytes.
+-- The text is a section of these levels and no other byte. The section repeats equal levels.
 pub record HoldsLevels (version : Version) (max : ℕ) (text levels : List ℕ) : Type 0 where
   pub section : List ℕ
   pub stands : Stands version max text section
   pub are : AreLevels max section levels
-  pub short : length text ≤ (2 * are.width + 19) * (stretches levels + length levels / 2 ^ 40) + 12
+  pub short : IsShort are.width section levels
 
 -- what is appended is a section of these levels
 pub record AppendsLevels (version : Version) (max : ℕ) (before after levels : List ℕ) : Type 0 where
@@ -52,7 +51,7 @@ pub record AppendsOne (version : Version) (max : ℕ) (before after levels : Lis
   pub parts : after ≡ before ++ text
   pub holds : HoldsLevels version max text levels
   pub size_is : size ≡ length text
-  pub tight : 504 * length text ≤ (63 * holds.are.width + 1) * length levels + 6048
+  pub tight : 504 * length text ≤ (63 * holds.are.width + 1) * length levels + 441 * holds.are.width + 2520
 
 -- both sections of a path
 pub record AppendsBoth (version : Version) (parts : List Part) (before after : List ℕ) (repetition definition : ℕ) : Type 0 where

@@ -9,6 +9,3 @@ mod walk;
 
 pub use flat::write_def_levels;
 pub use sections::write_rep_and_def;
-
-#[cfg(test)]
-mod tests;

@@ -4,8 +4,7 @@ ghost use Rattle.shredding.specs.Parts.{IsPath};
 ghost use Rattle.levels.specs.Nested.{parts_of};
 ghost use Rattle.levels.specs.Levels.{path_pairs};
 ghost use Rattle.pq_numbers.specs.Bits.{IsWidth};
-ghost use Rattle.pq_runs.specs.Writing.{Extends};
-ghost use Rattle.level_runs.specs.Writing.{AppendsRuns};
+ghost use Rattle.pq_runs.specs.Writing.{Extends, AppendsRuns};
 ghost use Rattle.levels.specs.Stretch.{level_of};
 ghost use Rattle.level_sections.specs.Walk.{greatest};
 ghost use Rattle.level_sections.specs.Sections.{AppendsOne};
@@ -13,10 +12,9 @@ ghost use Rattle.pq_container.specs.declared.version.Version.TheVariants.{V1, V2
 
 use crate::prefix::put_number;
 use crate::walk::{Above, walk};
-use level_runs::RunWriter;
 use levels::{Level, Nested, max_def_level, max_rep_level, slot_count};
 use pq_container::Version;
-use pq_runs::get_bit_width;
+use pq_runs::{RunWriter, get_bit_width};
 use std::alloc::AllocError;
 
 // The greatest level of a path.

@@ -40,9 +40,9 @@ fn push_both(
 /// gives their lengths, the four bytes in front of each in version 1 included. A level whose maximum is 0 has no section.
 ///
 /// The levels are those of the column of the slots that the path stands for (Dremel paper, "Nested columnar storage"; Parquet format,
-/// "Data Pages", "Nested Encoding"). The path is well formed and has at most 128 parts. A section of levels of `w` bits
-/// takes at most `2 * w + 19` bytes for each stretch of up to `2^40` equal ones and 12 bytes, so long repetitions are repeated runs (Encodings,
-/// "Run Length Encoding / Bit-Packing Hybrid").
+/// "Data Pages", "Nested Encoding"). The path is well formed and has at most 128 parts. The runs of levels
+/// of `w` bits are whole groups, the last filled up with zeros, in at most `2 * w + 19` bytes for each stretch of up to `2^40` equal levels and one
+/// byte, so long repetitions are repeated runs (Encodings, "Run Length Encoding / Bit-Packing Hybrid").
 ///
 /// # Errors
 ///

@@ -3,13 +3,12 @@ ghost use Rattle.std.specs.Prelude.{◌≡◌, ℕ, ◌+◌, ◌-◌, ◌*◌, �
 ghost use Rattle.shredding.specs.Parts.{IsPath, slot_count, path_way};
 ghost use Rattle.shredding.specs.Shred.{max_repetition, max_definition};
 ghost use Rattle.levels.specs.Nested.{parts_of};
-ghost use Rattle.pq_runs.specs.Writing.{Extends};
-ghost use Rattle.level_runs.specs.Writing.{Keeps};
+ghost use Rattle.pq_runs.specs.Writing.{Extends, Keeps};
 ghost use Rattle.levels.specs.Stretch.{level_of, like_pairs};
 ghost use Rattle.level_sections.specs.Walk.{walked, IsLow, Holds};
 
-use level_runs::RunWriter;
 use levels::{Level, Nested, Stretch, stretch_at};
+use pq_runs::RunWriter;
 use std::alloc::AllocError;
 
 // What lies above slots: the repetition level of the first one, and how many definition levels and lists are there.
@@ -38,10 +37,10 @@ fn push_pairs(
     ensures kept { Extends out.old.items out.new.items }
 {
     match level {
-        Level::Definition => writer.push(out, above.def as u8, count),
+        Level::Definition => writer.push(out, above.def, count),
         Level::Repetition => {
-            writer.push(out, above.rep as u8, 1)?;
-            writer.push(out, above.depth as u8, count - 1)
+            writer.push(out, above.rep, 1)?;
+            writer.push(out, above.depth, count - 1)
         }
     }
 }

@@ -22,6 +22,3 @@ pub use nested::{ListNested, Nested, max_def_level, max_rep_level, slot_count};
 pub use ranges::{get_max_length, leaf_len, slice_nested_leaf};
 pub use walk::{Level, Stretch, stretch_at};
 pub use well_formed::is_well_formed;
-
-#[cfg(test)]
-mod tests;

@@ -36,14 +36,7 @@ fn alike_end(mask: &Bitmap, there: bool, from: usize, to: usize) -> usize
     ensures within { result ≤ to }
     ensures alike { AreAlike (λ i. slice_index_or mask.now i false) there from result }
 {
-    let mut end = from;
-    while end < to {
-        if mask.get_bit(end) != there {
-            break;
-        }
-        end += 1;
-    }
-    end
+    mask.run_end(from, to, there)
 }
 
 // Whether the slot at a place is there, and where those end that are like it.

@@ -7,3 +7,6 @@ pub mod Widths
 pub mod Worked
 pub mod Levels
 pub mod CutLeaves
+mod Merged
+mod Values
+mod Lasts

@@ -9,7 +9,7 @@ use Rattle.shredding.specs.Slot.{Slot, null, value, items, fields, Slots, no_slo
 use Rattle.shredding.proofs.Along.{list_of-slots_of, seen_along}
 use Rattle.columns_base.specs.declared.error.Error.{Error}
 use Rattle.columns_slots.specs.Tree.{Mask, ArrayTree, null_array, leaf_array, list_array, fixed_list_array, struct_array, dictionary_array, ArrayTrees, no_arrays, more_arrays}
-use Rattle.columns_slots.specs.Slots.{slot_at, slots_at, slots, tree_len, first_len, count_arrays, masked, IsPlaces, IsSound, AreSound}
+use Rattle.columns_slots.specs.Slots.{slot_at, slots_at, slots, tree_len, first_len, count_arrays, mask_of, masked, IsPlaces, IsSound, AreSound}
 use Rattle.columns_slots.proofs.Made.{places_last}
 use Rattle.columns_slots.proofs.Sound.{some_place}
 use Rattle.columns_slots.proofs.Rows.{slots_counted}
@@ -19,6 +19,7 @@ use Rattle.pq_container.specs.Tree.{Tree, Trees, no_trees, tree}
 use Rattle.nested_paths.specs.Laws.{PathsAreSeen}
 use Rattle.nested_paths.specs.Leaves.{array_leaves, leaves_in}
 use Rattle.nested_paths.specs.Nodes.{given, is_optional, item_node, field_nodes}
+use Rattle.nested_paths.specs.PathLeaf.{leaf_mask, is_leaf_optional}
 use Rattle.nested_paths.specs.Paths.{first_of_two, differs, counted, misfit, misfits, paths, paths_in, below}
 use Rattle.nested_paths.specs.Seen.{read_by, read_all, leaf_shape, shape_by, shapes_by, leaf_slot, IsSeen, AreSeen}
 use Rattle.nested_paths.proofs.Sides.{All3, map_two, map_one, join}
@@ -29,6 +30,7 @@ pub record IsSeenAt (len : ℕ) (at : ℕ → Slot) (w : Way) (parts : List Part
   pub within : AreWithin parts
   pub count : slot_count parts ≡ len
   pub leaf_count : (n : ℕ) → leaf_count_or n parts ≡ tree_len last
+  pub masks : is_leaf_optional parts ≡ true → (i : ℕ) → i < tree_len last → keeps (leaf_mask parts) i ≡ keeps (mask_of last) i
   pub way : path_way parts ≡ thin w
   pub slot : (i : ℕ) → bounded_slot (leaf_slot last) parts i ≡ along w (at i)
 
@@ -80,6 +82,7 @@ under_list b os m n f places fits w parts last h =
       within = ((fits_too m (length os - 1) fits, omega (arith, last_within os n places, h.count), h.some), h.within);
       count = refl;
       leaf_count = h.leaf_count;
+      masks = h.masks;
       way = ap (in_list b) h.way;
       slot = λ i. items_seen b w (bounded_slot (leaf_slot last) parts) f (get_or os i 0) (get_or os (i + 1) 0 - get_or os i 0) _ _ h.slot (sym (kept b m i));
     }
@@ -101,6 +104,7 @@ under_struct b m n at fits p parts last h =
       within = ((fits_too m n fits, h.count, h.some), h.within);
       count = refl;
       leaf_count = h.leaf_count;
+      masks = h.masks;
       way = ap (in_struct b zero) h.way;
       slot = λ i. rw (kept b m i) (field_slot b (is_present b m i) p.0 p.1 (at i) (bounded_slot (leaf_slot last) parts i) (h.slot i));
     }
@@ -131,15 +135,16 @@ unfolding along
 null_seen b true = refl
 null_seen b false = refl
 
-one_leaf : (b : Bool) (m : Mask) (n : ℕ) (at : ℕ → Slot) (last : ArrayTree) → tree_len last ≡ n → MaskFits m n → ((i : ℕ) → cond (is_present b m i) (leaf_slot last i) null ≡ along (at_leaf b) (at i))
+one_leaf : (b : Bool) (m : Mask) (n : ℕ) (at : ℕ → Slot) (last : ArrayTree) → tree_len last ≡ n → m ≡ mask_of last → MaskFits m n → ((i : ℕ) → cond (is_present b m i) (leaf_slot last i) null ≡ along (at_leaf b) (at i))
     → IsSeenAt n at (at_leaf b) (leaf_part b m n ∷ []) last
 unfolding bounded_slot
-one_leaf b m n at last len fits e =
+one_leaf b m n at last len same fits e =
     record {
       some = omega arith;
       within = ((fits_too m n fits, refl), tt);
       count = refl;
       leaf_count = λ k. sym len;
+      masks = λ o i l. ap (λ k. keeps k i) same;
       way = refl;
       slot = e;
     }
@@ -180,12 +185,12 @@ struct_paths b t cs m (Some nodes) fits e next =
 first_field : (n : ℕ) (c : ArrayTree) (cs : ArrayTrees) (node : Tree) (nodes : Trees) → tree_len c ≡ n → (w : Way) (parts : List Part) (last : ArrayTree)
     → IsSeenAt (tree_len c) (slot_at (read_by c node)) w parts last → IsSeenAt n (λ i. S.slot_at (slots_at (read_all (more_arrays c cs) (tree node nodes)) i) 0) w parts last
 first_field n c cs node nodes len w parts last h =
-    record { some = h.some; within = h.within; count = h.count ∙ len; leaf_count = h.leaf_count; way = h.way; slot = h.slot }
+    record { some = h.some; within = h.within; count = h.count ∙ len; leaf_count = h.leaf_count; masks = h.masks; way = h.way; slot = h.slot }
 
 other_fields : (n : ℕ) (c : ArrayTree) (cs : ArrayTrees) (node : Tree) (nodes : Trees) → (p : ℕ × Way) (parts : List Part) (last : ArrayTree)
     → IsSeenAt n (λ i. S.slot_at (slots_at (read_all cs nodes) i) p.0) p.1 parts last → IsSeenAt n (λ i. S.slot_at (slots_at (read_all (more_arrays c cs) (tree node nodes)) i) (suc p.0)) p.1 parts last
 other_fields n c cs node nodes p parts last h =
-    record { some = h.some; within = h.within; count = h.count; leaf_count = h.leaf_count; way = h.way; slot = h.slot }
+    record { some = h.some; within = h.within; count = h.count; leaf_count = h.leaf_count; masks = h.masks; way = h.way; slot = h.slot }
 
 len_given : (cs : ArrayTrees) (o : Option Trees) → ((nodes : Trees) → first_len (read_all cs nodes) ≡ first_len cs) → first_len (given cs (read_all cs) o) ≡ first_len cs
 len_given cs None h = refl
@@ -193,16 +198,16 @@ len_given cs (Some nodes) h = h nodes
 
 mutual
   pub seen : (a : ArrayTree) (node : Tree) → IsSound a → misfit a node ≡ None → All3 (IsSeenAt (tree_len a) (slot_at (read_by a node))) (ways (shape_by a node)) (paths a node) (array_leaves a)
-  seen (null_array t n) node s e = (one_leaf (is_optional node) None n _ (null_array t n) refl tt (λ i. null_seen (is_optional node) (is_present (is_optional node) None i)), tt)
+  seen (null_array t n) node s e = (one_leaf (is_optional node) None n _ (null_array t n) refl refl tt (λ i. null_seen (is_optional node) (is_present (is_optional node) None i)), tt)
   seen (leaf_array t vs m) node s e =
-      (one_leaf (is_optional node) m (length vs) _ (leaf_array t vs m) refl s.0 (λ i. rw (kept (is_optional node) m i) (value_seen (is_optional node) (is_present (is_optional node) m i) _)), tt)
+      (one_leaf (is_optional node) m (length vs) _ (leaf_array t vs m) refl refl s.0 (λ i. rw (kept (is_optional node) m i) (value_seen (is_optional node) (is_present (is_optional node) m i) _)), tt)
   seen (list_array t os c m) node s e =
       list_paths (is_optional node) t os c m node (item_node node) s.0 s.1 e (λ item k. seen c item s.2 k)
   seen (fixed_list_array t w n c m) node s e = absurd (cc)
   seen (struct_array t cs m) node s e =
       struct_paths (is_optional node) t cs m (field_nodes node) s.1 e (λ nodes k. seen_all (first_len cs) cs nodes s.0 k)
   seen (dictionary_array t ks c m) node s e =
-      (one_leaf (is_optional node) m (length ks) _ (dictionary_array t ks c m) refl s.0 (λ i. rw (kept (is_optional node) m i) (entry_seen (is_optional node) (is_present (is_optional node) m i) _)), tt)
+      (one_leaf (is_optional node) m (length ks) _ (dictionary_array t ks c m) refl refl s.0 (λ i. rw (kept (is_optional node) m i) (entry_seen (is_optional node) (is_present (is_optional node) m i) _)), tt)
 
   seen_all : (n : ℕ) (cs : ArrayTrees) (nodes : Trees) → AreSound n cs → misfits cs nodes ≡ None
       → All3 (λ p. IsSeenAt n (λ i. S.slot_at (slots_at (read_all cs nodes) i) p.0) p.1) (ways_of (shapes_by cs nodes)) (paths_in cs nodes) (leaves_in cs)
@@ -238,7 +243,7 @@ seen_rows n u w parts last len h =
     record {
       in_bounds = record { some = h.some; fits = h.within };
       count = h.count ∙ sym (slots_counted u ∙ len);
-      leaf_count = h.leaf_count 0;
+      leaf = record { count = h.leaf_count 0; masks = h.masks };
       way = h.way;
       slots = all;
       column = rw (h.way, all) (seen_along w (slots u));

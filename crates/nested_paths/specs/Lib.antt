@@ -5,6 +5,9 @@ pub mod Nodes
 pub mod Paths
 pub mod Kinds
 pub mod Taken
+pub mod PathLeaf
 pub mod Seen
 pub mod Levels
 pub mod Laws
+pub mod LeafNulls
+pub mod ValueMasks

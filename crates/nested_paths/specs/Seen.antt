@@ -7,11 +7,11 @@ use Rattle.shredding.specs.Shred.{column}
 use Rattle.shredding.specs.Slot.{Slot, null, value}
 use Rattle.columns_core.specs.Shapes.{leaf_type}
 use Rattle.columns_slots.specs.Tree.{Mask, ArrayTree, null_array, leaf_array, list_array, fixed_list_array, struct_array, dictionary_array, ArrayTrees, no_arrays, more_arrays}
-use Rattle.columns_slots.specs.Slots.{slot_at, leaf_at, entry_at, tree_len, type_of}
+use Rattle.columns_slots.specs.Slots.{slot_at, leaf_at, entry_at, type_of}
 use Rattle.levels.specs.InBounds.{IsInBounds, bounded_slots}
-use Rattle.levels.specs.Ranges.{leaf_count_or}
 use Rattle.pq_container.specs.Tree.{Tree, Trees, no_trees, tree}
 use Rattle.nested_paths.specs.Nodes.{given, is_optional, item_node, field_nodes}
+use Rattle.nested_paths.specs.PathLeaf.{FitsLeaf}
 
 -- ---- an array as a tree of columns reads it
 
@@ -68,7 +68,8 @@ leaf_slot (dictionary_array t ks c m) i = along (at_leaf true) (slot_at c (entry
 pub record IsSeen (rows : List Slot) (w : Way) (parts : List Part) (last : ArrayTree) : Type 0 where
   pub in_bounds : IsInBounds parts
   pub count : slot_count parts ≡ length rows
-  pub leaf_count : leaf_count_or 0 parts ≡ tree_len last
+  -- the array has the leaf's positions, and its nulls are those of the leaf's mask where that is looked at
+  pub leaf : FitsLeaf last parts
   pub way : path_way parts ≡ thin w
   pub slots : bounded_slots (leaf_slot last) parts ≡ map (along w) rows
   -- so the levels and values of the path are those of the rows' column

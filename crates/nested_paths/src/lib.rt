@@ -5,14 +5,15 @@
 mod inner;
 mod laws;
 mod leaves;
+mod merge;
 mod nodes;
 mod paths;
 mod tree_leaves;
 
-pub use laws::{as_worked, cut_leaves_are_seen, paths_are_seen, paths_have_levels};
+pub use laws::{
+    as_worked, cut_leaves_are_seen, merged_paths_have_columns, paths_are_seen, paths_have_levels,
+};
 pub use leaves::to_leaves;
+pub use merge::{fits_leaf, merge_nulls};
 pub use paths::to_nested;
 pub use tree_leaves::to_parquet_leaves;
-
-#[cfg(test)]
-mod tests;

@@ -5,6 +5,3 @@ pub mod laws;
 mod slice;
 
 pub use slice::slice_parquet_array;
-
-#[cfg(test)]
-mod tests;

@@ -33,7 +33,7 @@ fn slice_list<O: Offset>(list: &mut ListNested<O>, rows: Rows) -> Rows
 {
     list.offsets.know();
     cut_validity(&mut list.validity, rows.first, rows.count);
-    list.offsets.slice(rows.first, rows.count);
+    list.offsets.slice_ranges(rows.first, rows.count);
     let first = list.offsets.place(0);
     Rows {
         first,

@@ -52,6 +52,7 @@ has_pairs l h max_r max_d count body rs ds section is b =
     let ts : List Triple = triples_from max_d rs ds [] in
     let many : length ts ≡ h.num_values = sym (length-map ts (λ (t : Triple). t.repetition)) ∙ ap length reps ∙ b.as_many ∙ sym is.pairs in (
       record {
+        runs = is.runs;
         sections = record { repetition = b.repetition; definition = b.definition; values = section };
         split = record {
           behind = b.behind;
@@ -111,6 +112,7 @@ inside_at l h max_r max_d count body (zero ∷ rs) (d ∷ ds) section is b insid
 inside_at l h max_r max_d count body (suc r ∷ rs) (d ∷ ds) section is b inside = record {
   first = record { repetition = suc r; definition = d; value = None };
   shows = record {
+    runs = is.runs;
     sections = record { repetition = b.repetition; definition = b.definition; values = section };
     split = record {
       behind = b.behind;

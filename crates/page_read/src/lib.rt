@@ -18,6 +18,3 @@ pub use pairs::LevelPairs;
 pub use rows::has_rows;
 pub use sections::take_section;
 pub use values::read_int32;
-
-#[cfg(test)]
-mod tests;

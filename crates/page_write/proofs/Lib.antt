@@ -1,4 +1,3 @@
-pub mod Little
 pub mod Pairs
 pub mod Rows
 pub mod Behind

@@ -4,6 +4,7 @@ use Rattle.std.proofs.lemmas.List.{length-append}
 use Rattle.std.proofs.lemmas.List.Sums.{sum_by-cons}
 use Rattle.shredding.specs.Slot.{Value}
 use Rattle.pq_thrift.specs.Grammar.{Spells}
+use Rattle.pq_thrift.specs.Written.{IsWritten}
 use Rattle.pq_container.specs.declared.version.Version.TheVariants.{V1}
 use Rattle.pq_container.specs.Physical.{Physical, int32}
 use Rattle.pq_container.specs.Tree.{Leaf, max_repetition, max_definition}
@@ -39,7 +40,7 @@ pub record AreParts (max_r max_d : ℕ) (rs ds : List ℕ) (vs : List Value) (re
   pub spelled : IsPlain int32 values vs
   pub some : 0 < length rs
 
-pub page_is : (max_r max_d : ℕ) (rs ds : List ℕ) (vs : List Value) (repetition definition values body head : List ℕ) → AreParts max_r max_d rs ds vs repetition definition values body → Spells head (plain_header (length rs) (length body))
+pub page_is : (max_r max_d : ℕ) (rs ds : List ℕ) (vs : List Value) (repetition definition values body head : List ℕ) → AreParts max_r max_d rs ds vs repetition definition values body → IsWritten head (plain_header (length rs) (length body))
     → (l : Leaf) → IsLeafOf l int32 max_r max_d → IsWrittenPage V1 l None (page_out (triples_from max_d rs ds vs)) (head ++ body)
 page_is max_r max_d rs ds vs repetition definition values body head parts header l leaf =
     let ts = triples_from max_d rs ds vs in
@@ -51,7 +52,7 @@ page_is max_r max_d rs ds vs repetition definition values body head parts header
       parts = refl;
       definition = 0;
       repetition = 0;
-      header = subst (λ (n : ℕ). Spells head (plain_header n (length body))) (sym count) header;
+      header = subst (λ (n : ℕ). IsWritten head (plain_header n (length body))) (sym count) header;
       page =
           record {
             sections = record { repetition = repetition; definition = definition; values = values };
@@ -72,7 +73,6 @@ page_is max_r max_d rs ds vs repetition definition values body head parts header
             begins_row = begins_row-triples max_d rs ds vs parts.pairs.begins;
           };
       encoding = refl;
-      width = tt;
       some = omega (arith, count, parts.some);
     }
 
@@ -87,7 +87,7 @@ header_short pairs size head h = omega (arith, element_short (plain_header pairs
 
 -- a page whose sections and values stand behind its header
 pub page_made : (max_r max_d : ℕ) (rs ds : List ℕ) (vs : List Value) (r d before header_end r_end d_end after : List ℕ)
-    → ArePairs max_r max_d rs ds (length vs) → AreLevels max_r r rs → AreLevels max_d d ds → length r + length d ≤ 9 * length rs + 8 → 0 < length rs → room (length rs) (4 * length vs) < 2 ^ 31
+    → ArePairs max_r max_d rs ds (length vs) → AreLevels max_r r rs → AreLevels max_d d ds → length r + length d ≤ 9 * length rs + 58 → 0 < length rs → room (length rs) (4 * length vs) < 2 ^ 31
     → AppendsHeader (length rs) (behind_length max_r (length r) + behind_length max_d (length d) + 4 * length vs) before header_end
     → AppendsSection max_r header_end r_end r → AppendsSection max_d r_end d_end d → AppendsPlain int32 d_end after vs
     → AppendsPage max_r max_d (page_out (triples_from max_d rs ds vs)) before after
@@ -102,8 +102,8 @@ page_made max_r max_d rs ds vs r d before header_end r_end d_end after pairs are
       head = header.head;
       body = body;
       parts = plain_.parts ∙ ap (λ (t : List ℕ). t ++ plain_.text) (second.parts ∙ ap (λ (t : List ℕ). t ++ second.text) (first.parts ∙ ap (λ (t : List ℕ). t ++ first.text) header.parts)) ∙ regroup before header.head first.text second.text plain_.text;
-      is = page_is max_r max_d rs ds vs r d plain_.text body header.head made (subst (λ (n : ℕ). Spells header.head (plain_header (length rs) n)) (sym size) header.spells);
-      short = header_short (length rs) _ header.head header.spells;
+      is = page_is max_r max_d rs ds vs r d plain_.text body header.head made (subst (λ (n : ℕ). IsWritten header.head (plain_header (length rs) n)) (sym size) header.is);
+      short = header_short (length rs) _ header.head header.is.spells;
       within = omega (arith, size, count, bytes, short, behind_length-most max_r (length r), behind_length-most max_d (length d));
       fits = omega (arith, size, short, fits, behind_length-most max_r (length r), behind_length-most max_d (length d));
     }

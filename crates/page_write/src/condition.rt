@@ -3,7 +3,7 @@
 ghost use Rattle.std.specs.Prelude.{◌≡◌, ◌≤◌, ◌↔◌, length, All, IsTrue, count_by, nat_eq};
 ghost use Rattle.shredding.specs.Triples.{ArePairs, BeginsAtZero};
 
-// No level passes the greatest one.
+/// Whether no level passes the greatest one.
 pub fn are_within(max: u32, levels: &[u32]) -> bool
     ensures { IsTrue result ↔ All (λ v. v ≤ max) levels.now }
 {

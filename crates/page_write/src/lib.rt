@@ -8,10 +8,8 @@ mod little_endian;
 mod page;
 mod plain;
 mod section;
-#[cfg(test)]
-mod tests;
 
-pub use condition::are_pairs;
+pub use condition::{are_pairs, are_within};
 pub use header::push_data_page_header;
 pub use levels::{level_section, push_levels};
 pub use little_endian::{push_i32, push_u32};

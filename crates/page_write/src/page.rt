@@ -40,7 +40,7 @@ fn push_page_of(
     requires pairs { ArePairs column.max_repetition column.max_definition column.repetitions.now column.definitions.now (length column.values.now) }
     requires repetition { AreLevels column.max_repetition repetition.now column.repetitions.now }
     requires definition { AreLevels column.max_definition definition.now column.definitions.now }
-    requires short { length repetition.now + length definition.now ≤ 9 * length column.repetitions.now + 8 }
+    requires short { length repetition.now + length definition.now ≤ 9 * length column.repetitions.now + 58 }
     requires some { 0 < length column.repetitions.now }
     requires room { room (length column.repetitions.now) (4 * length column.values.now) < 2 ^ 31 }
     ensures memory { IfErr result (λ e. e ≡ Error.Memory) }

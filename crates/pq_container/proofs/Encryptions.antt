@@ -1,6 +1,6 @@
 -- Lists of values of which none is encrypted so far.
-use Rattle.std.proofs.Common.{◌≡◌, ℕ, zero, suc, ◌+◌, ◌<◌, List, [], ◌∷◌, length, get_or, take, sym, ap, subst, inl, inr, arith, add-one}
-use Rattle.std.specs.Prelude.{◌⊎◌, Bool, true, false, MatchBool, ◌==◌}
+use Rattle.std.proofs.Common.{◌≡◌, ℕ, zero, suc, ◌+◌, ◌<◌, List, [], ◌∷◌, length, get_or, take, sym, subst, inl, inr, arith, add-one}
+use Rattle.std.specs.Prelude.{Bool, true, false, MatchBool, ◌==◌}
 use Rattle.std.proofs.lemmas.Bool.Decides.{eqb_tells}
 use Rattle.pq_thrift.specs.declared.value.Thrift.{Thrift}
 use Rattle.pq_thrift.specs.Value.{Value, view, values_view}

@@ -1,8 +1,8 @@
 -- A flat footer has one reading.
-use Rattle.std.proofs.Common.{◌≡◌, ℕ, List, Some, sym, ap, subst, ◌∙◌}
-use Rattle.pq_thrift.specs.Value.{Value, struct, Values, Fields}
+use Rattle.std.proofs.Common.{◌≡◌, ℕ, List, sym, subst, ◌∙◌}
+use Rattle.pq_thrift.specs.Value.{Value, struct, Values}
 use Rattle.pq_container.specs.Elements.{SpellsNode, SpellsRoot}
-use Rattle.pq_container.specs.FlatFooter.{FlatFooter, SpellsElements, HasFlatFooter, SpellsFlatFooter}
+use Rattle.pq_container.specs.FlatFooter.{FlatFooter, SpellsElements, SpellsFlatFooter}
 use Rattle.pq_container.specs.Footer.{SpellsGroup}
 use Rattle.pq_container.specs.Ids.{get, Each}
 use Rattle.pq_container.specs.Tree.{Element}

@@ -19,3 +19,4 @@ pub mod MetadataReads
 pub mod TellsKinds
 pub mod TellsTrees
 pub mod Walked
+pub mod PathsWalked

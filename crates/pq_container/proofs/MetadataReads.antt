@@ -1,11 +1,11 @@
 -- From the Thrift value in front of bytes to the whole footer.
-use Rattle.std.proofs.Common.{◌≡◌, ℕ, ◌≤◌, ◌<◌, suc, List, ◌++◌, take, drop, map, refl, sym, ap, subst, ◌∙◌, inl, inr, arith}
-use Rattle.std.specs.Prelude.{◌⊎◌, Result, Ok, Err}
+use Rattle.std.proofs.Common.{◌≡◌, ℕ, ◌≤◌, List, take, drop, refl, sym, ap, subst, ◌∙◌, inl, inr, arith}
+use Rattle.std.specs.Prelude.{Result, Ok, Err}
 use Rattle.std.proofs.lemmas.List.{take-append-drop}
 use Rattle.columns_base.specs.declared.error.Error.{Error}
 use Rattle.columns_base.specs.declared.error.Error.TheVariants.{ReadFault, WriteFault, InputLimit, OutOfSpec, NotYetImplemented, InvalidArgumentError, Overflow, Memory}
 use Rattle.columns_base.specs.declared.error.S.TheVariants.{S1}
-use Rattle.columns_base.specs.declared.error.N.TheVariants.{N2, N7}
+use Rattle.columns_base.specs.declared.error.N.TheVariants.{N2}
 use Rattle.pq_numbers.specs.Texts.{Begins}
 use Rattle.pq_thrift.specs.declared.value.Thrift.{Thrift}
 use Rattle.pq_thrift.specs.Grammar.{Spells, depth}
@@ -16,10 +16,10 @@ use Rattle.pq_thrift.proofs.OneReading.{same_reading}
 use Rattle.pq_container.specs.Encrypted.{SaysEncrypted}
 use Rattle.pq_container.specs.FlatFooter.{FlatFooter, SpellsFlatFooter, flat_form}
 use Rattle.pq_container.specs.Footer.{Footer, SpellsFooter}
-use Rattle.pq_container.specs.Forest.{AreTrees, RefusesTrees, max_nesting}
-use Rattle.pq_container.specs.Metadata.{IsFooterText, FooterIsDeep, FooterIsEncrypted, NoFooter, RefusesMetadata}
+use Rattle.pq_container.specs.Forest.{AreTrees, RefusesTrees}
+use Rattle.pq_container.specs.Metadata.{IsFooterText, FooterIsEncrypted, NoFooter, RefusesMetadata}
 use Rattle.pq_container.specs.Reads.{HasNone, Refuses}
-use Rattle.pq_container.specs.Tree.{Trees, count_trees, preorder_of, nesting_of}
+use Rattle.pq_container.specs.Tree.{Trees}
 use Rattle.pq_container.proofs.Flat.{flat_same}
 use Rattle.pq_container.proofs.FlatOnce.{flat_once}
 use Rattle.pq_container.proofs.FromBytes.{Told, nothing_read, read_none, not_deep}

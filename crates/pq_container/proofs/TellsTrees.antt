@@ -1,9 +1,8 @@
 -- The derived `==` on nodes and trees tells whether they stand for the same.
-use Rattle.std.proofs.Common.{◌≡◌, ℕ, ℤ, ◌+◌, List, [], ◌∷◌, map, Bool, ◌&&◌, true, false, true≢false, Option, Some, None, Global, string_bytes, option_map, unwrap_or, refl, ap, sym, subst, ◌∙◌, rules}
+use Rattle.std.proofs.Common.{◌≡◌, ℕ, ℤ, ◌+◌, List, [], ◌∷◌, map, Bool, true≢false, Option, Some, None, Global, string_bytes, option_map, unwrap_or, refl, ap, sym, subst, ◌∙◌, rules}
 use Rattle.std.specs.Bool.{Decides}
 use Rattle.std.specs.Option.{option_eq}
 use Rattle.std.specs.Ordering.{int_eq}
-use Rattle.std.specs.String.{string_eq}
 use Rattle.std.specs.Cmp.Lexicographic.{pointwise}
 use Rattle.std.specs.List.{AllByRecursion as All'}
 use Rattle.std.specs.declared.vec.Vec.{Vec}
@@ -26,7 +25,7 @@ use Rattle.pq_container.specs.contracts.types.ParquetTypePartialEq.TheImpl as tr
 use Rattle.pq_container.specs.contracts.types.ParquetTypePartialEq.TheImpl.Laws as tree_laws
 use Rattle.pq_container.specs.Physical.{Physical}
 use Rattle.pq_container.specs.Tree.{Tree, leaf, group, Trees, no_trees, tree}
-use Rattle.pq_container.specs.TreeViews.{info_view, leaf_view, tree_view, trees_view, trees_of}
+use Rattle.pq_container.specs.TreeViews.{info_view, leaf_view, tree_view, trees_view}
 use Rattle.pq_container.specs.Types.{Info, required}
 use Rattle.pq_container.specs.Views.{converted_view, logical_view}
 use Rattle.pq_container.proofs.Compared.{place, Apart, Alike, by_decides}

@@ -1,5 +1,5 @@
 -- The columns that the Rust descriptors stand for, and the chunks' descriptors.
-use Rattle.std.specs.Prelude.{◌≡◌, ℕ, ◌<◌, List, map as list_map, Option, Some, None, option_map, length, slice_get, All}
+use Rattle.std.specs.Prelude.{◌≡◌, ℕ, ◌<◌, List, map as list_map, Option, Some, option_map, length, slice_get, All}
 use Rattle.pq_container.specs.declared.types.ColumnChunkMetaData.{ColumnChunkMetaData}
 use Rattle.pq_container.specs.declared.types.Descriptor.{Descriptor}
 use Rattle.pq_container.specs.declared.types.RowGroupMetaData.{RowGroupMetaData}

@@ -14,6 +14,7 @@ pub mod Ids
 pub mod Kinds
 pub mod Laws
 pub mod Metadata
+pub mod Paths
 pub mod Physical
 pub mod Raw
 pub mod RawChunk

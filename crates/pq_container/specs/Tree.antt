@@ -1,5 +1,5 @@
 -- The tree of a file's columns (Parquet format, "Metadata" and parquet.thrift: SchemaElement; "Nested Encoding" for the greatest levels).
-use Rattle.std.specs.Prelude.{ℕ, suc, max, ◌+◌, Bool, false, Option, Some, None, List, [], ◌∷◌, ◌++◌, map, nat_eq}
+use Rattle.std.specs.Prelude.{ℕ, suc, max, ◌+◌, Option, Some, None, List, [], ◌∷◌, ◌++◌, map}
 use Rattle.pq_container.specs.Physical.{Physical}
 use Rattle.pq_container.specs.Types.{Repetition, required, optional, repeated, Info}
 
@@ -60,15 +60,6 @@ max_definition l = sum_over defines l.path
 
 abbrev pub max_repetition : Leaf → ℕ
 max_repetition l = sum_over repeats l.path
-
--- the column of a field that is a leaf and no list
-abbrev pub is_flat_path : List Info → Bool
-is_flat_path [] = false
-is_flat_path (info ∷ []) = nat_eq (repeats info.repetition) 0
-is_flat_path (info ∷ other ∷ path) = false
-
-abbrev pub is_flat : Leaf → Bool
-is_flat l = is_flat_path l.path
 
 -- ---- preorder
 

@@ -11,6 +11,9 @@ use crate::types::{Descriptor, ParquetType, PrimitiveType, Repetition};
 use columns_base::Error;
 use std::alloc::Global;
 
+/// How deep the nodes beneath a schema's root may nest: with the root it is 128.
+pub const MAX_NESTING: u8 = 127;
+
 /// Whether the tree nests no deeper than this.
 #[cycle(nesting)]
 fn nests_within(tree: &ParquetType, depth: u8) -> bool

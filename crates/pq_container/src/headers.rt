@@ -46,6 +46,7 @@ fn data_from(fields: &[(i16, Thrift)]) -> Result<DataPageHeaderV1, Misfit>
         encoding: needed_i32(fields, 2)?,
         definition_level_encoding: optional_i32(fields, 3)?,
         repetition_level_encoding: optional_i32(fields, 4)?,
+        statistics: None,
     })
 }
 
@@ -54,14 +55,15 @@ fn data_v2_from(fields: &[(i16, Thrift)]) -> Result<DataPageHeaderV2, Misfit>
     ensures counted { IfOk result IsCountedV2 }
     ensures refused { OnErr result (HasNone (HasDataHeader2 (fields_view fields.now))) }
 {
-    let num_values = needed_count(fields, 1)?;
-    let _num_nulls = optional_i32(fields, 2)?;
     Ok(DataPageHeaderV2 {
-        num_values,
+        num_values: needed_count(fields, 1)?,
+        num_nulls: optional_i32(fields, 2)?,
         num_rows: needed_count(fields, 3)?,
         encoding: needed_i32(fields, 4)?,
         definition_levels_byte_length: needed_count(fields, 5)?,
         repetition_levels_byte_length: needed_count(fields, 6)?,
+        is_compressed: None,
+        statistics: None,
     })
 }
 

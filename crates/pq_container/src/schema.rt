@@ -4,20 +4,21 @@ ghost use Rattle.columns_base.specs.declared.error.Error.TheVariants.{Memory, No
 ghost use Rattle.columns_base.specs.declared.error.N.TheVariants.{N7};
 ghost use Rattle.pq_container.specs.Columns.{columns_in};
 ghost use Rattle.pq_container.specs.Described.{column_view};
+ghost use Rattle.pq_container.specs.Forest.{max_nesting};
+ghost use Rattle.pq_container.specs.Paths.{path_view, paths_in};
 ghost use Rattle.pq_container.specs.Tree.{nesting_of};
 ghost use Rattle.pq_container.specs.TreeViews.{trees_view};
 
-use crate::columns::{all_nest_within, push_all_columns};
+use crate::columns::{MAX_NESTING, all_nest_within, push_all_columns};
+use crate::paths::push_all_paths;
 use crate::types::{Descriptor, ParquetType};
 use columns_base::{Error, N};
 use std::alloc::Global;
 use std::marker::Model;
 
-/// How deep the nodes beneath the root may nest.
-const MAX_NESTING: u8 = 127;
-
 /// A schema with its nodes as trees, and its columns, which are the leaves with their greatest
-/// levels (Parquet format, "Metadata" and "Nested Encoding").
+/// levels (Parquet format, "Metadata" and "Nested Encoding"). It nests to at most 128, counted from
+/// its root.
 #[derive(Debug, Drop)]
 pub struct SchemaDescriptor {
     name: String,
@@ -35,13 +36,16 @@ impl Model for SchemaDescriptor {
 
     ghost coded = { Prim.hlevel (codes, nodes.the_row.coded) };
 
+    ghost use Rattle.std.specs.Prelude.{◌≤◌};
     ghost use Rattle.pq_container.specs.Columns.{columns_in};
     ghost use Rattle.pq_container.specs.Described.{column_view};
+    ghost use Rattle.pq_container.specs.Forest.{max_nesting};
+    ghost use Rattle.pq_container.specs.Tree.{nesting_of};
     ghost use Rattle.pq_container.specs.TreeViews.{trees_view};
 
     ghost view = { λ s. record { name = string_bytes s.name; fields = s.fields.items } };
 
-    ghost invariant = { λ s. map column_view s.columns.items ≡ columns_in (trees_view s.fields.items) };
+    ghost invariant = { λ s. (map column_view s.columns.items ≡ columns_in (trees_view s.fields.items)) × (nesting_of (trees_view s.fields.items) ≤ max_nesting) };
 }
 
 impl SchemaDescriptor {
@@ -54,8 +58,8 @@ impl SchemaDescriptor {
     pub fn new(alloc: Global, name: String, fields: Vec<ParquetType>) -> Result<Self, Error>
         ensures name { IfOk result (λ s. s.name ≡ string_bytes name) }
         ensures fields { IfOk result (λ s. s.fields ≡ fields.items) }
-        ensures shallow { IfOk result (λ s. nesting_of (trees_view fields.items) ≤ 127) }
-        ensures refused { IfErr result (λ e. (e ≡ Memory) ⊎ ((e ≡ NotYetImplemented N7) × (127 < nesting_of (trees_view fields.items)))) }
+        ensures shallow { IfOk result (λ s. nesting_of (trees_view fields.items) ≤ max_nesting) }
+        ensures refused { IfErr result (λ e. (e ≡ Memory) ⊎ ((e ≡ NotYetImplemented N7) × (max_nesting < nesting_of (trees_view fields.items)))) }
     {
         if !all_nest_within(&fields, MAX_NESTING) {
             return Err(Error::NotYetImplemented(N::N7));
@@ -78,7 +82,8 @@ impl SchemaDescriptor {
 
     /// The nodes beneath the root, in order.
     pub fn fields(&self) -> &[ParquetType]
-        ensures { result.now ≡ self.now.fields }
+        ensures are { result.now ≡ self.now.fields }
+        ensures shallow { nesting_of (trees_view self.now.fields) ≤ max_nesting }
     {
         &self.fields
     }
@@ -88,5 +93,21 @@ impl SchemaDescriptor {
         ensures { map column_view result.now ≡ columns_in (trees_view self.now.fields) }
     {
         &self.columns
+    }
+
+    /// For each leaf in order the names of the nodes on its path, from the node beneath the root to the leaf
+    /// (Parquet format, `ColumnMetaData.path_in_schema`).
+    ///
+    /// # Errors
+    ///
+    /// Out of memory.
+    #[tactic(auto, using(crate::proofs::PathsWalked::paths_walked))]
+    pub fn leaf_paths(&self, alloc: Global) -> Result<Vec<Vec<String>>, Error>
+        ensures ok { IfOk result (λ paths. map path_view paths.items ≡ paths_in (trees_view self.now.fields)) }
+        ensures err { IfErr result (λ e. e ≡ Memory) }
+    {
+        let mut paths = Vec::new(alloc);
+        push_all_paths(alloc, &self.fields, &[], &mut paths)?;
+        Ok(paths)
     }
 }

@@ -7,12 +7,10 @@ ghost use Rattle.pq_container.specs.TreeReading.{Gives, leaf_of, group_with, tre
 ghost use Rattle.pq_container.specs.TreeViews.{tree_view, trees_view};
 ghost use Rattle.pq_container.specs.Views.{element_view, physical_view};
 
+use crate::columns::MAX_NESTING;
 use crate::types::{ParquetType, PrimitiveType, SchemaElement};
 use columns_base::{Error, N, PhysicalType, S};
 use std::alloc::Global;
-
-/// How deep the nodes beneath the root may nest.
-const MAX_NESTING: u8 = 127;
 
 /// The tree in front, and the elements behind it.
 #[cycle(trees)]

@@ -146,6 +146,56 @@ pub struct Statistics {
     pub min_value: Option<Vec<u8>>,
 }
 
+/// What is stated of a column of whole numbers: decoded statistics (Parquet format, `Statistics`).
+#[derive(Debug, PartialEq, Eq, Drop)]
+pub struct PrimitiveStatistics<P> {
+    pub primitive_type: PrimitiveType,
+    /// How many pairs of levels have no value.
+    pub null_count: Option<i64>,
+    pub min_value: Option<P>,
+    pub max_value: Option<P>,
+}
+
+/// What is stated of a column of byte strings: decoded statistics (Parquet format, `Statistics`).
+#[derive(Debug, PartialEq, Eq, Drop)]
+pub struct BinaryStatistics {
+    pub primitive_type: PrimitiveType,
+    /// How many pairs of levels have no value.
+    pub null_count: Option<i64>,
+    pub min_value: Option<Vec<u8>>,
+    pub max_value: Option<Vec<u8>>,
+}
+
+/// What is stated of a column of byte strings of one length: decoded statistics (Parquet format, `Statistics`).
+#[derive(Debug, PartialEq, Eq, Drop)]
+pub struct FixedLenStatistics {
+    pub primitive_type: PrimitiveType,
+    /// How many pairs of levels have no value.
+    pub null_count: Option<i64>,
+    pub min_value: Option<Vec<u8>>,
+    pub max_value: Option<Vec<u8>>,
+}
+
+/// What is stated of a column of truth values: decoded statistics (Parquet format, `Statistics`).
+#[derive(Debug, PartialEq, Eq, Drop)]
+pub struct BooleanStatistics {
+    pub primitive_type: PrimitiveType,
+    /// How many pairs of levels have no value.
+    pub null_count: Option<i64>,
+    pub min_value: Option<bool>,
+    pub max_value: Option<bool>,
+}
+
+/// Decoded statistics of a column, by its physical type.
+#[derive(Debug, PartialEq, Eq, Drop)]
+pub enum ParquetStatistics {
+    Boolean(BooleanStatistics),
+    Int32(PrimitiveStatistics<i32>),
+    Int64(PrimitiveStatistics<i64>),
+    Binary(BinaryStatistics),
+    FixedLen(FixedLenStatistics),
+}
+
 /// What a footer says of one column of one row group (Parquet format, `ColumnChunk` with its
 /// `ColumnMetaData`). Sizes and places are in bytes, the places from the start of the file.
 #[derive(Debug, PartialEq, Eq, Drop)]
@@ -201,22 +251,30 @@ pub struct FileMetaData {
 }
 
 /// The header of a data page of version 1 (Parquet format, `DataPageHeader`).
-#[derive(Clone, Copy, Debug, PartialEq, Eq)]
+#[derive(Debug, PartialEq, Eq, Drop)]
 pub struct DataPageHeaderV1 {
     pub num_values: i32,
     pub encoding: i32,
     pub definition_level_encoding: Option<i32>,
     pub repetition_level_encoding: Option<i32>,
+    /// What a writer states of the page's values. A reader does not look at them, and has None.
+    pub statistics: Option<Statistics>,
 }
 
 /// The header of a data page of version 2 (Parquet format, `DataPageHeaderV2`).
-#[derive(Clone, Copy, Debug, PartialEq, Eq)]
+#[derive(Debug, PartialEq, Eq, Drop)]
 pub struct DataPageHeaderV2 {
     pub num_values: i32,
+    /// How many pairs of levels have no value, as far as the header states it.
+    pub num_nulls: Option<i32>,
     pub num_rows: i32,
     pub encoding: i32,
     pub definition_levels_byte_length: i32,
     pub repetition_levels_byte_length: i32,
+    /// Whether the values are compressed. A reader does not look at it, and has None.
+    pub is_compressed: Option<bool>,
+    /// What a writer states of the page's values. A reader does not look at them, and has None.
+    pub statistics: Option<Statistics>,
 }
 
 /// The header of a dictionary page (Parquet format, `DictionaryPageHeader`).
@@ -227,21 +285,21 @@ pub struct DictionaryPageHeader {
 }
 
 /// The header of a data page.
-#[derive(Clone, Copy, Debug, PartialEq, Eq)]
+#[derive(Debug, PartialEq, Eq, Drop)]
 pub enum DataPageHeader {
     V1(DataPageHeaderV1),
     V2(DataPageHeaderV2),
 }
 
 /// The header of a page that can be read.
-#[derive(Clone, Copy, Debug, PartialEq, Eq)]
+#[derive(Debug, PartialEq, Eq, Drop)]
 pub enum TypedPageHeader {
     Data(DataPageHeader),
     Dictionary(DictionaryPageHeader),
 }
 
 /// What stands in front of a page's body (Parquet format, `PageHeader`).
-#[derive(Clone, Copy, Debug, PartialEq, Eq)]
+#[derive(Debug, PartialEq, Eq, Drop)]
 pub struct PageHeader {
     pub header: TypedPageHeader,
     /// The number of the body's bytes.

@@ -130,12 +130,12 @@ spelled_is_read : (l : Leaf) (entries : Option (List Value)) (e : Encoding) (tex
 spelled_is_read l entries plain text vs s = tt
 spelled_is_read l None dictionary text vs s = absurd s
 spelled_is_read l (Some es) dictionary text vs s = s.0
-spelled_is_read l entries delta text vs s = (s.0, either s.1)
+spelled_is_read l entries delta text vs s = either s
   where
     either : {A B C D : Type 0} → (A × B) ⊎ (C × D) → A ⊎ C
     either (inl h) = inl h.0
     either (inr h) = inr h.0
-spelled_is_read l entries delta_length text vs s = (s.0, s.1)
+spelled_is_read l entries delta_length text vs s = s.0
 
 n4 : (l : Leaf) (entries : Option (List Value)) (p : RawPage) → N4Page l p → IsNoPage l entries p
 n4 l entries p (inl h) ts is = either h.1
@@ -168,6 +168,7 @@ pairs_of : (l : Leaf) (entries : Option (List Value)) (p : RawPage) (ts : List T
 pairs_of l entries p ts is =
     let n : length (map without_value ts) ≡ count_in p.header = length-map ts without_value ∙ counted_as p.header is.encoding ts is.has_encoding is.counted in (
       record {
+        runs = is.runs;
         sections = is.sections;
         split = is.split;
         repetitions = subst (λ (xs : List ℕ). HasLevels (max_repetition l) is.sections.repetition xs) (sym (bare (λ t. t.repetition) (λ t. refl) ts)) is.repetitions;

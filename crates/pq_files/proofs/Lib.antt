@@ -2,6 +2,11 @@ pub mod NearMiss
 pub mod DeltasOnce
 pub mod Excluded
 pub mod FirstFile
+pub mod FooterLength
+pub mod FooterNests
+pub mod FooterRooms
+pub mod FooterSays
+pub mod FooterWritable
 pub mod WorkedLayout
 pub mod WorkedReasons
 pub mod WrittenExample

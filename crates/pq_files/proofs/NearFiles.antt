@@ -1,13 +1,15 @@
 -- Near misses of the first file carry nothing.
 use Rattle.std.proofs.Common.{◌≡◌, ℕ, pos, List, [], ◌∷◌, ◌++◌, length, Option, Some, None, Ok, refl, sym, ap, subst, ◌∙◌, arith, inl, inr, ◌+◌, ◌<◌, ◌≤◌, take, drop, All, map}
-use Rattle.std.specs.List.{AllZip, sum_by}
+use Rattle.std.specs.List.{AllZip}
 use Rattle.std.proofs.lemmas.List.{append-nil, take_at}
 use Rattle.pq_numbers.specs.Texts.{Begins}
 use Rattle.pq_numbers.specs.Varint.{varint_up_to}
 use Rattle.pq_thrift.specs.Grammar.{Spells}
 use Rattle.pq_thrift.specs.Numbers.{signed_at, binary_at}
 use Rattle.pq_thrift.specs.Reading.{list_head_at, field_head_at, values_at, fields_at, list_with, struct_with, struct_at, value_at}
-use Rattle.pq_thrift.specs.Value.{Value as Thrift, int32, binary, list, struct, Fields, no_fields, field}
+use Rattle.pq_thrift.specs.Spelling.{spell}
+use Rattle.pq_thrift.specs.Written.{IsWritten}
+use Rattle.pq_thrift.specs.Value.{Value as Thrift, int32, int64, binary, list, struct, Fields, no_fields, field}
 use Rattle.pq_thrift.proofs.OneReading.{same_reading}
 use Rattle.shredding.specs.Shred.{shred}
 use Rattle.shredding.specs.Slot.{Value}
@@ -16,7 +18,7 @@ use Rattle.pq_container.specs.Footer.{GroupMeta, Key}
 use Rattle.pq_container.specs.Frame.{magic, IsFramed, footer_place, footer_of}
 use Rattle.pq_container.specs.Header.{Header, data_page, data_page_2, dictionary_page}
 use Rattle.pq_container.specs.Ids.{get}
-use Rattle.pq_container.specs.Tree.{Leaf, Schema, columns_of}
+use Rattle.pq_container.specs.Tree.{Schema, columns_of}
 use Rattle.pq_container.proofs.Framed.{has_frame, is_framed}
 use Rattle.pq_container.proofs.Injective.{pos_same}
 use Rattle.pq_container.specs.Metadata.{IsFooterText}
@@ -24,11 +26,13 @@ use Rattle.pq_files.specs.Carried.{IsChunkOf, AreChunks, IsGroup, GroupPages, Gr
 use Rattle.pq_files.specs.Chunk.{RawPage, IsPageText, IsData, IsDictionary, Pages, here, page, HasPages, Page, Chunk, IsPageIn, HasEntries, IsChunk, triples_of, count_in}
 use Rattle.pq_files.specs.FirstFile.{head, body, footer, file, file_of, schema, the_leaf}
 use Rattle.pq_files.specs.Layout.{OutGroup}
-use Rattle.pq_files.specs.NearMiss.{header, cut_levels, head_of_six, footer_of_five, cut_file, AreNotCarried, IsNotPacked, AreNotPacked}
+use Rattle.pq_files.specs.NearMiss.{header, cut_levels, head_of_six, footer_of_five, cut_file, AreNotCarried, IsNotPacked, padded_head, long_footer, IsNoWrittenPage, AreNotPacked}
 use Rattle.pq_files.specs.Page.{IsPage, rows_in}
 use Rattle.pq_files.specs.Reasons.{S1}
 use Rattle.pq_files.specs.WrittenExample.{file_of as written_of, footer as written_footer}
-use Rattle.pq_files.specs.Written.{at, at_some, i32, i64, structs, one, empty, version_number, elements_of, created_by, footer_value, keys_value}
+use Rattle.pq_files.specs.FooterRecord.{FileMetaData}
+use Rattle.pq_files.specs.Packed.{IsWrittenFile}
+use Rattle.pq_files.specs.Written.{at, at_some, structs, elements_of, orders_value, created_by, group_value, footer_value, footer_record, keys_value}
 use Rattle.pq_files.proofs.CarriedOnce.{frame_same, record_same}
 use Rattle.pq_files.proofs.ChunkOnce.{chunk_same}
 use Rattle.pq_files.proofs.CutFooter.{is_out_of_spec}
@@ -205,43 +209,76 @@ abbrev pub fields_in : Thrift → Fields
 fields_in (struct fs) = fs
 fields_in v = no_fields
 
-abbrev pub from_keys : Option Thrift → Version → Schema → List OutGroup → List Thrift → Fields
-from_keys o version tree groups values =
-    at 1 (i32 (version_number version))
-    (at 2 (list 12 (elements_of tree))
-    (at 3 (i64 (sum_by (λ g. g.rows) groups))
-    (at 4 (structs values) (at_some 5 o (at 6 (binary created_by) (at 7 (structs (map (λ (l : Leaf). one 1 empty) (columns_of tree))) no_fields))))))
+abbrev pub from_keys : Option Thrift → FileMetaData → Fields
+from_keys o m =
+    at 1 (int32 m.version)
+    (at 2 (list 12 (elements_of m.schema)) (at 3 (int64 m.num_rows) (at 4 (structs (map group_value m.row_groups)) (at_some 5 o (at 6 (binary m.created_by) (at 7 (orders_value m.schema) no_fields))))))
 
-says_creator : (o : Option Thrift) (version : Version) (tree : Schema) (groups : List OutGroup) (values : List Thrift) → get 6 (from_keys o version tree groups values) ≡ Some (binary created_by)
-says_creator None version tree groups values = refl
-says_creator (Some v) version tree groups values = refl
+says_creator : (o : Option Thrift) (m : FileMetaData) → get 6 (from_keys o m) ≡ Some (binary m.created_by)
+says_creator None m = refl
+says_creator (Some v) m = refl
+
+-- the frame that a packed file's footer stands in
+framed_footer : (bytes : List ℕ) (tree : Schema) (keys : List Key) (version : Version) (groups : List OutGroup) → (w : IsWrittenFile bytes tree keys version groups) → IsFramed bytes (4 + length w.pages) w.footer
+framed_footer bytes tree keys version groups w = record { pages = w.pages; size = w.size; parts = w.parts; four = w.four; is_size = w.is_size; is_place = refl }
 
 few_ids : IsNotPacked file
 unfolding footer_fields
 few_ids tree keys version groups p =
     let w = p.written in
-    let other : IsFramed file (4 + length w.pages) w.footer = record { pages = w.pages; size = w.size; parts = w.parts; four = w.four; is_size = w.is_size; is_place = refl } in
-    let frame = frame_same file 42 (4 + length w.pages) footer w.footer (framed (head ++ body) footer refl) other in
-    let read = same_reading footer w.footer [] [] (struct (footer_fields 4)) (footer_value version tree keys groups w.values) footer_spelled w.is_footer (ap (λ (x : List ℕ). x ++ []) frame.footers) in
+    let stated : FileMetaData = footer_record version tree keys groups w.row_groups in
+    let frame = frame_same file 42 (4 + length w.pages) footer w.footer (framed (head ++ body) footer refl) (framed_footer file tree keys version groups w) in
+    let read = same_reading footer w.footer [] [] (struct (footer_fields 4)) (footer_value stated) footer_spelled w.is_footer.spells (ap (λ (x : List ℕ). x ++ []) frame.footers) in
     let none : get 6 (footer_fields 4) ≡ None = refl in
-    let same : get 6 (footer_fields 4) ≡ get 6 (from_keys (keys_value keys) version tree groups w.values) = ap (λ v. get 6 (fields_in v)) read.1 in
-    not_none (binary created_by) (sym (sym none ∙ same ∙ says_creator (keys_value keys) version tree groups w.values))
+    let same : get 6 (footer_fields 4) ≡ get 6 (from_keys (keys_value keys) stated) = ap (λ v. get 6 (fields_in v)) read.1 in
+    not_none (binary created_by) (sym (sym none ∙ same ∙ says_creator (keys_value keys) stated))
   where
     not_none : (v : Thrift) → Some v ≡ None → ⊥
     not_none v e = cc e
+
+one_more : ◌≡◌ {A = ℕ} 159 160 → ⊥
+one_more e = omega (arith, e)
 
 stray_byte : IsNotPacked (written_of 160 (head ++ body) (written_footer ++ 0 ∷ []))
 stray_byte tree keys version groups p =
     let w = p.written in
     let bytes = written_of 160 (head ++ body) (written_footer ++ 0 ∷ []) in
     let ours : IsFramed bytes 42 (written_footer ++ 0 ∷ []) = record { pages = head ++ body; size = 160 ∷ 0 ∷ 0 ∷ 0 ∷ []; parts = refl; four = refl; is_size = refl; is_place = refl } in
-    let other : IsFramed bytes (4 + length w.pages) w.footer = record { pages = w.pages; size = w.size; parts = w.parts; four = w.four; is_size = w.is_size; is_place = refl } in
-    let frame = frame_same bytes 42 (4 + length w.pages) (written_footer ++ 0 ∷ []) w.footer ours other in
-    let read = same_reading written_footer w.footer (0 ∷ []) [] (struct out.footer_fields) (footer_value version tree keys groups w.values) out.footer_spelled w.is_footer (frame.footers ∙ sym (append-nil w.footer)) in
+    let frame = frame_same bytes 42 (4 + length w.pages) (written_footer ++ 0 ∷ []) w.footer ours (framed_footer bytes tree keys version groups w) in
+    let read = same_reading written_footer w.footer (0 ∷ []) [] (struct out.footer_fields) (footer_value (footer_record version tree keys groups w.row_groups)) out.footer_spelled w.is_footer.spells (frame.footers ∙ sym (append-nil w.footer)) in
     one_more (ap length read.0 ∙ ap length (sym frame.footers))
+
+-- ---- longer than need be
+
+-- what spells a value in another way than it is written is not written for any value
+other_spelling : (text written : List ℕ) (v : Thrift) → Spells text v → written ≡ spell v → (head : List ℕ) (u : Thrift) → IsWritten head u → (x y : List ℕ) → text ++ x ≡ head ++ y → text ≡ written
+other_spelling text written v s e head u w x y same =
+    let read = same_reading text head x y v u s w.spells same in
+    read.0 ∙ w.exact ∙ ap spell (sym read.1) ∙ sym e
+
+long_read : struct_at 127 long_footer ≡ Ok (out.footer_fields, [])
+unfolding out.footer_fields varint_up_to signed_at binary_at list_head_at field_head_at values_at fields_at list_with struct_with value_at
+long_read = refl
+
+long_list : IsNotPacked (written_of 160 (head ++ body) long_footer)
+long_list tree keys version groups p =
+    let w = p.written in
+    let bytes = written_of 160 (head ++ body) long_footer in
+    let ours : IsFramed bytes 42 long_footer = record { pages = head ++ body; size = 160 ∷ 0 ∷ 0 ∷ 0 ∷ []; parts = refl; four = refl; is_size = refl; is_place = refl } in
+    let frame = frame_same bytes 42 (4 + length w.pages) long_footer w.footer ours (framed_footer bytes tree keys version groups w) in
+    let same = other_spelling long_footer written_footer (struct out.footer_fields) (spelled long_footer out.footer_fields long_read) out.footer_written.exact w.footer _ w.is_footer [] [] (ap (λ (x : List ℕ). x ++ []) frame.footers) in
+    one_more (sym (ap length same))
+
+padded_read : struct_at 127 padded_head ≡ Ok (head_fields, [])
+unfolding head_fields varint_up_to signed_at binary_at list_head_at field_head_at values_at fields_at list_with struct_with value_at
+padded_read = refl
+
+padded_number : IsNoWrittenPage (padded_head ++ body)
+padded_number version l entries p w =
+    longer (ap length (other_spelling padded_head head (struct head_fields) (spelled padded_head head_fields padded_read) out.head_written.exact w.head _ w.header body w.body w.parts))
   where
-    one_more : ◌≡◌ {A = ℕ} 159 160 → ⊥
-    one_more e = omega (arith, e)
+    longer : ◌≡◌ {A = ℕ} 18 17 → ⊥
+    longer e = omega (arith, e)
 
 pub are_not_packed : AreNotPacked
-are_not_packed = record { few_ids = few_ids; stray_byte = stray_byte }
+are_not_packed = record { few_ids = few_ids; stray_byte = stray_byte; long_list = long_list; padded_number = padded_number }

@@ -37,7 +37,7 @@ dictionary_same l None section section' vs ws e a b n = absurd a.spells
 dictionary_same l (Some entries) section section' vs ws e a b n = indexed_same entries section section' vs ws e (without_kind l entries section vs a) (without_kind l entries section' ws b) n
 
 numbers_same : (l : Leaf) (section section' : List ℕ) (vs ws : List Value) (entries : Option (List Value)) → section ≡ section' → Begins (IsSpelled delta l entries) section vs → Begins (IsSpelled delta l entries) section' ws → length vs ≡ length ws → vs ≡ ws
-numbers_same l section section' vs ws entries e a b n = either a.spells.1 b.spells.1
+numbers_same l section section' vs ws entries e a b n = either a.spells b.spells
   where
     narrow_is_wide : l.physical ≡ int32 → l.physical ≡ int64 → ⊥
     narrow_is_wide p q = cc (p, q)
@@ -53,7 +53,7 @@ values_same l entries plain section section' vs ws q a b n = plain_same l.physic
 values_same l entries dictionary section section' vs ws q a b n = dictionary_same l entries section section' vs ws q a b n
 values_same l entries delta section section' vs ws q a b n = numbers_same l section section' vs ws entries q a b n
 values_same l entries delta_length section section' vs ws q a b n =
-    lengths_same section section' vs ws q (record { text = a.text; rest = a.rest; parts = a.parts; spells = a.spells.2 }) (record { text = b.text; rest = b.rest; parts = b.parts; spells = b.spells.2 }) n
+    lengths_same section section' vs ws q (record { text = a.text; rest = a.rest; parts = a.parts; spells = a.spells.1 }) (record { text = b.text; rest = b.rest; parts = b.parts; spells = b.spells.1 }) n
 
 pub page_same : (l : Leaf) (entries : Option (List Value)) (h : Header) (body : List ℕ) (ts us : List Triple) → IsPage l entries h body ts → IsPage l entries h body us → ts ≡ us
 page_same l entries h body ts us a b =

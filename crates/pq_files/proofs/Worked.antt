@@ -1,5 +1,5 @@
 -- Worked examples of encodings.
-use Rattle.std.proofs.Common.{◌≡◌, ℕ, ◌*◌, ◌^◌, ◌<◌, ◌-◌, nat_abs, ℤ, pos, negsuc, true, false, List, [], ◌∷◌, ◌++◌, map, length, is_some, nat_eq, drop, replicate, sum, Some, None, refl, ap, ◌∙◌, inl, inr, arith}
+use Rattle.std.proofs.Common.{◌≡◌, ℕ, ◌*◌, ◌^◌, ◌<◌, ◌≤◌, ◌-◌, nat_abs, ℤ, pos, negsuc, true, false, List, [], ◌∷◌, ◌++◌, map, length, is_some, nat_eq, drop, replicate, sum, Some, None, refl, ap, ◌∙◌, inl, inr, arith}
 use Rattle.std.proofs.lemmas.List.Elements.{All-from_recursion}
 use Rattle.std.specs.Int.{w32}
 use Rattle.shredding.specs.Slot.{Value, truth, number, bytes}
@@ -8,7 +8,7 @@ use Rattle.pq_numbers.specs.Zigzag.{IsSigned}
 use Rattle.pq_numbers.specs.Bits.{unpacked}
 use Rattle.pq_runs.specs.Delta.{last, Blocks, block}
 use Rattle.pq_files.specs.Delta.{AreDeltas, AreDeltaLengths}
-use Rattle.pq_files.specs.Worked.{deltas, numbers, lengths, hello, world, foobar, letters, plain_strings, entry, header_2, body_2, pair, AreWorked, AreNotSpelled}
+use Rattle.pq_files.specs.Worked.{deltas, numbers, lengths, hello, world, foobar, letters, plain_strings, entry, header_2, body_2, header_of_deltas, body_of_deltas, eight_rows, pair, AreWorked, AreNotSpelled}
 use Rattle.std.specs.List.{AllZip}
 use Rattle.std.specs.Prelude.{slice_get}
 use Rattle.std.proofs.lemmas.List.{length-append}
@@ -16,19 +16,20 @@ use Rattle.shredding.specs.Shape.{nothing, months, decimal, signed, Fits, at_lea
 use Rattle.shredding.specs.Share.{ColumnsAgree}
 use Rattle.shredding.specs.Shred.{Triple, shred}
 use Rattle.pq_numbers.specs.Texts.{Begins}
-use Rattle.pq_runs.specs.Runs.{no_bits}
+use Rattle.pq_runs.specs.Runs.{no_bits, last_copies}
 use Rattle.pq_container.specs.Physical.{int32, byte_array, fixed}
 use Rattle.pq_container.proofs.Injective.{pos_same}
 use Rattle.pq_files.specs.FirstFile.{schema, the_leaf, triples}
 use Rattle.pq_files.specs.Indices.{IsIndexed}
-use Rattle.pq_files.specs.Page.{IsPage, plain}
+use Rattle.pq_files.specs.Levels.{HasLevels}
+use Rattle.pq_files.specs.Page.{IsPage, plain, delta}
 use Rattle.pq_files.specs.PageReasons.{IsOutside}
 use Rattle.pq_files.specs.Plain.{InARow, IsPlain}
-use Rattle.pq_files.specs.Room.{footer_room, V3}
+use Rattle.pq_files.specs.Room.{footer_room, planned_footer, V3}
 use Rattle.pq_files.specs.Stored.{IsStored}
 use Rattle.pq_files.specs.WrittenExample.{out_groups}
 use Rattle.pq_files.specs.RowReasons.{BreaksIn}
-use Rattle.pq_files.proofs.FirstFile.{repetitions, definitions}
+use Rattle.pq_files.proofs.FirstFile.{one_bit, two_bits, repetitions, definitions}
 
 -- ---- numbers
 
@@ -170,7 +171,41 @@ version_2 =
       begins_row = refl;
     }
 
-footers : footer_room schema [] out_groups ≡ 4977
+zeros : HasLevels 1 (16 ∷ 0 ∷ []) (replicate 8 0)
+zeros =
+    record {
+      width = 1;
+      is_width = one_bit;
+      runs = record { text = 16 ∷ 0 ∷ []; rest = []; parts = refl; spells = last_copies 8 8 (16 ∷ []) (0 ∷ []) (small 16 (omega arith)) refl (omega arith) (omega arith) };
+      within = All-from_recursion (λ level. level ≤ 1) (replicate 8 0) (omega arith, (omega arith, (omega arith, (omega arith, (omega arith, (omega arith, (omega arith, (omega arith, tt))))))));
+    }
+
+threes : HasLevels 3 (16 ∷ 3 ∷ []) (replicate 8 3)
+threes =
+    record {
+      width = 2;
+      is_width = two_bits;
+      runs = record { text = 16 ∷ 3 ∷ []; rest = []; parts = refl; spells = last_copies 8 8 (16 ∷ []) (3 ∷ []) (small 16 (omega arith)) refl (omega arith) (omega arith) };
+      within = All-from_recursion (λ level. level ≤ 3) (replicate 8 3) (omega arith, (omega arith, (omega arith, (omega arith, (omega arith, (omega arith, (omega arith, (omega arith, tt))))))));
+    }
+
+nested_deltas : IsPage the_leaf None header_of_deltas body_of_deltas eight_rows
+nested_deltas =
+    record {
+      sections = record { repetition = 16 ∷ 0 ∷ []; definition = 16 ∷ 3 ∷ []; values = deltas };
+      split = record { repetition = refl; definition = refl; parts = refl };
+      runs = tt;
+      repetitions = zeros;
+      definitions = threes;
+      present = All-from_recursion (λ t. is_some t.value ≡ nat_eq t.definition 3) eight_rows (refl, (refl, (refl, (refl, (refl, (refl, (refl, (refl, tt))))))));
+      encoding = delta;
+      has_encoding = refl;
+      values = record { text = deltas; rest = []; parts = refl; spells = inl (refl, deltas_are) };
+      counted = (refl, refl);
+      begins_row = refl;
+    }
+
+footers : footer_room (planned_footer schema [] out_groups) ≡ 4977
 footers = refl
 
 largest : ¬ V3 schema [] (2 ^ 31 - 1) out_groups
@@ -199,6 +234,7 @@ are_worked =
       entries_are = entries_are;
       none_are = ([], refl, tt);
       version_2 = version_2;
+      nested_deltas = nested_deltas;
       rows = (refl, refl, refl);
       rooms = (refl, refl, refl);
       footers = footers;

@@ -28,7 +28,7 @@ use Rattle.pq_files.specs.Prefixes.{BeginsDelta, BeginsValues}
 use Rattle.pq_files.specs.Stored.{AreStored}
 use Rattle.pq_files.specs.Statistics.{IsUpTo, IsBoundText, IsBound}
 use Rattle.pq_files.specs.WorkedLayout.{options, target, ab, a, bounds, IsOfTexts, of_texts, statistics_text, header_text, entries_text, indices_text, seven as the_seven, indices_header, indexed, flat_leaf, cut_deltas, AreLaid}
-use Rattle.pq_files.specs.Written.{i32, statistics_value, page_value_2}
+use Rattle.pq_files.specs.Written.{i32, statistics_of, statistics_value, page_value_2}
 use Rattle.pq_files.specs.WrittenExample.{out_page, out_chunk}
 use Rattle.pq_files.proofs.FirstFile.{spelled}
 use Rattle.pq_files.proofs.Unique.{Every, every}
@@ -105,7 +105,7 @@ statistics_read : struct_at 127 statistics_text ≡ Ok (statistics_fields, [])
 unfolding statistics_fields varint_up_to signed_at binary_at list_head_at field_head_at values_at fields_at list_with struct_with value_at
 statistics_read = refl
 
-statistics_are : Spells statistics_text (statistics_value of_texts)
+statistics_are : Spells statistics_text (statistics_value (statistics_of of_texts))
 unfolding statistics_fields
 statistics_are = spelled statistics_text statistics_fields statistics_read
 

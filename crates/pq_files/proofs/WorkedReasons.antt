@@ -1,9 +1,8 @@
 -- Worked examples of reasons.
-use Rattle.std.proofs.Common.{◌≡◌, ◌≢◌, ℕ, ◌+◌, ◌<◌, ◌≤◌, ℤ, pos, negsuc, List, [], ◌∷◌, ◌++◌, length, map, Option, Some, None, is_some, nat_eq, take, drop, refl, sym, ap, subst, ◌∙◌, inl, inr, append_assoc, arith}
+use Rattle.std.proofs.Common.{◌≡◌, ◌≢◌, ℕ, ◌+◌, ◌≤◌, ℤ, pos, negsuc, List, [], ◌∷◌, ◌++◌, map, Option, Some, None, is_some, nat_eq, take, drop, refl, sym, ap, subst, ◌∙◌, inl, inr, append_assoc, arith}
 use Rattle.std.proofs.lemmas.List.{length-map}
 use Rattle.std.proofs.lemmas.List.Elements.{All-from_recursion, All-nil}
 use Rattle.std.specs.Prelude.{count_by}
-use Rattle.pq_numbers.specs.Texts.{Begins}
 use Rattle.pq_runs.specs.Hybrid.{runs_items, hybrid}
 use Rattle.pq_runs.specs.Runs.{last_groups}
 use Rattle.pq_numbers.specs.Varint.{varint_up_to}
@@ -12,7 +11,7 @@ use Rattle.pq_thrift.specs.Value.{Value as Thrift, struct, no_fields}
 use Rattle.pq_thrift.proofs.OneReading.{same_reading}
 use Rattle.shredding.specs.Shape.{signed}
 use Rattle.shredding.specs.Shred.{Triple, shred}
-use Rattle.shredding.specs.Slot.{Value, number}
+use Rattle.shredding.specs.Slot.{number}
 use Rattle.pq_container.specs.Physical.{int32}
 use Rattle.pq_container.proofs.Injective.{cons_same, pos_same}
 use Rattle.pq_files.specs.Reasons.{S2, N1, N3}
@@ -21,10 +20,10 @@ use Rattle.pq_files.specs.Chunk.{RawPage, IsPageText, here, page, count_in}
 use Rattle.pq_files.specs.FirstFile.{head, body, the_leaf, triples}
 use Rattle.pq_files.specs.Levels.{HasLevels}
 use Rattle.pq_files.specs.NearMiss.{header, cut_levels}
-use Rattle.pq_files.specs.Page.{Encoding, plain, dictionary, HasEncoding, Sections, IsSplit}
+use Rattle.pq_files.specs.Page.{plain, dictionary, HasEncoding, Sections, IsSplit}
 use Rattle.pq_files.specs.PageReasons.{Reaches, IsNext, S3, S4, ShowsPairs, HasPairs, GoesOn, called_by, IsOutside}
 use Rattle.pq_files.specs.RowReasons.{without_value, ReadsTriples, HasTriples, S9}
-use Rattle.pq_files.specs.WorkedReasons.{meta_of, footer_with, the_footer, page_of, inside, entries, of_300, AreReasons}
+use Rattle.pq_files.specs.WorkedReasons.{meta_of, footer_with, the_footer, page_of, inside, bit_packed, entries, AreReasons}
 use Rattle.pq_files.proofs.Excluded.{counted_by, same_pairs}
 use Rattle.pq_files.proofs.FirstFile as first
 use Rattle.pq_files.proofs.NearMiss.{short}
@@ -102,6 +101,7 @@ shows : ShowsPairs the_leaf (page_of body) pairs
 unfolding pairs sections shred
 shows =
     record {
+      runs = (refl, refl);
       sections = sections;
       split = split;
       repetitions = first.repetitions;
@@ -169,6 +169,7 @@ goes_on =
       first = record { repetition = 1; definition = 3; value = None };
       shows =
           record {
+            runs = (refl, refl);
             sections = record { repetition = 3 ∷ 3 ∷ []; definition = 3 ∷ 79 ∷ 2 ∷ []; values = 1 ∷ 0 ∷ 0 ∷ 0 ∷ 2 ∷ 0 ∷ 0 ∷ 0 ∷ [] };
             split =
                 record {
@@ -200,6 +201,12 @@ begins_row g =
     zero_in_bits : HasLevels 1 (3 ∷ 2 ∷ []) (0 ∷ [])
     zero_in_bits = record { width = 1; is_width = first.one_bit; runs = record { text = 3 ∷ 2 ∷ []; rest = []; parts = refl; spells = last_groups 1 1 (3 ∷ []) (2 ∷ []) first.three (omega arith) (omega arith) (omega arith) (omega arith) }; within = All-from_recursion (λ level. level ≤ 1) (0 ∷ []) (omega arith, tt) }
 
+not_in_runs : ¬ GoesOn the_leaf (bit_packed inside)
+not_in_runs g = other_encoding g.shows.runs.1
+  where
+    other_encoding : ◌≡◌ {A = Option ℤ} (Some (pos 4)) (Some (pos 3)) → ⊥
+    other_encoding e = cc e
+
 -- ---- rows
 
 -- two values are called for
@@ -213,7 +220,7 @@ reads : ReadsTriples (signed 32) the_leaf None (page_of body) triples
 unfolding pairs shows sections shred
 reads =
     record {
-      pairs = record { runs = (refl, refl); encoding = plain; has_encoding = refl; is_read = tt; shows = shows; begins_row = refl };
+      pairs = record { encoding = plain; has_encoding = refl; is_read = tt; shows = shows; begins_row = refl };
       present = All-from_recursion (λ x. is_some x.value ≡ nat_eq x.definition 3) triples (refl, (refl, (refl, (refl, (refl, tt)))));
       called = 2;
       calls = calls;
@@ -275,6 +282,7 @@ are_reasons =
       first_inside = (goes_on, inl (All-nil (λ q. count_in q.header ≡ 0)));
       next_inside = (goes_on, tt, λ e. cc e);
       begins_row = begins_row;
+      not_in_runs = not_in_runs;
       entry_lacks = (inl refl, λ es are. plain_cut es (sym are.0) are.2);
       entry_outside =
           record {

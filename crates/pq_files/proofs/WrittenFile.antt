@@ -2,27 +2,25 @@
 use Rattle.std.proofs.Common.{◌≡◌, ℕ, suc, ◌+◌, ◌<◌, ◌≤◌, pos, List, [], ◌∷◌, ◌++◌, length, take, drop, map, Option, Some, None, refl, sym, ap, subst, ◌∙◌, inl, arith, append_assoc, le-leb, lt-ltb}
 use Rattle.std.specs.Prelude.{option_map}
 use Rattle.std.specs.List.{AllZip}
-use Rattle.std.proofs.Math.Nat.{max-le}
 use Rattle.std.proofs.lemmas.List.{length-append, take_at, drop_at}
 use Rattle.std.proofs.lemmas.List.Elements.{All-from_recursion}
 use Rattle.pq_numbers.specs.Texts.{IsAt}
-use Rattle.pq_thrift.specs.Grammar.{depth, values_depth}
-use Rattle.pq_thrift.specs.Value.{Value as Thrift, values_of}
 use Rattle.shredding.specs.Slot.{Value}
 use Rattle.pq_container.specs.declared.version.Version.{Version}
-use Rattle.pq_container.specs.Footer.{ChunkMeta, GroupMeta, Key, SpellsChunk, SpellsGroup}
+use Rattle.pq_container.specs.Footer.{Key}
 use Rattle.pq_container.specs.Frame.{magic}
-use Rattle.pq_container.specs.Ids.{Each}
 use Rattle.pq_container.specs.Tree.{Leaf, Schema, columns_of}
 use Rattle.pq_files.specs.Carried.{start_of, IsChunkOf, AreChunks as AreRead, IsGroup, GroupPages, column_in, group_in}
 use Rattle.pq_files.specs.Chunk.{Chunk, triples_of}
 use Rattle.pq_files.specs.Layout.{OutChunk, OutGroup}
 use Rattle.pq_files.specs.Packed.{HasDictionary, IsWrittenChunk, AreChunks, triples_out, AreGroups, IsWrittenFile, Packed, column_out, group_out}
 use Rattle.pq_files.specs.Page.{rows_in}
-use Rattle.pq_files.specs.Written.{Place, pairs_in, footer_value}
+use Rattle.pq_files.specs.FooterRecord.{ColumnChunk, RowGroup, FileMetaData, chunk_meta, group_meta}
+use Rattle.pq_files.specs.Written.{Place, pairs_in, chunk_record, group_record, footer_value, footer_record}
+use Rattle.pq_files.proofs.FooterNests.{footer_nests}
+use Rattle.pq_files.proofs.FooterSays.{footer_says}
 use Rattle.pq_files.proofs.Unique.{Every, every}
 use Rattle.pq_files.proofs.WrittenPages.{whole, ReadChunk, read_chunk, dictionary_some}
-use Rattle.pq_files.proofs.WrittenValues.{meta_of, chunk_says, chunk_nests, group_says, group_nests, footer_says, footer_nests}
 
 -- ---- places
 
@@ -62,7 +60,7 @@ starts_there l (Some entries) text w d e h =
     let some : w.start < w.start + w.dictionary = omega (arith, e, dictionary_some l entries text d) in
     rw (le-leb 4 w.start h, lt-ltb w.start (w.start + w.dictionary) some) refl
 
-chunk_is : (bytes : List ℕ) (place : ℕ) (version : Version) (l : Leaf) (c : OutChunk) (w : Place) (text : List ℕ) → Stands bytes w.start text → 4 ≤ w.start → w.start + length text ≤ place → (k : IsWrittenChunk version l c w text) → IsChunkOf bytes place (meta_of l c w) l (read_chunk version l c w text k).chunk
+chunk_is : (bytes : List ℕ) (place : ℕ) (version : Version) (l : Leaf) (c : OutChunk) (w : Place) (text : List ℕ) → Stands bytes w.start text → 4 ≤ w.start → w.start + length text ≤ place → (k : IsWrittenChunk version l c w text) → IsChunkOf bytes place (chunk_meta (chunk_record l c w)) l (read_chunk version l c w text k).chunk
 chunk_is bytes place version l c w text s h fits k =
     record {
       here = inl refl;
@@ -81,68 +79,57 @@ chunk_is bytes place version l c w text s h fits k =
       is = (read_chunk version l c w text k).is;
     }
 
-record ReadChunks (bytes : List ℕ) (place : ℕ) (ls : List Leaf) (cs : List OutChunk) (values : List Thrift) : Type 0 where
-  pub metas : List ChunkMeta
+record ReadChunks (bytes : List ℕ) (place : ℕ) (ls : List Leaf) (cs : List OutChunk) (columns : List ColumnChunk) : Type 0 where
   pub chunks : List Chunk
-  pub say : Each SpellsChunk (values_of values) metas
-  pub nest : values_depth (values_of values) ≤ 8
-  pub are : AreRead bytes place metas ls chunks
-  pub columns : map column_in chunks ≡ map column_out cs
+  pub are : AreRead bytes place (map chunk_meta columns) ls chunks
+  pub same : map column_in chunks ≡ map column_out cs
   pub counted : (rows : ℕ) → Every (λ c. rows_in (triples_out c) ≡ rows) cs → Every (λ c. rows_in (triples_of c) ≡ rows) chunks
 
-read_chunks : (bytes : List ℕ) (place : ℕ) (version : Version) (ls : List Leaf) (cs : List OutChunk) (start : ℕ) (text : List ℕ) (values : List Thrift) → Stands bytes start text → 4 ≤ start → start + length text ≤ place → AreChunks version ls cs start text values → ReadChunks bytes place ls cs values
-read_chunks bytes place version [] [] start text values s h fits a = subst (λ (vs : List Thrift). ReadChunks bytes place [] [] vs) (sym a.1) (record { metas = []; chunks = []; say = tt; nest = omega arith; are = tt; columns = refl; counted = λ rows e. tt })
-read_chunks bytes place version [] (c ∷ cs) start text values s h fits a = absurd a
-read_chunks bytes place version (l ∷ ls) [] start text values s h fits a = absurd a
+read_chunks : (bytes : List ℕ) (place : ℕ) (version : Version) (ls : List Leaf) (cs : List OutChunk) (start : ℕ) (text : List ℕ) (columns : List ColumnChunk) → Stands bytes start text → 4 ≤ start → start + length text ≤ place → AreChunks version ls cs start text columns → ReadChunks bytes place ls cs columns
+read_chunks bytes place version [] [] start text columns s h fits a = subst (λ (xs : List ColumnChunk). ReadChunks bytes place [] [] xs) (sym a.1) (record { chunks = []; are = tt; same = refl; counted = λ rows e. tt })
+read_chunks bytes place version [] (c ∷ cs) start text columns s h fits a = absurd a
+read_chunks bytes place version (l ∷ ls) [] start text columns s h fits a = absurd a
 read_chunks bytes place version (l ∷ ls) (c ∷ cs) start text [] s h fits a = absurd a
-read_chunks bytes place version (l ∷ ls) (c ∷ cs) start text (v ∷ values) s h fits a =
+read_chunks bytes place version (l ∷ ls) (c ∷ cs) start text (column ∷ columns) s h fits a =
     let first = a.0 in
     let others = a.1 in
     let w = a.2 in
     let k : IsWrittenChunk version l c w first = a.4 in
     let size : length text ≡ length first + length others = ap length a.7 ∙ length-append first others in
     let there : Stands bytes w.start first = subst (λ (n : ℕ). Stands bytes n first) (sym a.3) (first_stands bytes start text first others a.7 s) in
-    let more = read_chunks bytes place version ls cs (start + length first) others values (others_stand bytes start text first others a.7 s) (omega (arith, h)) (omega (arith, fits, size)) a.6 in
+    let more = read_chunks bytes place version ls cs (start + length first) others columns (others_stand bytes start text first others a.7 s) (omega (arith, h)) (omega (arith, fits, size)) a.6 in
     let one : ReadChunk l c first = read_chunk version l c w first k in
-    let column : column_in one.chunk ≡ column_out c = λ i. record { entries = one.entries i; triples = one.triples i } in
+    let same : column_in one.chunk ≡ column_out c = λ i. record { entries = one.entries i; triples = one.triples i } in
+    let is : IsChunkOf bytes place (chunk_meta (chunk_record l c w)) l one.chunk = chunk_is bytes place version l c w first there (omega (arith, h, a.3)) (omega (arith, fits, size, a.3)) k in
     record {
-      metas = meta_of l c w ∷ more.metas;
       chunks = one.chunk ∷ more.chunks;
-      say = (subst (λ (x : Thrift). SpellsChunk x (meta_of l c w)) (sym a.5) (chunk_says l c w), more.say);
-      nest = max-le (subst (λ (x : Thrift). depth x ≤ 8) (sym a.5) (chunk_nests l c w)) more.nest;
-      are = (chunk_is bytes place version l c w first there (omega (arith, h, a.3)) (omega (arith, fits, size, a.3)) k, more.are);
-      columns = ap (λ x. x ∷ map column_in more.chunks) column ∙ ap (λ xs. column_out c ∷ xs) more.columns;
+      are = (subst (λ (x : ColumnChunk). IsChunkOf bytes place (chunk_meta x) l one.chunk) (sym a.5) is, more.are);
+      same = ap (λ x. x ∷ map column_in more.chunks) same ∙ ap (λ xs. column_out c ∷ xs) more.same;
       counted = λ rows e. (ap rows_in one.triples ∙ e.0, more.counted rows e.1);
     }
 
 -- ---- groups
 
-record ReadGroups (bytes : List ℕ) (place : ℕ) (ls : List Leaf) (gs : List OutGroup) (values : List Thrift) : Type 0 where
-  pub metas : List GroupMeta
+record ReadGroups (bytes : List ℕ) (place : ℕ) (ls : List Leaf) (gs : List OutGroup) (row_groups : List RowGroup) : Type 0 where
   pub groups : List GroupPages
-  pub say : Each SpellsGroup (values_of values) metas
-  pub nest : values_depth (values_of values) ≤ 10
-  pub are : AllZip (λ m g. IsGroup bytes place ls m g.rows g.chunks) metas groups
+  pub are : AllZip (λ m g. IsGroup bytes place ls m g.rows g.chunks) (map group_meta row_groups) groups
   pub same : map group_out gs ≡ map group_in groups
 
-read_groups : (bytes : List ℕ) (place : ℕ) (version : Version) (ls : List Leaf) (gs : List OutGroup) (i start : ℕ) (text : List ℕ) (values : List Thrift) → Stands bytes start text → 4 ≤ start → start + length text ≤ place → AreGroups version ls gs i start text values → ReadGroups bytes place ls gs values
-read_groups bytes place version ls [] i start text values s h fits a = subst (λ (vs : List Thrift). ReadGroups bytes place ls [] vs) (sym a.1) (record { metas = []; groups = []; say = tt; nest = omega arith; are = tt; same = refl })
+read_groups : (bytes : List ℕ) (place : ℕ) (version : Version) (ls : List Leaf) (gs : List OutGroup) (i start : ℕ) (text : List ℕ) (row_groups : List RowGroup) → Stands bytes start text → 4 ≤ start → start + length text ≤ place → AreGroups version ls gs i start text row_groups → ReadGroups bytes place ls gs row_groups
+read_groups bytes place version ls [] i start text row_groups s h fits a = subst (λ (xs : List RowGroup). ReadGroups bytes place ls [] xs) (sym a.1) (record { groups = []; are = tt; same = refl })
 read_groups bytes place version ls (g ∷ gs) i start text [] s h fits a = absurd a
-read_groups bytes place version ls (g ∷ gs) i start text (v ∷ values) s h fits a =
+read_groups bytes place version ls (g ∷ gs) i start text (r ∷ row_groups) s h fits a =
     let first = a.0 in
     let others = a.1 in
     let size : length text ≡ length first + length others = ap length a.7 ∙ length-append first others in
     let one = read_chunks bytes place version ls g.chunks start first a.2 (first_stands bytes start text first others a.7 s) h (omega (arith, fits, size)) a.4 in
-    let more = read_groups bytes place version ls gs (suc i) (start + length first) others values (others_stand bytes start text first others a.7 s) (omega (arith, h)) (omega (arith, fits, size)) a.6 in
-    let meta : GroupMeta = record { chunks = one.metas; num_rows = pos g.rows } in
-    let is : IsGroup bytes place ls meta g.rows one.chunks = record { has_rows = refl; are = one.are; counted = All-from_recursion _ one.chunks (one.counted g.rows (every (λ c. rows_in (triples_out c) ≡ g.rows) g.chunks a.3)) } in
-    let group : group_out g ≡ group_in (record { rows = g.rows; chunks = one.chunks }) = λ j. record { rows = g.rows; columns = sym one.columns j } in
+    let more = read_groups bytes place version ls gs (suc i) (start + length first) others row_groups (others_stand bytes start text first others a.7 s) (omega (arith, h)) (omega (arith, fits, size)) a.6 in
+    let stated : RowGroup = group_record i a.2 g.rows start (length first) in
+    let is : IsGroup bytes place ls (group_meta stated) g.rows one.chunks = record { has_rows = refl; are = one.are; counted = All-from_recursion _ one.chunks (one.counted g.rows (every (λ c. rows_in (triples_out c) ≡ g.rows) g.chunks a.3)) } in
+    let group : group_out g ≡ group_in (record { rows = g.rows; chunks = one.chunks }) = λ j. record { rows = g.rows; columns = sym one.same j } in
     record {
-      metas = meta ∷ more.metas;
       groups = record { rows = g.rows; chunks = one.chunks } ∷ more.groups;
-      say = (subst (λ (x : Thrift). SpellsGroup x meta) (sym a.5) (group_says i a.2 one.metas g.rows start (length first) one.say), more.say);
-      nest = max-le (subst (λ (x : Thrift). depth x ≤ 10) (sym a.5) (group_nests i a.2 g.rows start (length first) one.nest)) more.nest;
-      are = (is, more.are);
+      are = (subst (λ (x : RowGroup). IsGroup bytes place ls (group_meta x) g.rows one.chunks) (sym a.5) is, more.are);
       same = ap (λ x. x ∷ map group_out gs) group ∙ ap (λ xs. group_in (record { rows = g.rows; chunks = one.chunks }) ∷ xs) more.same;
     }
 
@@ -151,7 +138,8 @@ read_groups bytes place version ls (g ∷ gs) i start text (v ∷ values) s h fi
 pub is_packed : (bytes : List ℕ) (tree : Schema) (keys : List Key) (version : Version) (groups : List OutGroup) → IsWrittenFile bytes tree keys version groups → Packed bytes tree keys version groups
 is_packed bytes tree keys version groups w =
     let there : Stands bytes 4 w.pages = record { before = magic; after = w.footer ++ (w.size ++ magic); parts = w.parts; starts = refl } in
-    let read = read_groups bytes (4 + length w.pages) version (columns_of tree) groups 0 4 w.pages w.values there (omega arith) (omega arith) w.are in
+    let read = read_groups bytes (4 + length w.pages) version (columns_of tree) groups 0 4 w.pages w.row_groups there (omega arith) (omega arith) w.are in
+    let stated : FileMetaData = footer_record version tree keys groups w.row_groups in
     record {
       written = w;
       carried = (
@@ -160,8 +148,8 @@ is_packed bytes tree keys version groups w =
           place = 4 + length w.pages;
           footer = w.footer;
           framed = record { pages = w.pages; size = w.size; parts = w.parts; four = w.four; is_size = w.is_size; is_place = refl };
-          metas = read.metas;
-          said = whole _ w.footer _ (footer_value version tree keys groups w.values, w.is_footer, footer_nests version tree keys groups w.values read.nest, footer_says version tree keys groups read.metas w.values w.are_keys read.say w.is_tree);
+          metas = map group_meta w.row_groups;
+          said = whole _ w.footer _ (footer_value stated, w.is_footer.spells, footer_nests stated, footer_says stated tree w.are_keys w.is_tree);
           are = read.are;
         },
         read.same,

@@ -1,5 +1,6 @@
 -- What a reader finds in written pages.
-use Rattle.std.proofs.Common.{◌≡◌, ℕ, ◌+◌, ◌<◌, List, [], ◌∷◌, ◌++◌, length, ℤ, pos, Option, Some, None, refl, sym, ap, subst, ◌∙◌, inl, arith}
+use Rattle.std.proofs.Common.{◌≡◌, ℕ, ◌+◌, ◌<◌, List, [], ◌∷◌, ◌++◌, length, ℤ, pos, Option, Some, None, refl, sym, ap, subst, ◌∙◌, true, false, inl, inr, arith}
+use Rattle.std.specs.Int.{w32, w64}
 use Rattle.std.specs.List.{AllZip, sum_by, flat_map}
 use Rattle.std.proofs.lemmas.List.{append-nil, length-append}
 use Rattle.std.proofs.lemmas.List.Sums.{sum_by-cons}
@@ -16,7 +17,11 @@ use Rattle.pq_files.specs.Chunk.{RawPage, IsPageText, IsData, count_in, Pages, h
 use Rattle.pq_files.specs.Layout.{OutPage, OutChunk}
 use Rattle.pq_files.specs.Levels.{HasLevels}
 use Rattle.pq_files.specs.Packed.{AreLevels, header_of, header_value, IsWrittenPage, ArePages, IsWrittenDictionary, HasDictionary, IsWrittenChunk, triples_out}
-use Rattle.pq_files.specs.Page.{IsPage, IsPageOf, IsSpelled}
+use Rattle.pq_files.specs.Indices.{IsIndices}
+use Rattle.pq_files.specs.Page.{Encoding, plain, dictionary, delta, delta_length, IsPage, IsPageOf, IsSpelled}
+use Rattle.pq_files.specs.WrittenSpelling.{AreWrittenIndices, IsWrittenSpelled}
+use Rattle.pq_runs.proofs.WrittenDeltas.{written_deltas}
+use Rattle.pq_runs.proofs.WrittenLaws.{written_runs}
 use Rattle.pq_files.specs.Plain.{IsPlain}
 use Rattle.pq_files.specs.Written.{Place, dictionary_value, pairs_in}
 use Rattle.pq_files.proofs.WrittenValues.{header_is, header_nests, dictionary_is, dictionary_nests}
@@ -27,9 +32,31 @@ pub whole : {A : Type 0} (R : List ℕ → A → Type 0) (text : List ℕ) (a : 
 whole R text a r = record { text = text; rest = []; parts = sym (append-nil text); spells = r }
 
 levels_begin : (max : ℕ) (section levels : List ℕ) → AreLevels max section levels → HasLevels max section levels
-levels_begin max section levels a = record { width = a.width; is_width = a.is_width; runs = whole _ section levels a.runs; within = a.within }
+levels_begin max section levels a = record { width = a.width; is_width = a.is_width; runs = whole _ section levels (written_runs a.width section levels a.runs); within = a.within }
 
-page_begins : (l : Leaf) (entries : Option (List Value)) (h : Header) (body : List ℕ) (ts : List Triple) → IsPageOf AreLevels (λ e section vs. IsSpelled e l entries section vs) l h body ts → IsPage l entries h body ts
+indices_are : (text ns : List ℕ) → AreWrittenIndices text ns → IsIndices text ns
+indices_are text ns a = subst (λ (t : List ℕ). IsIndices t ns) (sym a.parts) (a.fits, written_runs a.width a.runs ns a.are)
+
+-- what is written is read
+written_values : (e : Encoding) (l : Leaf) (entries : Option (List Value)) (text : List ℕ) (vs : List Value) → IsWrittenSpelled e l entries text vs → IsSpelled e l entries text vs
+written_values plain l entries text vs h = h
+written_values dictionary l None text vs h = h
+written_values dictionary l (Some entries) text vs h = (h.0, (h.1.0, indices_are text h.1.0 h.1.1, h.1.2))
+written_values delta l entries text vs (inl h) = inl (h.0, (h.1.0, written_deltas w32 true text h.1.0 (omega arith) h.1.1, h.1.2))
+written_values delta l entries text vs (inr h) = inr (h.0, (h.1.0, written_deltas w64 true text h.1.0 (omega arith) h.1.1, h.1.2))
+written_values delta_length l entries text vs h = (
+  h.0,
+  record {
+    strings = h.1.strings;
+    short = h.1.short;
+    head = h.1.head;
+    lengths = written_deltas w32 false h.1.head _ (omega arith) h.1.lengths;
+    parts = h.1.parts;
+    are = h.1.are;
+  },
+)
+
+page_begins : (l : Leaf) (entries : Option (List Value)) (h : Header) (body : List ℕ) (ts : List Triple) → IsPageOf AreLevels (λ e section vs. IsWrittenSpelled e l entries section vs) l h body ts → IsPage l entries h body ts
 page_begins l entries h body ts p =
     record {
       sections = p.sections;
@@ -40,7 +67,7 @@ page_begins l entries h body ts p =
       present = p.present;
       encoding = p.encoding;
       has_encoding = p.has_encoding;
-      values = whole (IsSpelled p.encoding l entries) p.sections.values _ p.values;
+      values = whole (IsSpelled p.encoding l entries) p.sections.values _ (written_values p.encoding l entries p.sections.values _ p.values);
       counted = p.counted;
       begins_row = p.begins_row;
     }
@@ -71,7 +98,7 @@ read_pages version l entries (p ∷ ps) text a =
     let others = read_pages version l entries ps a.1 a.3 in
     let h : Header = header_of version p w.definition w.repetition in
     let raw : RawPage = record { header = h; body = w.body } in
-    let is_text : IsPageText first raw = record { head = w.head; «value» = header_value version p w.definition w.repetition (length w.body); spells = w.header; nests = header_nests version p w.definition w.repetition (length w.body); is_header = header_is version p w.definition w.repetition (length w.body); parts = w.parts } in
+    let is_text : IsPageText first raw = record { head = w.head; «value» = header_value version p w.definition w.repetition (length w.body); spells = w.header.spells; nests = header_nests version p w.definition w.repetition (length w.body); is_header = header_is version p w.definition w.repetition (length w.body); parts = w.parts } in
     let n : count_in h ≡ length p.triples = counted_in version p w.definition w.repetition in
     let total : count_in h + sum_by (λ q. length q.triples) ps ≡ sum_by (λ q. length q.triples) (p ∷ ps) = ap (λ (k : ℕ). k + sum_by (λ q. length q.triples) ps) n ∙ sym (sum_by-cons (λ q. length q.triples) p ps) in
     let one : Pages (count_in h + sum_by (λ q. length q.triples) ps) (first ++ a.1) (raw ∷ others.raws) 0 [] =
@@ -100,7 +127,7 @@ read_dictionary : (l : Leaf) (n : ℕ) (entries : Option (List Value)) (text beh
 read_dictionary l n None text behind h d = record { dictionary = None; starts = ap (λ (t : List ℕ). t ++ behind) d; entries_are = tt }
 read_dictionary l n (Some entries) text behind h d =
     let header : Header = dictionary_page (record { num_values = length entries; encoding = pos 0 }) in
-    let is_text : IsPageText text (record { header = header; body = d.body }) = record { head = d.head; «value» = dictionary_value (length entries) (length d.body); spells = d.header; nests = dictionary_nests (length entries) (length d.body); is_header = dictionary_is (length entries) (length d.body); parts = d.parts } in
+    let is_text : IsPageText text (record { header = header; body = d.body }) = record { head = d.head; «value» = dictionary_value (length entries) (length d.body); spells = d.header.spells; nests = dictionary_nests (length entries) (length d.body); is_header = dictionary_is (length entries) (length d.body); parts = d.parts } in
     record { dictionary = Some (record { header = header; body = d.body }); starts = (text, is_text, tt, h, refl); entries_are = (refl, inl refl, whole (IsPlain l.physical) d.body entries d.plain) }
 
 pub record ReadChunk (l : Leaf) (c : OutChunk) (text : List ℕ) : Type 0 where
@@ -139,4 +166,4 @@ fields_in v = no_fields
 
 pub dictionary_some : (l : Leaf) (entries : List Value) (text : List ℕ) → IsWrittenDictionary l entries text → 0 < length text
 dictionary_some l entries text d =
-    omega (arith, ap length d.parts, length-append d.head d.body, fields_some (fields_in (dictionary_value (length entries) (length d.body))) (pos 0) d.head d.header.1)
+    omega (arith, ap length d.parts, length-append d.head d.body, fields_some (fields_in (dictionary_value (length entries) (length d.body))) (pos 0) d.head d.header.spells.1)

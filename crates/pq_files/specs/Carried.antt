@@ -5,7 +5,7 @@ use Rattle.shredding.specs.Slot.{Value}
 use Rattle.shredding.specs.Shred.{Triple}
 use Rattle.pq_files.specs.Chunk.{Chunk, IsChunk, triples_of}
 use Rattle.pq_container.specs.Frame.{IsFramed}
-use Rattle.pq_container.specs.Footer.{ChunkMeta, GroupMeta, Key, Footer}
+use Rattle.pq_container.specs.Footer.{ChunkMeta, GroupMeta, Key}
 use Rattle.pq_container.specs.Metadata.{IsFooterText}
 use Rattle.pq_files.specs.Page.{rows_in}
 use Rattle.pq_container.specs.Physical.{number_of_physical}

@@ -3,6 +3,8 @@ pub mod Chunk
 pub mod Delta
 pub mod Excluded
 pub mod FirstFile
+pub mod FooterRecord
+pub mod FooterRoom
 pub mod Indices
 pub mod Layout
 pub mod Levels
@@ -23,4 +25,5 @@ pub mod WorkedLayout
 pub mod WorkedReasons
 pub mod Written
 pub mod WrittenExample
+pub mod WrittenSpelling
 pub mod ListColumn

@@ -1,14 +1,15 @@
 -- Near misses of the first file: a page or a file that differs in one place.
-use Rattle.std.specs.Prelude.{ℕ, pos, Some, None, List, [], ◌∷◌, ◌++◌, take, drop}
+use Rattle.std.specs.Prelude.{ℕ, pos, Option, Some, None, List, [], ◌∷◌, ◌++◌, take, drop}
 use Rattle.shredding.specs.Shred.{Triple}
+use Rattle.shredding.specs.Slot.{Value}
 use Rattle.pq_container.specs.declared.version.Version.{Version}
 use Rattle.pq_container.specs.Footer.{Key}
 use Rattle.pq_container.specs.Header.{Header, data_page}
-use Rattle.pq_container.specs.Tree.{Schema}
+use Rattle.pq_container.specs.Tree.{Schema, Leaf}
 use Rattle.pq_files.specs.Carried.{IsNotCarried}
 use Rattle.pq_files.specs.FirstFile.{head, body, footer, file, file_of, the_leaf}
-use Rattle.pq_files.specs.Layout.{OutGroup}
-use Rattle.pq_files.specs.Packed.{Packed}
+use Rattle.pq_files.specs.Layout.{OutPage, OutGroup}
+use Rattle.pq_files.specs.Packed.{IsWrittenPage, Packed}
 use Rattle.pq_files.specs.Page.{IsPage}
 use Rattle.pq_files.specs.Reasons.{S1}
 use Rattle.pq_files.specs.WrittenExample.{file_of as written_of, footer as written_footer}
@@ -52,7 +53,21 @@ pub record AreNotCarried : Type 0 where
 abbrev pub IsNotPacked : List ℕ → Type 0
 IsNotPacked bytes = (tree : Schema) (keys : List Key) (version : Version) (groups : List OutGroup) → Packed bytes tree keys version groups → ⊥
 
--- The first file lacks ids that a packed one has. The other is the one that is written for it, with a byte behind the footer's struct.
+-- the written header with its first number, 0, in two bytes
+abbrev pub padded_head : List ℕ
+padded_head = take 1 head ++ (128 ∷ drop 1 head)
+
+-- the written footer with the number of its elements, 4, behind the list's head
+abbrev pub long_footer : List ℕ
+long_footer = take 3 written_footer ++ (252 ∷ 4 ∷ drop 4 written_footer)
+
+-- no text that begins so is a page, of whatever column
+abbrev pub IsNoWrittenPage : List ℕ → Type 0
+IsNoWrittenPage text = (version : Version) (l : Leaf) (entries : Option (List Value)) (p : OutPage) → IsWrittenPage version l entries p text → ⊥
+
+-- The first file lacks ids that a packed one has. The others are the one that is written for it, with a byte behind the footer's struct, and with spellings of the same values that are longer than need be.
 pub record AreNotPacked : Type 0 where
   pub few_ids : IsNotPacked file
   pub stray_byte : IsNotPacked (written_of 160 (head ++ body) (written_footer ++ 0 ∷ []))
+  pub long_list : IsNotPacked (written_of 160 (head ++ body) long_footer)
+  pub padded_number : IsNoWrittenPage (padded_head ++ body)

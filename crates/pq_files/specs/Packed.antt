@@ -2,8 +2,8 @@
 use Rattle.std.specs.Prelude.{◌≡◌, ℕ, suc, ◌+◌, ◌<◌, ◌≤◌, pos, List, [], ◌∷◌, ◌++◌, length, flat_map, All, map, Option, Some, None, IfSome, IsUtf8}
 use Rattle.pq_numbers.specs.Bits.{IsWidth}
 use Rattle.pq_numbers.specs.Texts.{number_of}
-use Rattle.pq_thrift.specs.Grammar.{Spells}
 use Rattle.pq_thrift.specs.Value.{Value as Thrift}
+use Rattle.pq_thrift.specs.Written.{IsWritten}
 use Rattle.shredding.specs.Shred.{Triple}
 use Rattle.shredding.specs.Slot.{Value}
 use Rattle.pq_container.specs.declared.version.Version.{Version}
@@ -13,19 +13,21 @@ use Rattle.pq_container.specs.Frame.{magic}
 use Rattle.pq_container.specs.Header.{Header, data_page, data_page_2}
 use Rattle.pq_container.specs.Tree.{Schema, Leaf, columns_of}
 use Rattle.pq_files.specs.Carried.{Carried, Group, Column}
+use Rattle.pq_files.specs.FooterRecord.{ColumnChunk, RowGroup}
 use Rattle.pq_files.specs.Layout.{OutPage, OutChunk, OutGroup}
-use Rattle.pq_files.specs.Page.{Encoding, dictionary, IsPageOf, IsSpelled, rows_in}
+use Rattle.pq_files.specs.Page.{IsPageOf, rows_in}
 use Rattle.pq_files.specs.Plain.{IsPlain}
-use Rattle.pq_runs.specs.Runs.{Runs}
-use Rattle.pq_files.specs.Written.{number_of_encoding, page_value_1, page_value_2, dictionary_value, encoding_in, Place, chunk_value, group_value, elements_of, footer_value}
+use Rattle.pq_files.specs.WrittenSpelling.{IsWrittenSpelled}
+use Rattle.pq_runs.specs.WrittenRuns.{WrittenRuns}
+use Rattle.pq_files.specs.Written.{number_of_encoding, page_value_1, page_value_2, dictionary_value, encoding_in, Place, chunk_record, group_record, elements_of, footer_value, footer_record}
 
 -- ---- pages
 
--- a section of runs alone, and none where the maximum is 0
+-- a section of runs as they are written, and none where the maximum is 0
 pub record AreLevels (max : ℕ) (section levels : List ℕ) : Type 0 where
   pub width : ℕ
   pub is_width : IsWidth max width
-  pub runs : Runs width section levels
+  pub runs : WrittenRuns width section levels
   pub within : All (λ level. level ≤ max) levels
   pub none : max ≡ 0 → section ≡ []
 
@@ -45,11 +47,6 @@ abbrev pub header_value : Version → OutPage → ℕ → ℕ → ℕ → Thrift
 header_value V1 p definition repetition size = page_value_1 p size
 header_value V2 p definition repetition size = page_value_2 p size definition repetition
 
--- A dictionary spelling begins with its width, also where there is no index.
-abbrev pub HasWidth : Encoding → List ℕ → Type 0
-HasWidth dictionary [] = ⊥
-HasWidth _ section = Unit {0}
-
 -- a page, which has a pair at least
 pub record IsWrittenPage (version : Version) (l : Leaf) (entries : Option (List Value)) (p : OutPage) (text : List ℕ) : Type 0 where
   pub head : List ℕ
@@ -57,10 +54,9 @@ pub record IsWrittenPage (version : Version) (l : Leaf) (entries : Option (List 
   pub parts : text ≡ head ++ body
   pub definition : ℕ
   pub repetition : ℕ
-  pub header : Spells head (header_value version p definition repetition (length body))
-  pub page : IsPageOf AreLevels (λ e section vs. IsSpelled e l entries section vs) l (header_of version p definition repetition) body p.triples
+  pub header : IsWritten head (header_value version p definition repetition (length body))
+  pub page : IsPageOf AreLevels (λ e section vs. IsWrittenSpelled e l entries section vs) l (header_of version p definition repetition) body p.triples
   pub encoding : page.encoding ≡ p.encoding
-  pub width : HasWidth p.encoding page.sections.values
   pub some : 0 < length p.triples
 
 abbrev pub ArePages : Version → Leaf → Option (List Value) → List OutPage → List ℕ → Type 0
@@ -72,7 +68,7 @@ pub record IsWrittenDictionary (l : Leaf) (entries : List Value) (text : List �
   pub head : List ℕ
   pub body : List ℕ
   pub parts : text ≡ head ++ body
-  pub header : Spells head (dictionary_value (length entries) (length body))
+  pub header : IsWritten head (dictionary_value (length entries) (length body))
   pub plain : IsPlain l.physical body entries
 
 abbrev pub HasDictionary : Leaf → Option (List Value) → List ℕ → Type 0
@@ -93,12 +89,12 @@ pub record IsWrittenChunk (version : Version) (l : Leaf) (c : OutChunk) (w : Pla
   pub some : 0 < length c.pages
   pub encoding : All (λ p. p.encoding ≡ encoding_in c.pages) c.pages
 
--- The chunks of the leaves one after another, from a place on, and the values in the footer that tell of them.
-abbrev pub AreChunks : Version → List Leaf → List OutChunk → ℕ → List ℕ → List Thrift → Type 0
-AreChunks version [] [] start text values = (text ≡ []) × (values ≡ [])
-AreChunks version (l ∷ ls) (c ∷ cs) start text (v ∷ values) =
-    (first : List ℕ) × (others : List ℕ) × (w : Place) × (w.start ≡ start) × IsWrittenChunk version l c w first × (v ≡ chunk_value l c w)
-    × AreChunks version ls cs (start + length first) others values × (text ≡ first ++ others)
+-- The chunks of the leaves one after another, from a place on, and what the footer states of them.
+abbrev pub AreChunks : Version → List Leaf → List OutChunk → ℕ → List ℕ → List ColumnChunk → Type 0
+AreChunks version [] [] start text columns = (text ≡ []) × (columns ≡ [])
+AreChunks version (l ∷ ls) (c ∷ cs) start text (column ∷ columns) =
+    (first : List ℕ) × (others : List ℕ) × (w : Place) × (w.start ≡ start) × IsWrittenChunk version l c w first × (column ≡ chunk_record l c w)
+    × AreChunks version ls cs (start + length first) others columns × (text ≡ first ++ others)
 AreChunks version _ _ _ _ _ = ⊥
 
 -- ---- groups, counted from a number on
@@ -110,11 +106,11 @@ triples_out c = flat_map (λ p. p.triples) c.pages
 abbrev pub HasRows : OutGroup → Type 0
 HasRows g = All (λ c. rows_in (triples_out c) ≡ g.rows) g.chunks
 
-abbrev pub AreGroups : Version → List Leaf → List OutGroup → ℕ → ℕ → List ℕ → List Thrift → Type 0
-AreGroups version ls [] i start text values = (text ≡ []) × (values ≡ [])
-AreGroups version ls (g ∷ gs) i start text (v ∷ values) =
-    (first : List ℕ) × (others : List ℕ) × (columns : List Thrift) × HasRows g × AreChunks version ls g.chunks start first columns
-    × (v ≡ group_value i columns g.rows start (length first)) × AreGroups version ls gs (suc i) (start + length first) others values × (text ≡ first ++ others)
+abbrev pub AreGroups : Version → List Leaf → List OutGroup → ℕ → ℕ → List ℕ → List RowGroup → Type 0
+AreGroups version ls [] i start text row_groups = (text ≡ []) × (row_groups ≡ [])
+AreGroups version ls (g ∷ gs) i start text (r ∷ row_groups) =
+    (first : List ℕ) × (others : List ℕ) × (columns : List ColumnChunk) × HasRows g × AreChunks version ls g.chunks start first columns
+    × (r ≡ group_record i columns g.rows start (length first)) × AreGroups version ls gs (suc i) (start + length first) others row_groups × (text ≡ first ++ others)
 AreGroups version ls (g ∷ gs) i start text [] = ⊥
 
 -- ---- the file
@@ -132,9 +128,9 @@ pub record IsWrittenFile (bytes : List ℕ) (tree : Schema) (keys : List Key) (v
   pub parts : bytes ≡ magic ++ (pages ++ (footer ++ (size ++ magic)))
   pub four : length size ≡ 4
   pub is_size : number_of size ≡ length footer
-  pub values : List Thrift
-  pub are : AreGroups version (columns_of tree) groups 0 4 pages values
-  pub is_footer : Spells footer (footer_value version tree keys groups values)
+  pub row_groups : List RowGroup
+  pub are : AreGroups version (columns_of tree) groups 0 4 pages row_groups
+  pub is_footer : IsWritten footer (footer_value (footer_record version tree keys groups row_groups))
   pub is_tree : SpellsTree (elements_of tree) tree
   pub are_keys : All IsKeyText keys
 

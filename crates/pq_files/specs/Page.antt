@@ -1,5 +1,5 @@
 -- What a data page holds (Parquet format, "Data Pages", "Nested Encoding" and Encodings).
-use Rattle.std.specs.Prelude.{◌≡◌, ◌≢◌, ◌⊎◌, ℕ, zero, suc, ℤ, pos, negsuc, List, [], ◌∷◌, ◌++◌, length, map, filter_map, count_by, All, is_some, nat_eq, IsTrue, Option, Some, None, ◌==◌, if◌then◌else◌}
+use Rattle.std.specs.Prelude.{◌≡◌, ◌≢◌, ◌⊎◌, ℕ, zero, suc, ℤ, pos, negsuc, List, ◌++◌, length, map, filter_map, count_by, All, is_some, nat_eq, Option, Some, None, ◌==◌, if◌then◌else◌}
 use Rattle.std.specs.Int.{w32, w64}
 use Rattle.shredding.specs.Slot.{Value}
 use Rattle.shredding.specs.Laws.{BeginsRow}
@@ -11,7 +11,7 @@ use Rattle.pq_files.specs.Levels.{HasLevels, IsBehindLength}
 use Rattle.pq_container.specs.Physical.{boolean, int32, int64, byte_array}
 use Rattle.pq_files.specs.Plain.{IsPlain}
 use Rattle.pq_numbers.specs.Texts.{Begins}
-use Rattle.pq_container.specs.Tree.{Leaf, max_definition, max_repetition, is_flat}
+use Rattle.pq_container.specs.Tree.{Leaf, max_definition, max_repetition}
 
 -- ---- encodings
 
@@ -28,13 +28,13 @@ encoding_numbered (pos n) =
     else None
 encoding_numbered (negsuc n) = None
 
--- a spelling of the values, for a column with these dictionary entries
+-- A spelling of the values, for a column with these dictionary entries. Deltas are of any column of their physical type, nested or not.
 abbrev pub IsSpelled : Encoding → Leaf → Option (List Value) → List ℕ → List Value → Type 0
 IsSpelled plain l entries text vs = IsPlain l.physical text vs
 IsSpelled dictionary l None text vs = ⊥
 IsSpelled dictionary l (Some entries) text vs = (l.physical ≢ boolean) × IsIndexed entries text vs
-IsSpelled delta l entries text vs = IsTrue (is_flat l) × (((l.physical ≡ int32) × AreDeltas w32 text vs) ⊎ ((l.physical ≡ int64) × AreDeltas w64 text vs))
-IsSpelled delta_length l entries text vs = IsTrue (is_flat l) × (l.physical ≡ byte_array) × AreDeltaLengths text vs
+IsSpelled delta l entries text vs = ((l.physical ≡ int32) × AreDeltas w32 text vs) ⊎ ((l.physical ≡ int64) × AreDeltas w64 text vs)
+IsSpelled delta_length l entries text vs = (l.physical ≡ byte_array) × AreDeltaLengths text vs
 
 -- ---- sections
 

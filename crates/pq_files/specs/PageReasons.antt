@@ -1,7 +1,8 @@
 -- Why the pages of a column are refused: S3, N4, S4, S5, N8, S6 and S7.
--- Two parts of N4 are not stated here: that a column of a dictionary type has a page without dictionary encoding, which speaks of an Arrow type,
--- and that a page with selected rows is decoded, which is a matter of a call. So is a header past a given size, a part of S3.
-use Rattle.std.specs.Prelude.{◌≡◌, ◌≢◌, ◌⊎◌, ℕ, ◌<◌, ◌≤◌, pos, List, [], ◌∷◌, length, map, All, Contains, Option, None, count_by, nat_eq, IsTrue}
+-- Three parts of N4 are not stated here: that a column of a dictionary type has a page without dictionary encoding, and that a column of a field
+-- that nests has a page of deltas, which speak of Arrow types, so that the calls that know the field refuse them; and that a page with selected
+-- rows is decoded, which is a matter of a call. So is a header past a given size, a part of S3.
+use Rattle.std.specs.Prelude.{◌≡◌, ◌≢◌, ◌⊎◌, ℕ, ◌<◌, ◌≤◌, pos, List, [], ◌∷◌, length, map, All, Contains, Option, None, count_by, nat_eq}
 use Rattle.pq_numbers.specs.Texts.{Begins}
 use Rattle.shredding.specs.Shape.{LeafType}
 use Rattle.shredding.specs.Shred.{Triple}
@@ -9,7 +10,7 @@ use Rattle.shredding.specs.Slot.{Value}
 use Rattle.pq_container.specs.Header.{Header, data_page, data_page_2, dictionary_page}
 use Rattle.pq_container.specs.HeaderText.{IsOfOtherType}
 use Rattle.pq_container.specs.Physical.{Physical, boolean, int32 as p_int32, int64, byte_array}
-use Rattle.pq_container.specs.Tree.{Leaf, max_definition, max_repetition, is_flat}
+use Rattle.pq_container.specs.Tree.{Leaf, max_definition, max_repetition}
 use Rattle.pq_files.specs.Chunk.{RawPage, IsPageText, IsData, IsDictionary, StartsWith, Pages, count_in, AreEntriesOf}
 use Rattle.pq_files.specs.Levels.{HasLevels}
 use Rattle.pq_files.specs.Page.{Encoding, plain, dictionary, delta, delta_length, Sections, IsSplit, HasEncoding, IsSpelled, LevelsAreRuns}
@@ -60,8 +61,8 @@ pub record Comes (n : ℕ) (bytes : List ℕ) (dict : Option RawPage) (pages : L
 abbrev pub IsRead : Leaf → Encoding → Type 0
 IsRead l plain = Unit {0}
 IsRead l dictionary = l.physical ≢ boolean
-IsRead l delta = IsTrue (is_flat l) × ((l.physical ≡ p_int32) ⊎ (l.physical ≡ int64))
-IsRead l delta_length = IsTrue (is_flat l) × (l.physical ≡ byte_array)
+IsRead l delta = (l.physical ≡ p_int32) ⊎ (l.physical ≡ int64)
+IsRead l delta_length = l.physical ≡ byte_array
 
 abbrev pub EncodingOfEntries : Header → Type 0
 EncodingOfEntries (dictionary_page h) = (h.encoding ≡ pos 0) ⊎ (h.encoding ≡ pos 2)
@@ -85,8 +86,9 @@ pub record N4Next (n : ℕ) (bytes : List ℕ) : Type 0 where
 
 -- ---- levels (Parquet format, "Nested Encoding")
 
--- The pairs of levels at the front of a page, as triples without values: no more than its header counts.
+-- The pairs of levels at the front of a page whose levels are runs, as triples without values: no more than its header counts.
 pub record ShowsPairs (l : Leaf) (p : RawPage) (ts : List Triple) : Type 0 where
+  pub runs : LevelsAreRuns l p.header
   pub sections : Sections
   pub split : IsSplit l p.header p.body sections
   pub repetitions : HasLevels (max_repetition l) sections.repetition (map (λ t. t.repetition) ts)

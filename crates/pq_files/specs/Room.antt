@@ -1,11 +1,13 @@
 -- How many bytes a page or a footer may take: bounds that a writer keeps, so that the 32-bit sizes of the Parquet format (parquet.thrift: PageHeader; "File format": footer length) hold them.
-use Rattle.std.specs.Prelude.{◌⊎◌, ℕ, ◌+◌, ◌-◌, ◌*◌, ◌/◌, ◌^◌, ◌<◌, List, [], ◌∷◌, length, sum_by, Bool, true, false, cond, nat_eq, ◌&&◌, codes, Option, Some, None}
-use Rattle.pq_container.specs.Footer.{Key}
+use Rattle.std.specs.Prelude.{◌⊎◌, ℕ, ◌+◌, ◌-◌, ◌*◌, ◌/◌, ◌^◌, ◌<◌, ◌≤◌, All, List, [], ◌∷◌, length, map, sum_by, Bool, true, false, cond, nat_eq, ◌&&◌, codes, Option, Some, None}
+use Rattle.pq_container.specs.declared.version.Version.TheVariants.{V1}
+use Rattle.pq_container.specs.Footer.{ChunkStatistics, Key}
+use Rattle.pq_files.specs.FooterRecord.{ColumnChunk, RowGroup, FileMetaData}
 use Rattle.shredding.specs.Slot.{Value}
 use Rattle.pq_files.specs.Layout.{OutPage, OutChunk, OutGroup, plain_length}
 use Rattle.pq_files.specs.Page.{values_in}
 use Rattle.pq_files.specs.Reasons.{AnyOf, AnyZip}
-use Rattle.pq_files.specs.Statistics.{Statistics, Bounds}
+use Rattle.pq_files.specs.Written.{Place, chunk_record, group_record, footer_record}
 use Rattle.pq_container.specs.Tree.{Schema, Leaf, Element, preorder_of, columns_of}
 
 -- a page of so many pairs or entries, whose values have so many plain bytes
@@ -39,28 +41,43 @@ key_room k = cond (are_same k.key schema_key) (96 + bytes_of k.value) (32 + leng
 abbrev pub schema_value_size : ℕ → ℕ
 schema_value_size n = 4 * ((n + 8 + 2) / 3)
 
-abbrev pub both_bounds : Option Bounds → ℕ
-both_bounds None = 0
-both_bounds (Some b) = length b.least + length b.greatest
-
-abbrev pub bounds_room : Option Statistics → ℕ
+abbrev pub bounds_room : Option ChunkStatistics → ℕ
 bounds_room None = 0
-bounds_room (Some s) = both_bounds s.bounds
+bounds_room (Some s) = bytes_of s.max_value + bytes_of s.min_value
 
-abbrev pub chunk_room : Leaf → OutChunk → ℕ
-chunk_room l c = 256 + sum_by (λ i. 8 + length i.name) l.path + bounds_room c.statistics
+abbrev pub name_room : List ℕ → ℕ
+name_room name = 8 + length name
 
-abbrev pub chunks_room : List Leaf → List OutChunk → ℕ
-chunks_room (l ∷ ls) (c ∷ cs) = chunk_room l c + chunks_room ls cs
-chunks_room _ _ = 0
+abbrev pub chunk_room : ColumnChunk → ℕ
+chunk_room c = 256 + sum_by name_room c.meta_data.path_in_schema + bounds_room c.meta_data.statistics
 
-abbrev pub groups_room : List Leaf → List OutGroup → ℕ
-groups_room ls gs = sum_by (λ g. 64 + chunks_room ls g.chunks) gs
+abbrev pub group_room : RowGroup → ℕ
+group_room g = 64 + sum_by chunk_room g.columns
 
 -- the root is a node too
-abbrev pub footer_room : Schema → List Key → List OutGroup → ℕ
-footer_room tree keys groups =
-    4096 + (128 + length tree.name) + sum_by node_room (preorder_of tree.fields) + sum_by key_room keys + groups_room (columns_of tree) groups
+abbrev pub footer_room : FileMetaData → ℕ
+footer_room m =
+    4096 + (128 + length m.schema.name) + sum_by node_room (preorder_of m.schema.fields) + sum_by key_room m.keys + sum_by group_room m.row_groups
+
+-- What the room leaves for the writer's name and for the encodings of a chunk. A footer with more of either may be longer than its room.
+pub record IsBrief (m : FileMetaData) : Type 0 where
+  pub author : length m.created_by ≤ 4000
+  pub encodings : All (λ g. All (λ c. length c.meta_data.encodings ≤ 20) g.columns) m.row_groups
+
+-- ---- the room of what is to be written: the same wherever it comes to stand, and in either version
+
+abbrev pub at_start : Place
+at_start = record { start = 0; dictionary = 0; size = 0 }
+
+abbrev pub planned_chunks : List Leaf → List OutChunk → List ColumnChunk
+planned_chunks (l ∷ ls) (c ∷ cs) = chunk_record l c at_start ∷ planned_chunks ls cs
+planned_chunks _ _ = []
+
+abbrev pub planned_group : List Leaf → OutGroup → RowGroup
+planned_group ls g = group_record 0 (planned_chunks ls g.chunks) g.rows 0 0
+
+abbrev pub planned_footer : Schema → List Key → List OutGroup → FileMetaData
+planned_footer tree keys groups = footer_record V1 tree keys groups (map (planned_group (columns_of tree)) groups)
 
 -- ---- what passes the sizes of the format: V3
 
@@ -86,4 +103,4 @@ ColumnIsTooLarge l c = EntriesAreTooLarge l c.entries ⊎ AnyOf (PageIsTooLarge 
 -- The rows of all groups, the footer, the bytes of the Arrow schema (0 where none is added), or a column.
 abbrev pub V3 : Schema → List Key → ℕ → List OutGroup → Type 0
 V3 tree keys schema_size groups =
-    (max_size < footer_room tree keys groups) ⊎ (max_size < schema_size) ⊎ (max_count < sum_by (λ g. g.rows) groups) ⊎ AnyOf (λ g. AnyZip ColumnIsTooLarge (columns_of tree) g.chunks) groups
+    (max_size < footer_room (planned_footer tree keys groups)) ⊎ (max_size < schema_size) ⊎ (max_count < sum_by (λ g. g.rows) groups) ⊎ AnyOf (λ g. AnyZip ColumnIsTooLarge (columns_of tree) g.chunks) groups

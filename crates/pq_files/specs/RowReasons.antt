@@ -8,7 +8,7 @@ use Rattle.shredding.specs.Slot.{Value}
 use Rattle.pq_container.specs.Header.{Header, data_page_2}
 use Rattle.pq_container.specs.Tree.{Leaf, max_definition}
 use Rattle.pq_files.specs.Chunk.{RawPage, HasEntries, count_in}
-use Rattle.pq_files.specs.Page.{Encoding, dictionary, HasEncoding, LevelsAreRuns, rows_in, values_in}
+use Rattle.pq_files.specs.Page.{Encoding, dictionary, HasEncoding, rows_in, values_in}
 use Rattle.shredding.specs.Laws.{BeginsRow}
 use Rattle.pq_files.specs.PageReasons.{Reaches, Comes, IsRead, EncodingOfEntries, ShowsPairs, HasPairs, called_by, IsOutside}
 use Rattle.pq_files.specs.Prefixes.{BeginsValues}
@@ -18,7 +18,6 @@ use Rattle.pq_files.specs.Reasons.{AnyOf}
 
 -- its levels, from the front on: it begins with a row, and its encodings are read
 pub record ReadsPairs (l : Leaf) (p : RawPage) (ts : List Triple) : Type 0 where
-  pub runs : LevelsAreRuns l p.header
   pub encoding : Encoding
   pub has_encoding : HasEncoding p.header encoding
   pub is_read : IsRead l encoding

@@ -15,7 +15,7 @@ use Rattle.pq_files.specs.Layout.{rows_per_page}
 use Rattle.pq_files.specs.Page.{IsPage}
 use Rattle.pq_files.specs.PageReasons.{IsOutside}
 use Rattle.pq_files.specs.Plain.{IsPlain}
-use Rattle.pq_files.specs.Room.{room, level_room, schema_value_size, key_room, footer_room, V3}
+use Rattle.pq_files.specs.Room.{room, level_room, schema_value_size, key_room, footer_room, planned_footer, V3}
 use Rattle.pq_files.specs.RowReasons.{BreaksIn}
 use Rattle.pq_files.specs.Stored.{IsStored}
 use Rattle.pq_files.specs.WrittenExample.{out_groups}
@@ -54,6 +54,16 @@ header_2 = data_page_2 (record { num_values = 5; num_rows = 4; encoding = pos 0;
 abbrev pub body_2 : List ℕ
 body_2 = 3 ∷ 2 ∷ 3 ∷ 79 ∷ 2 ∷ 1 ∷ 0 ∷ 0 ∷ 0 ∷ 2 ∷ 0 ∷ 0 ∷ 0 ∷ []
 
+-- eight rows of one number each in the first file's nested column: a run for each section of levels, and deltas
+abbrev pub header_of_deltas : Header
+header_of_deltas = data_page_2 (record { num_values = 8; num_rows = 8; encoding = pos 5; definition_length = 2; repetition_length = 2 })
+
+abbrev pub body_of_deltas : List ℕ
+body_of_deltas = 16 ∷ 0 ∷ 16 ∷ 3 ∷ deltas
+
+abbrev pub eight_rows : List Triple
+eight_rows = map (λ v. record { repetition = 0; definition = 3; value = Some v }) numbers
+
 abbrev pub plain_strings : List ℕ
 plain_strings = 5 ∷ 0 ∷ 0 ∷ 0 ∷ hello ++ (0 ∷ 0 ∷ 0 ∷ 0 ∷ [])
 
@@ -75,11 +85,13 @@ pub record AreWorked : Type 0 where
   pub entries_are : IsIndexed (entry ∷ []) (0 ∷ []) (entry ∷ entry ∷ entry ∷ [])
   pub none_are : IsIndexed (entry ∷ []) [] []
   pub version_2 : IsPage the_leaf None header_2 body_2 triples
+  -- a page of deltas of a column that is not flat
+  pub nested_deltas : IsPage the_leaf None header_of_deltas body_of_deltas eight_rows
   -- ten rows of four bytes each, under limits of 12, 9 and 0
   pub rows : (rows_per_page 12 40 10 ≡ 2) × (rows_per_page 9 40 10 ≡ 1) × (rows_per_page 0 40 10 ≡ 1)
   pub rooms : (room 3 8 ≡ 2098) × (level_room 3 ≡ 2054) × (schema_value_size 27 ≡ 48)
   -- a tree of four nodes and one column of one group, without keys
-  pub footers : footer_room schema [] out_groups ≡ 4096 + (128 + 1) + (128 + 1 + (128 + 4) + (128 + 7)) + (64 + (256 + (8 + 1 + (8 + 4) + (8 + 7))))
+  pub footers : footer_room (planned_footer schema [] out_groups) ≡ 4096 + (128 + 1) + (128 + 1 + (128 + 4) + (128 + 7)) + (64 + (256 + (8 + 1 + (8 + 4) + (8 + 7))))
   pub keys : (key_room (record { key = codes "ARROW:schema"; value = Some (replicate 48 0) }) ≡ 144) × (key_room (record { key = codes "a"; value = Some (codes "bc") }) ≡ 35)
   -- the bytes of an Arrow schema, one more than a footer may have
   pub too_large : V3 schema [] (2 ^ 31) out_groups

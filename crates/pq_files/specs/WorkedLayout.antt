@@ -15,7 +15,7 @@ use Rattle.pq_files.specs.Layout.{Options, Target, IsLaid}
 use Rattle.pq_files.specs.Page.{delta}
 use Rattle.pq_files.specs.Prefixes.{BeginsValues}
 use Rattle.pq_files.specs.Statistics.{Statistics, Bounds, AreStatistics}
-use Rattle.pq_files.specs.Written.{statistics_value, page_value_2}
+use Rattle.pq_files.specs.Written.{statistics_of, statistics_value, page_value_2}
 use Rattle.pq_files.specs.WrittenExample.{out_page, out_chunk}
 
 -- ---- layout: the first file's rows, without statistics
@@ -91,7 +91,7 @@ pub record AreLaid : Type 0 where
   pub counted : IsOfTexts (record { null_count = 1; bounds = bounds (97 ∷ 98 ∷ []) })
   pub greatest_wrong : ¬ IsOfTexts (record { null_count = 1; bounds = bounds (97 ∷ []) })
   pub nulls_wrong : ¬ IsOfTexts (record { null_count = 0; bounds = bounds (97 ∷ 98 ∷ []) })
-  pub statistics_are : Spells statistics_text (statistics_value of_texts)
+  pub statistics_are : Spells statistics_text (statistics_value (statistics_of of_texts))
   pub header_is : Spells header_text (page_value_2 out_page 13 3 2)
   pub indexed_is : IsChunk flat_leaf 2 (entries_text ++ indices_text) indexed
   pub five_of_eight : BeginsValues delta flat_leaf None 8 cut_deltas (map (λ n. number (pos n)) (7 ∷ 5 ∷ 3 ∷ 1 ∷ 2 ∷ []))

@@ -3,7 +3,7 @@ use Rattle.std.specs.Prelude.{ℕ, ℤ, pos, negsuc, Option, Some, None, List, [
 use Rattle.shredding.specs.Shape.{signed}
 use Rattle.shredding.specs.Slot.{Value, number}
 use Rattle.pq_container.specs.Footer.{ChunkMeta, Footer}
-use Rattle.pq_container.specs.Header.{dictionary_page}
+use Rattle.pq_container.specs.Header.{data_page, dictionary_page}
 use Rattle.pq_files.specs.Chunk.{RawPage}
 use Rattle.pq_files.specs.FirstFile.{head, body, schema, the_leaf}
 use Rattle.pq_files.specs.NearMiss.{header, cut_levels}
@@ -18,6 +18,10 @@ page_of text = record { header = header 5; body = text }
 -- the repetition levels 1, 1, 0, 0, 0: the first pair goes on with a row
 abbrev pub inside : List ℕ
 inside = take 5 body ++ (3 ∷ drop 6 body)
+
+-- such a page whose header says of the definition levels that they are packed without runs
+abbrev pub bit_packed : List ℕ → RawPage
+bit_packed text = record { header = data_page (record { num_values = 5; encoding = pos 0; definition_encoding = Some (pos 4); repetition_encoding = Some (pos 3) }); body = text }
 
 -- so many entries, in these bytes
 abbrev pub entries_page : ℕ → List ℕ → RawPage
@@ -61,6 +65,7 @@ pub record AreReasons : Type 0 where
   pub first_inside : S5 the_leaf [] (page_of inside)
   pub next_inside : N8 the_leaf (page_of body ∷ []) (page_of inside)
   pub begins_row : ¬ GoesOn the_leaf (page_of body)
+  pub not_in_runs : ¬ GoesOn the_leaf (bit_packed inside)
   -- two entries, the second without its last byte; and one that is no number of 8 bits, so that nothing of the column can be read
   pub entry_lacks : S6Entries the_leaf (entries_page 2 (1 ∷ 0 ∷ 0 ∷ 0 ∷ 2 ∷ 0 ∷ 0 ∷ []))
   pub entry_outside : S7Entries (signed 8) the_leaf of_300

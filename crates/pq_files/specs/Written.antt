@@ -1,14 +1,15 @@
--- The Thrift values that a packed file has (Parquet format, parquet.thrift): exactly these ids, each once and ascending.
-use Rattle.std.specs.Prelude.{ℕ, ◌+◌, nat_le, pos, List, [], ◌∷◌, length, map as list_map, sum_by, Bool, true, false, cond, Option, Some, None, codes, option_map, count_by, is_none, is_some}
+-- The Thrift values of pages and footers (Parquet format, parquet.thrift): exactly these ids, each once and ascending. Behind them stands what a packed file's footer states.
+use Rattle.std.specs.Prelude.{ℕ, ℤ, ◌+◌, nat_le, pos, List, [], ◌∷◌, length, map as list_map, sum_by, Bool, true, false, cond, Option, Some, None, codes, option_map, count_by, is_none, is_some}
 use Rattle.pq_thrift.specs.Value.{Value, truth, int8, int16, int32, int64, binary, list, struct, Values, Fields, no_fields, field, values_of}
 use Rattle.pq_container.specs.declared.version.Version.{Version}
 use Rattle.pq_container.specs.declared.version.Version.TheVariants.{V1, V2}
 use Rattle.pq_container.specs.Elements.{number_of_repetition}
-use Rattle.pq_container.specs.Footer.{Key}
+use Rattle.pq_container.specs.Footer.{ChunkStatistics, Key}
+use Rattle.pq_files.specs.FooterRecord.{ColumnMetaData, ColumnChunk, RowGroup, FileMetaData}
 use Rattle.pq_files.specs.Layout.{OutPage, OutChunk, OutGroup}
 use Rattle.pq_files.specs.Page.{Encoding, plain, dictionary, delta, delta_length, rows_in}
 use Rattle.pq_container.specs.Physical.{Physical, number_of_physical}
-use Rattle.pq_files.specs.Statistics.{Statistics, Bounds}
+use Rattle.pq_files.specs.Statistics.{Statistics}
 use Rattle.pq_container.specs.Tree.{Schema, Leaf, Element, count_trees, preorder_of, columns_of}
 use Rattle.pq_container.specs.Types.{TimeUnit, Converted, Logical, Info}
 
@@ -39,14 +40,15 @@ number_of_encoding dictionary = 8
 number_of_encoding delta = 5
 number_of_encoding delta_length = 6
 
-abbrev pub max_of : Option Bounds → Option Value
-max_of b = option_map (λ x. binary x.greatest) b
+-- with a number of nulls, as it is always written
+abbrev pub statistics_of : Statistics → ChunkStatistics
+statistics_of s = record { null_count = Some (pos s.null_count); max_value = option_map (λ b. b.greatest) s.bounds; min_value = option_map (λ b. b.least) s.bounds }
 
-abbrev pub min_of : Option Bounds → Option Value
-min_of b = option_map (λ x. binary x.least) b
+abbrev pub statistics_value : ChunkStatistics → Value
+statistics_value s = struct (at_some 3 (option_map int64 s.null_count) (at_some 5 (option_map binary s.max_value) (at_some 6 (option_map binary s.min_value) no_fields)))
 
-abbrev pub statistics_value : Statistics → Value
-statistics_value s = struct (at 3 (i64 s.null_count) (at_some 5 (max_of s.bounds) (at_some 6 (min_of s.bounds) no_fields)))
+abbrev pub page_statistics : OutPage → Option Value
+page_statistics p = option_map statistics_value (option_map statistics_of p.statistics)
 
 abbrev pub nulls : OutPage → ℕ
 nulls p = count_by (λ t. is_none t.value) p.triples
@@ -62,7 +64,7 @@ page_value_1 p size =
     (struct
     (at 1 (i32 (length p.triples))
     (at 2 (i32 (number_of_encoding p.encoding))
-    (at 3 (i32 3) (at 4 (i32 3) (at_some 5 (option_map statistics_value p.statistics) no_fields))))))
+    (at 3 (i32 3) (at 4 (i32 3) (at_some 5 (page_statistics p) no_fields))))))
     no_fields))))
 
 -- a version 2 page of so many bytes, whose definition and repetition levels have these lengths
@@ -79,7 +81,7 @@ page_value_2 p size definition repetition =
     (at 3 (i32 (rows_in p.triples))
     (at 4 (i32 (number_of_encoding p.encoding))
     (at 5 (i32 definition)
-    (at 6 (i32 repetition) (at 7 (truth false) (at_some 8 (option_map statistics_value p.statistics) no_fields)))))))))
+    (at 6 (i32 repetition) (at 7 (truth false) (at_some 8 (page_statistics p) no_fields)))))))))
     no_fields))))
 
 -- a dictionary page of so many entries and bytes
@@ -174,6 +176,58 @@ element_value e = element_of e.physical e.children e.info
 
 -- ---- columns and groups
 
+abbrev pub column_value : ColumnMetaData → Value
+column_value c =
+    struct
+    (at 1 (int32 c.type)
+    (at 2 (list 5 (values_of (list_map int32 c.encodings)))
+    (at 3 (list 8 (values_of (list_map binary c.path_in_schema)))
+    (at 4 (int32 c.codec)
+    (at 5 (int64 c.num_values)
+    (at 6 (int64 c.total_uncompressed_size)
+    (at 7 (int64 c.total_compressed_size)
+    (at 9 (int64 c.data_page_offset)
+    (at_some 11 (option_map int64 c.dictionary_page_offset) (at_some 12 (option_map statistics_value c.statistics) no_fields))))))))))
+
+abbrev pub chunk_value : ColumnChunk → Value
+chunk_value c = struct (at 2 (int64 c.file_offset) (at 3 (column_value c.meta_data) no_fields))
+
+abbrev pub group_value : RowGroup → Value
+group_value g =
+    struct
+    (at 1 (structs (list_map chunk_value g.columns))
+    (at 2 (int64 g.total_byte_size)
+    (at 3 (int64 g.num_rows)
+    (at 5 (int64 g.file_offset) (at 6 (int64 g.total_compressed_size) (at_some 7 (option_map int16 g.ordinal) no_fields))))))
+
+-- ---- the footer
+
+abbrev pub key_value : Key → Value
+key_value k = struct (at 1 (binary k.key) (at_some 2 (option_map binary k.value) no_fields))
+
+abbrev pub keys_value : List Key → Option Value
+keys_value [] = None
+keys_value (k ∷ ks) = Some (structs (list_map key_value (k ∷ ks)))
+
+-- the tree in preorder, behind the root
+abbrev pub elements_of : Schema → Values
+elements_of tree = values_of (tree_root tree ∷ list_map element_value (preorder_of tree.fields))
+
+-- each column has the order of its type
+abbrev pub orders_value : Schema → Value
+orders_value tree = structs (list_map (λ l. one 1 empty) (columns_of tree))
+
+abbrev pub footer_value : FileMetaData → Value
+footer_value m =
+    struct
+    (at 1 (int32 m.version)
+    (at 2 (list 12 (elements_of m.schema))
+    (at 3 (int64 m.num_rows)
+    (at 4 (structs (list_map group_value m.row_groups))
+    (at_some 5 (keys_value m.keys) (at 6 (binary m.created_by) (at 7 (orders_value m.schema) no_fields)))))))
+
+-- ---- what a packed file's footer states
+
 -- where a chunk stands: its start, and the bytes of its dictionary page and of all its pages
 pub record Place : Type 0 where
   pub start : ℕ
@@ -198,42 +252,32 @@ encoding_in (p ∷ ps) = p.encoding
 abbrev pub pairs_in : OutChunk → ℕ
 pairs_in c = sum_by (λ p. length p.triples) c.pages
 
-abbrev pub dictionary_offset : OutChunk → Place → Option Value
-dictionary_offset c at_place = option_map (λ entries. i64 at_place.start) c.entries
+abbrev pub column_record : Leaf → OutChunk → Place → ColumnMetaData
+column_record l c w =
+    record {
+      type = pos (number_of_physical l.physical);
+      encodings = list_map (λ n. pos n) (encodings_of (encoding_in c.pages) (is_some c.entries));
+      path_in_schema = list_map (λ i. i.name) l.path;
+      codec = pos 0;
+      num_values = pos (pairs_in c);
+      total_uncompressed_size = pos w.size;
+      total_compressed_size = pos w.size;
+      data_page_offset = pos (w.start + w.dictionary);
+      dictionary_page_offset = option_map (λ entries. pos w.start) c.entries;
+      statistics = option_map statistics_of c.statistics;
+    }
 
-abbrev pub column_value : Leaf → OutChunk → Place → Value
-column_value l c w =
-    struct
-    (at 1 (i32 (number_of_physical l.physical))
-    (at 2 (list 5 (values_of (list_map i32 (encodings_of (encoding_in c.pages) (is_some c.entries)))))
-    (at 3 (list 8 (values_of (list_map (λ i. binary i.name) l.path)))
-    (at 4 (i32 0)
-    (at 5 (i64 (pairs_in c))
-    (at 6 (i64 w.size)
-    (at 7 (i64 w.size)
-    (at 9 (i64 (w.start + w.dictionary))
-    (at_some 11 (dictionary_offset c w) (at_some 12 (option_map statistics_value c.statistics) no_fields))))))))))
-
-abbrev pub chunk_value : Leaf → OutChunk → Place → Value
-chunk_value l c w = struct (at 2 (i64 w.start) (at 3 (column_value l c w) no_fields))
+abbrev pub chunk_record : Leaf → OutChunk → Place → ColumnChunk
+chunk_record l c w = record { file_offset = pos w.start; meta_data = column_record l c w }
 
 -- the group's place in the file, where it fits
-abbrev pub ordinal_of : ℕ → Option Value
-ordinal_of i = cond (nat_le i 32767) (Some (int16 (pos i))) None
+abbrev pub ordinal_of : ℕ → Option ℤ
+ordinal_of i = cond (nat_le i 32767) (Some (pos i)) None
 
 -- a group at its place, with its columns, its rows, and where it starts and how many bytes it has
-abbrev pub group_value : ℕ → List Value → ℕ → ℕ → ℕ → Value
-group_value i columns rows start size =
-    struct (at 1 (structs columns) (at 2 (i64 size) (at 3 (i64 rows) (at 5 (i64 start) (at 6 (i64 size) (at_some 7 (ordinal_of i) no_fields))))))
-
--- ---- the footer
-
-abbrev pub key_value : Key → Value
-key_value k = struct (at 1 (binary k.key) (at_some 2 (option_map binary k.value) no_fields))
-
-abbrev pub keys_value : List Key → Option Value
-keys_value [] = None
-keys_value (k ∷ ks) = Some (structs (list_map key_value (k ∷ ks)))
+abbrev pub group_record : ℕ → List ColumnChunk → ℕ → ℕ → ℕ → RowGroup
+group_record i columns rows start size =
+    record { columns = columns; total_byte_size = pos size; num_rows = pos rows; file_offset = pos start; total_compressed_size = pos size; ordinal = ordinal_of i }
 
 abbrev pub created_by : List ℕ
 created_by = codes "Arrow2 - Native Rust implementation of Arrow"
@@ -242,17 +286,13 @@ abbrev pub version_number : Version → ℕ
 version_number V1 = 1
 version_number V2 = 2
 
--- the tree in preorder, behind the root
-abbrev pub elements_of : Schema → Values
-elements_of tree = values_of (tree_root tree ∷ list_map element_value (preorder_of tree.fields))
-
-abbrev pub footer_value : Version → Schema → List Key → List OutGroup → List Value → Value
-footer_value version tree keys groups values =
-    struct
-    (at 1 (i32 (version_number version))
-    (at 2 (list 12 (elements_of tree))
-    (at 3 (i64 (sum_by (λ g. g.rows) groups))
-    (at 4 (structs values)
-    (at_some 5 (keys_value keys)
-    (at 6 (binary created_by)
-    (at 7 (structs (list_map (λ l. one 1 empty) (columns_of tree))) no_fields)))))))
+abbrev pub footer_record : Version → Schema → List Key → List OutGroup → List RowGroup → FileMetaData
+footer_record version tree keys groups row_groups =
+    record {
+      version = pos (version_number version);
+      schema = tree;
+      num_rows = pos (sum_by (λ g. g.rows) groups);
+      row_groups = row_groups;
+      keys = keys;
+      created_by = created_by;
+    }

@@ -27,7 +27,7 @@ pub fn near_misses_are_not_carried()
     ensures { AreNotCarried }
 {}
 
-/// Nor is it packed itself, nor is the written one with a byte too many.
+/// Nor is it packed itself, nor is the written one with a byte too many, or with a list's size or a header's number in a longer spelling.
 pub fn near_misses_are_not_packed()
     ensures { AreNotPacked }
 {}

@@ -1,6 +1,7 @@
 //! What the definitions promise of themselves.
 
 ghost use Rattle.pq_files.specs.Excluded.{ReasonsExclude};
+ghost use Rattle.pq_files.specs.FooterRoom.{RoomsArePlanned};
 ghost use Rattle.pq_files.specs.Once.{FilesAreUnique, PagesAreUnique, StoredValuesAreUnique};
 ghost use Rattle.pq_files.specs.Packed.{WrittenFilesArePacked};
 
@@ -27,4 +28,9 @@ pub fn stored_values_are_unique()
 /// Where a reason of the footer stands, the bytes carry nothing; where one of a page stands, it holds no triples.
 pub fn reasons_exclude()
     ensures { ReasonsExclude }
+{}
+
+/// The room of a packed file's footer is the one that was counted before its places were known; it has a short name of its writer, and few encodings a chunk.
+pub fn rooms_are_planned()
+    ensures { RoomsArePlanned }
 {}

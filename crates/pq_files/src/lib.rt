@@ -10,6 +10,6 @@ pub use examples::{
     reasons_are_worked, written_file_is_packed,
 };
 pub use laws::{
-    files_are_unique, pages_are_unique, reasons_exclude, stored_values_are_unique,
-    written_files_are_packed,
+    files_are_unique, pages_are_unique, reasons_exclude, rooms_are_planned,
+    stored_values_are_unique, written_files_are_packed,
 };

@@ -22,12 +22,3 @@ pub use report::Report;
 pub use row_file::{MemorySink, PlainSink, Sink, SinkFault, StdSink, push_all};
 pub use source::{Failed, Source};
 pub use streams::StdSource;
-
-#[cfg(test)]
-mod absent_tests;
-#[cfg(test)]
-mod form_tests;
-#[cfg(test)]
-mod large_tests;
-#[cfg(test)]
-mod tests;

@@ -1,22 +1,24 @@
 -- Parts of delta packing.
-use Rattle.std.proofs.Common.{◌≡◌, ◌⊎◌, ℕ, suc, ◌+◌, ◌-◌, ◌*◌, ◌/◌, ◌^◌, ◌<◌, ◌≤◌, ℤ, pos, negsuc, ◌+ℤ◌, SFits, List, [], ◌∷◌, ◌++◌, length, take, drop, get_or, map, replicate, All, Contains, false, refl, sym, ap, subst, ◌∙◌, inl, inr, arith, append-nil, append_assoc}
+use Rattle.std.proofs.Common.{◌≡◌, ◌⊎◌, ℕ, suc, ◌+◌, ◌-◌, ◌*◌, ◌/◌, ◌^◌, ◌<◌, ◌≤◌, ℤ, pos, negsuc, ◌+ℤ◌, SFits, List, [], ◌∷◌, ◌++◌, length, take, drop, min, get_or, map, replicate, All, Contains, refl, sym, ap, subst, ◌∙◌, inl, inr, arith, append_assoc}
 use Rattle.std.proofs.lemmas.Bool.{cases_lt}
 use Rattle.std.proofs.lemmas.Nat.{mul-le}
 use Rattle.std.proofs.lemmas.List.{length-append, length-map, length-replicate, length-take, length-drop, take_all, drop_all, take-append-drop, get_or_default, get_or-map}
+use Rattle.std.proofs.lemmas.List.Elements.{All-take, All-drop}
 use Rattle.std.proofs.lemmas.Int.{ints}
-use Rattle.std.specs.Int.{w64}
-use Rattle.pq_numbers.specs.Bits.{unpacked}
+use Rattle.std.specs.Int.{Width}
+use mir.Syntax.{w8, w16, w32, w64, w128}
+use mir.Val.{bits}
+use Rattle.pq_numbers.specs.Bits.{digits_of, unpacked}
 use Rattle.pq_numbers.specs.Texts.{number_of}
 use Rattle.pq_numbers.specs.Varint.{varint}
 use Rattle.pq_numbers.specs.Zigzag.{zigzag}
-use Rattle.pq_numbers.proofs.Digits.{length-digits, unpacked-append}
-use Rattle.pq_numbers.proofs.Signed.{is_signed}
 use Rattle.pq_numbers.proofs.Writes.{is_number}
-use Rattle.pq_runs.specs.Delta.{Miniblocks, no_more, whole, last, Blocks}
-use Rattle.pq_runs.specs.Delta as grammar
-use Rattle.pq_runs.specs.DeltaWriting.{IsLeastWidth, AreWidths, LeastBlocks, IsBlock}
-use Rattle.pq_runs.specs.DeltaWriting as writing
-use Rattle.pq_runs.specs.Packing.{ArePacked}
+use Rattle.pq_runs.specs.DeltaWriting.{AreWidths, IsBlock}
+use Rattle.pq_runs.specs.Packing.{ArePacked, IsLeastWidth}
+use Rattle.pq_runs.specs.Words.{word_of}
+use Rattle.pq_runs.specs.WrittenDelta.{WrittenMiniblocks, miniblock, WrittenBlocks}
+use Rattle.pq_runs.specs.WrittenDelta as writing
+use Rattle.pq_runs.proofs.Filled.{number_of-zeros, digits-filled}
 
 pub take_short : {A : Type 0} (n : ℕ) (xs : List A) → length xs < n → xs ≡ take n xs
 take_short n xs lt = sym (take_all n xs (omega (arith, lt)))
@@ -50,59 +52,97 @@ fit_there w part xs e h = subst (λ (ys : List ℕ). All (λ v. v < 2 ^ w) ys) e
 pub least_there : (w : ℕ) (part xs : List ℕ) → part ≡ xs → IsLeastWidth w part → IsLeastWidth w xs
 least_there w part xs e h = subst (λ (ys : List ℕ). IsLeastWidth w ys) e h
 
-pub miniblock : (w count : ℕ) (numbers text text' : List ℕ) → length numbers ≤ 32 → ArePacked w numbers text → count ≡ 4 * w - (w * length numbers + 7) / 8 → text' ≡ text ++ replicate count 0 → (8 * length text' ≡ w * 32) × (unpacked w (length numbers) text' ≡ numbers)
-miniblock w count numbers text text' few p is e =
+-- a miniblock that is filled up with zeros
+pub miniblock_is : (w count : ℕ) (numbers text text' : List ℕ) → length numbers ≤ 32 → All (λ v. v < 2 ^ w) numbers → ArePacked w numbers text → count ≡ 4 * w - (w * length numbers + 7) / 8 → text' ≡ text ++ replicate count 0 → (length text' ≡ 4 * w) × (unpacked w 32 text' ≡ numbers ++ replicate (32 - length numbers) 0)
+miniblock_is w count numbers text text' few below p is e =
     let most : w * length numbers ≤ w * 32 = mul-le w (length numbers) w 32 (omega arith) few in
-    let size : length text' ≡ length text + count = ap length e ∙ length-append text (replicate count 0) ∙ ap (λ (k : ℕ). length text + k) (length-replicate count 0) in (
+    let size : length text' ≡ length text + count = ap length e ∙ length-append text (replicate count 0) ∙ ap (λ (k : ℕ). length text + k) (length-replicate count 0) in
+    let value : number_of text' ≡ word_of w numbers = ap number_of e ∙ number_of-zeros text count ∙ p.value in
+    let all : length numbers + (32 - length numbers) ≡ 32 = omega (arith, few) in (
       omega (arith, size, p.size, is, most),
-      ap (unpacked w (length numbers)) e ∙ unpacked-append w (length numbers) text (replicate count 0) (omega (arith, p.size)) ∙ p.unpacks,
+      ap (λ (n : ℕ). digits_of (2 ^ w) n (number_of text')) (sym all) ∙ ap (λ (x : ℕ). digits_of (2 ^ w) (length numbers + (32 - length numbers)) x) value ∙ digits-filled w numbers (32 - length numbers) below,
     )
 
 pub first_widths : (ws ns : List ℕ) (d : ℕ) → 0 < length ws → AreWidths ws ns → (get_or ws 0 d ≤ 64) × IsLeastWidth (get_or ws 0 d) (take 32 ns) × AreWidths (drop 1 ws) (drop 32 ns)
 first_widths [] ns d some h = absurd (omega (arith, some))
 first_widths (w ∷ ws) ns d some h = h
 
-no_numbers : (ws text ns : List ℕ) → Miniblocks false 32 ws text ns → length ns ≡ 0 → text ≡ []
-no_numbers _ _ _ (no_more ws) e = refl
-no_numbers _ _ _ (whole w ws body rest ns fits size more) e = absurd (omega (arith, e, length-append (unpacked w 32 body) ns, length-digits (2 ^ w) 32 (number_of body)))
-no_numbers _ _ _ (last w k ws body fits some within enough size end) e = absurd (omega (arith, e, some, length-digits (2 ^ w) k (number_of body)))
+pub no_numbers : (most : ℕ) (ws text ns : List ℕ) → WrittenMiniblocks most ws text ns → length ns ≡ 0 → text ≡ []
+no_numbers most _ _ _ (writing.no_more n) e = refl
+no_numbers most _ _ _ (miniblock w k ws body rest ns more some fits least size is end others) e = absurd (omega (arith, e, some, length-append ns more))
 
-pub mini_join : (w : ℕ) (ws text text' ns : List ℕ) → 0 < length ns → w ≤ 64 → 8 * length text ≡ w * 32 → unpacked w (length (take 32 ns)) text ≡ take 32 ns → Miniblocks false 32 ws text' (drop 32 ns) → length text' ≤ 8 * length (drop 32 ns) + 248 → Miniblocks false 32 (w ∷ ws) (text ++ text') ns × (length (text ++ text') ≤ 8 * length ns + 248)
-mini_join w ws text text' ns some fits size unpacks more short =
-    elim (cases_lt (length ns) 32) [
-      | inl lt ↦
-          let none : drop 32 ns ≡ [] = drop_all 32 ns (omega (arith, lt)) in
-          let empty : text' ≡ [] = no_numbers ws text' (drop 32 ns) more (omega (arith, length-drop 32 ns, lt)) in
-          let all : take 32 ns ≡ ns = take_all 32 ns (omega (arith, lt)) in
-          let n : length (take 32 ns) ≡ length ns = ap length all in
-          let is : unpacked w (length ns) text ≡ ns = ap (λ (k : ℕ). unpacked w k text) (sym n) ∙ unpacks ∙ all in
-          let le : w * length ns ≤ w * 32 = mul-le w (length ns) w 32 (omega arith) (omega (arith, lt)) in
-          let here : Miniblocks false 32 (w ∷ ws) text (unpacked w (length ns) text) = last w (length ns) ws text fits some (omega (arith, lt)) (omega (arith, size, le)) (omega (arith, size)) (inr size) in
-          let join : text ++ text' ≡ text = ap (λ (t : List ℕ). text ++ t) empty ∙ append-nil text in (
-            subst (λ (t : List ℕ). Miniblocks false 32 (w ∷ ws) t ns) (sym join) (subst (λ (ms : List ℕ). Miniblocks false 32 (w ∷ ws) text ms) is here),
-            omega (arith, ap length join, size, fits, some),
-          )
-      | inr le ↦
-          let n : length (take 32 ns) ≡ 32 = omega (arith, length-take 32 ns, le) in
-          let is : unpacked w 32 text ++ drop 32 ns ≡ ns = ap (λ (k : ℕ). unpacked w k text ++ drop 32 ns) (sym n) ∙ ap (λ (t : List ℕ). t ++ drop 32 ns) unpacks ∙ take-append-drop 32 ns in (
-            subst (λ (ms : List ℕ). Miniblocks false 32 (w ∷ ws) (text ++ text') ms) is (whole w ws text text' (drop 32 ns) fits size more),
-            omega (arith, length-append text text', size, fits, short, length-drop 32 ns, le),
-          )
+-- where there are no numbers all widths are 0
+pub zero_widths : (ws : List ℕ) → AreWidths ws [] → ws ≡ replicate (length ws) 0
+zero_widths [] h = refl
+zero_widths (w ∷ ws) h =
+    let none : w ≡ 0 = omega (arith, h.1.least 0 (λ k d lt. absurd (omega (arith, lt)))) in
+    ap (λ (v : ℕ). v ∷ ws) none ∙ ap (λ (t : List ℕ). 0 ∷ t) (zero_widths ws h.2)
+
+pub none_there : (most : ℕ) (ws ns : List ℕ) → AreWidths ws ns → length ns ≡ 0 → WrittenMiniblocks most ws [] ns
+none_there most ws (n ∷ ns) h e = absurd (omega (arith, e))
+none_there most ws [] h e = subst (λ (t : List ℕ). WrittenMiniblocks most t [] []) (sym (zero_widths ws h)) (writing.no_more (length ws))
+
+mini_join : (most w : ℕ) (ws text text' ns : List ℕ) → 0 < length ns → IsLeastWidth w (take 32 ns) → length text ≡ 4 * w → unpacked w 32 text ≡ take 32 ns ++ replicate (32 - length (take 32 ns)) 0 → WrittenMiniblocks most ws text' (drop 32 ns) → All (λ m. m < 2 ^ most) ns → WrittenMiniblocks most (w ∷ ws) (text ++ text') ns
+mini_join most w ws text text' ns some least size unpacks more below =
+    let n : length (take 32 ns) ≡ min 32 (length ns) = length-take 32 ns in
+    let fits : w ≤ most = least.least most (All-take (λ m. m < 2 ^ most) 32 ns below) in
+    let end : (32 - length (take 32 ns) ≡ 0) ⊎ (drop 32 ns ≡ []) = elim (cases_lt (length ns) 32) [
+      | inl lt ↦ inr (drop_all 32 ns (omega (arith, lt)))
+      | inr le ↦ inl (omega (arith, n, le))
+    ] in
+    subst (λ (ms : List ℕ). WrittenMiniblocks most (w ∷ ws) (text ++ text') ms) (take-append-drop 32 ns)
+    (miniblock w (32 - length (take 32 ns)) ws text text' (take 32 ns) (drop 32 ns) (omega (arith, n, some)) fits least size unpacks end more)
+
+pub mini_step : (most w : ℕ) (widths numbers first rest text text' : List ℕ) → 1 ≤ length widths → AreWidths widths numbers → 0 < length numbers → w ≡ get_or widths 0 0 → first ≡ take 32 numbers → rest ≡ drop 32 numbers → length text ≡ 4 * w → unpacked w 32 text ≡ first ++ replicate (32 - length first) 0 → WrittenMiniblocks most (drop 1 widths) text' rest → All (λ m. m < 2 ^ most) numbers → WrittenMiniblocks most widths (text ++ text') numbers
+mini_step most w [] numbers first rest text text' one fit some e f r size unpacks more below = absurd (omega (arith, one))
+mini_step most w (v ∷ vs) numbers first rest text text' one fit some e f r size unpacks more below =
+    let unpacks' = subst (λ (t : List ℕ). unpacked w 32 text ≡ t ++ replicate (32 - length t) 0) f unpacks in
+    let more' = subst (λ (t : List ℕ). WrittenMiniblocks most vs text' t) r more in
+    mini_join most v vs text text' numbers some fit.1 (size ∙ ap (λ (k : ℕ). 4 * k) e) (subst (λ (k : ℕ). unpacked k 32 text ≡ take 32 numbers ++ replicate (32 - length (take 32 numbers)) 0) e unpacks') more' below
+
+-- those behind the first 32 are below it too
+pub below_rest : (most : ℕ) (numbers rest : List ℕ) → rest ≡ drop 32 numbers → All (λ m. m < 2 ^ most) numbers → All (λ m. m < 2 ^ most) rest
+below_rest most numbers rest e h = subst (λ (ns : List ℕ). All (λ m. m < 2 ^ most) ns) (sym e) (All-drop (λ m. m < 2 ^ most) 32 numbers h)
+
+-- where there are none, all are below
+pub all_none : (most : ℕ) (ns : List ℕ) → length ns ≡ 0 → All (λ m. m < 2 ^ most) ns
+all_none most ns e = λ k d lt. absurd (omega (arith, e, lt))
+
+-- as many bytes, and those of the others
+pub mini_size : (w : ℕ) (numbers rest text text' : List ℕ) → w ≤ 64 → 0 < length numbers → rest ≡ drop 32 numbers → length text ≡ 4 * w → (length rest ≡ 0 → text' ≡ []) → length text' ≤ 8 * length rest + 248 → length (text ++ text') ≤ 8 * length numbers + 248
+mini_size w numbers rest text text' fits some r size none short =
+    let n : length rest ≡ length numbers - 32 = ap length r ∙ length-drop 32 numbers in
+    elim (cases_lt 0 (length rest)) [
+      | inl more ↦ omega (arith, length-append text text', size, fits, short, n, more)
+      | inr last ↦ let empty : text' ≡ [] = none (omega (arith, last)) in omega (arith, length-append text text', ap length empty, size, fits, some)
     ]
-
-pub mini_step : (w : ℕ) (widths numbers first rest text text' : List ℕ) → 1 ≤ length widths → AreWidths widths numbers → 0 < length numbers → w ≡ get_or widths 0 0 → first ≡ take 32 numbers → rest ≡ drop 32 numbers → 8 * length text ≡ w * 32 → unpacked w (length first) text ≡ first → Miniblocks false 32 (drop 1 widths) text' rest → length text' ≤ 8 * length rest + 248 → Miniblocks false 32 widths (text ++ text') numbers × (length (text ++ text') ≤ 8 * length numbers + 248)
-mini_step w [] numbers first rest text text' one fit some e f r size unpacks more short = absurd (omega (arith, one))
-mini_step w (v ∷ vs) numbers first rest text text' one fit some e f r size unpacks more short =
-    let unpacks' = subst (λ (t : List ℕ). unpacked w (length t) text ≡ t) f unpacks in
-    let more' = subst (λ (t : List ℕ). Miniblocks false 32 vs text' t) r more in
-    let short' = subst (λ (t : List ℕ). length text' ≤ 8 * length t + 248) r short in
-    mini_join v vs text text' numbers some fit.0 (size ∙ ap (λ (k : ℕ). k * 32) e) (subst (λ (k : ℕ). unpacked k (length (take 32 numbers)) text ≡ take 32 numbers) e unpacks') more' short'
 
 -- ---- a block
 
-pub zigzag_fits : (z : ℤ) → SFits w64 z → zigzag z < 2 ^ 64
-zigzag_fits (pos n) f = omega (arith, ints)
-zigzag_fits (negsuc n) f = omega (arith, ints)
+-- numbers of at most 64 bits in zigzag
+pub zigzag_fits : (v : Width) (z : ℤ) → bits v ≤ 64 → SFits v z → zigzag z < 2 ^ 64
+zigzag_fits w8 (pos n) h f = omega (arith, ints)
+zigzag_fits w8 (negsuc n) h f = omega (arith, ints)
+zigzag_fits w16 (pos n) h f = omega (arith, ints)
+zigzag_fits w16 (negsuc n) h f = omega (arith, ints)
+zigzag_fits w32 (pos n) h f = omega (arith, ints)
+zigzag_fits w32 (negsuc n) h f = omega (arith, ints)
+zigzag_fits w64 (pos n) h f = omega (arith, ints)
+zigzag_fits w64 (negsuc n) h f = omega (arith, ints)
+zigzag_fits w128 z h f = absurd (omega (arith, h))
+
+-- how far a number is above another
+rise_below : (v : Width) (least : ℤ) (m : ℕ) → SFits v least → SFits v (least +ℤ pos m) → m < 2 ^ bits v
+rise_below w8 least m f g = omega (arith, ints)
+rise_below w16 least m f g = omega (arith, ints)
+rise_below w32 least m f g = omega (arith, ints)
+rise_below w64 least m f g = omega (arith, ints)
+rise_below w128 least m f g = omega (arith, ints)
+
+rises_below : (v : Width) (least : ℤ) (ns : List ℕ) → SFits v least → All (SFits v) (map (λ m. least +ℤ pos m) ns) → All (λ m. m < 2 ^ bits v) ns
+rises_below v least ns f h = all_of (λ m. m < 2 ^ bits v) ns 0 (λ k lt.
+    let there : get_or (map (λ m. least +ℤ pos m) ns) k least ≡ least +ℤ pos (get_or ns k 0) = get_or-map (λ m. least +ℤ pos m) ns k 0 least lt in
+    rise_below v least (get_or ns k 0) f (subst (λ (z : ℤ). SFits v z) there (h k least (rw length-map lt))))
 
 pub three_parts : (out out1 out2 out3 a b c : List ℕ) → out1 ≡ out ++ a → out2 ≡ out1 ++ b → out3 ≡ out2 ++ c → out3 ≡ out ++ (a ++ (b ++ c))
 three_parts out out1 out2 out3 a b c e f g =
@@ -120,23 +160,19 @@ has_zero least ns ds are one =
     let n : length ns ≡ length ds = sym (length-map ns (λ m. least +ℤ pos m)) ∙ ap length are in
     (one.0, omega (arith, n, one.1), zero_at least ns ds one.0 are (omega (arith, n, one.1)) one.2)
 
--- the blocks that are written are blocks of the grammar
-pub blocks_of : (text : List ℕ) (ds : List ℤ) → LeastBlocks text ds → Blocks false 4 32 text ds
-blocks_of _ _ writing.no_more = grammar.no_more
-blocks_of _ _ (writing.block widths body rest least ns more small four range one fit minis full others) =
-    grammar.block (varint (zigzag least)) widths body rest least ns more (is_signed (2 ^ 64) least (omega arith) small) four (omega (arith, one.1)) minis full (blocks_of rest more others)
-
-pub is_block : (least : ℤ) (widths body ns : List ℕ) (ds : List ℤ) → zigzag least < 2 ^ 64 → length widths ≡ 4 → All (SFits w64) ds → Contains ds least → AreWidths widths ns → map (λ m. least +ℤ pos m) ns ≡ ds → Miniblocks false 32 widths body ns → length body ≤ 8 * length ns + 248 → IsBlock (varint (zigzag least) ++ (widths ++ body)) ds
-is_block least widths body ns ds small four range one fit are minis short =
+pub is_block : (v : Width) (least : ℤ) (widths body ns : List ℕ) (ds : List ℤ) → length widths ≡ 4 → All (SFits v) ds → Contains ds least → map (λ m. least +ℤ pos m) ns ≡ ds → ((most : ℕ) → All (λ m. m < 2 ^ most) ns → WrittenMiniblocks most widths body ns) → zigzag least < 2 ^ 64 → length body ≤ 8 * length ns + 248 → IsBlock v (varint (zigzag least) ++ (widths ++ body)) ds
+is_block v least widths body ns ds four range one are minis small short =
     let head : List ℕ = varint (zigzag least) in
     let number = is_number (zigzag least) small in
     let n : length ns ≡ length ds = sym (length-map ns (λ m. least +ℤ pos m)) ∙ ap length are in
+    let fits : SFits v least = subst (λ (z : ℤ). SFits v z) one.2 (range one.0 least one.1) in
+    let range' : All (SFits v) (map (λ m. least +ℤ pos m) ns) = subst (λ (zs : List ℤ). All (SFits v) zs) (sym are) range in
     record {
       before = λ rest more full blocks.
-          let one : LeastBlocks (head ++ (widths ++ (body ++ rest))) (map (λ m. least +ℤ pos m) ns ++ more) =
-          writing.block widths body rest least ns more small four (subst (λ (zs : List ℤ). All (SFits w64) zs) (sym are) range) (has_zero least ns ds are one) fit minis (either full (λ e. e) (λ e. omega (arith, n, e))) blocks in
+          let here : WrittenBlocks v (head ++ (widths ++ (body ++ rest))) (map (λ m. least +ℤ pos m) ns ++ more) =
+          writing.block widths body rest least ns more fits range' (has_zero least ns ds are one) four (minis (bits v) (rises_below v least ns fits range')) (either full (λ e. e) (λ e. omega (arith, n, e))) blocks in
           let text : (head ++ (widths ++ body)) ++ rest ≡ head ++ (widths ++ (body ++ rest)) = append_assoc head (widths ++ body) rest ∙ ap (λ (t : List ℕ). head ++ t) (append_assoc widths body rest) in
-          subst (λ (t : List ℕ). LeastBlocks t (ds ++ more)) (sym text) (subst (λ (zs : List ℤ). LeastBlocks (head ++ (widths ++ (body ++ rest))) (zs ++ more)) are one);
+          subst (λ (t : List ℕ). WrittenBlocks v t (ds ++ more)) (sym text) (subst (λ (zs : List ℤ). WrittenBlocks v (head ++ (widths ++ (body ++ rest))) (zs ++ more)) are here);
       size = omega (arith, length-append head (widths ++ body), length-append widths body, number.short, four, short, n);
     }
   where

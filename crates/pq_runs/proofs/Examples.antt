@@ -16,6 +16,8 @@ use Rattle.pq_runs.specs.Hybrid.{given, Item, hybrid, runs_items}
 use Rattle.pq_runs.specs.Runs.{Runs, no_more, copies, last_copies, last_groups}
 use Rattle.pq_runs.specs.Spelled.{Spelled}
 use Rattle.pq_runs.proofs.Complete.{reads}
+use Rattle.pq_runs.proofs.WrittenDeltaExamples.{written_deltas_are_worked}
+use Rattle.pq_runs.proofs.WrittenExamples.{written_runs_are_worked}
 
 -- ---- runs
 
@@ -293,4 +295,4 @@ deltas_are_worked = record {
 }
 
 pub are_worked : AreWorked
-are_worked = record { runs = runs_are_worked; deltas = deltas_are_worked }
+are_worked = record { runs = runs_are_worked; written_runs = written_runs_are_worked; deltas = deltas_are_worked; written_deltas = written_deltas_are_worked }

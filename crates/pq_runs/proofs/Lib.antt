@@ -1,5 +1,4 @@
 pub mod Complete
-pub mod Copied
 pub mod Decoding
 pub mod DeltaComplete
 pub mod DeltaParts
@@ -7,10 +6,20 @@ pub mod DeltaSound
 pub mod DeltaSteps
 pub mod Examples
 pub mod Fields
+pub mod Filled
 pub mod Fuel
+pub mod Groups
 pub mod Items
+pub mod Kept
 pub mod Packs
+pub mod Settling
+pub mod Short
 pub mod Sound
 pub mod Steps
-pub mod Short
 pub mod Taken
+pub mod Tight
+pub mod WrittenDeltaExamples
+pub mod WrittenDeltas
+pub mod WrittenExamples
+pub mod WrittenFront
+pub mod WrittenLaws

@@ -8,8 +8,10 @@ use Rattle.pq_runs.specs.Listed.{bit}
 use Rattle.pq_numbers.specs.Bits.{digits_of}
 use Rattle.pq_numbers.specs.Texts.{number_of}
 use Rattle.pq_runs.specs.Packing.{HoldsIn, ArePacked}
+use Rattle.pq_runs.specs.Words.{word_of}
 use Rattle.pq_runs.specs.Writing.{Extends}
 use Rattle.pq_numbers.proofs.Digits.{number_of-append}
+use Rattle.pq_numbers.proofs.LittleEndianBytes.{four_bytes, eight_bytes}
 
 number_of-one : (b : ℕ) → number_of (b ∷ []) ≡ b
 number_of-one b = omega arith
@@ -64,45 +66,42 @@ shifts_end start out bits held more left h s =
 
 -- ---- numbers
 
--- the number that packed numbers make
-unfoldable pub value_of : ℕ → List ℕ → ℕ
-value_of w [] = 0
-value_of w (x ∷ xs) = x + 2 ^ w * value_of w xs
-
-value_of-push : (w : ℕ) (xs : List ℕ) (v : ℕ) → value_of w (xs ++ v ∷ []) ≡ value_of w xs + 2 ^ (w * length xs) * v
-unfolding value_of
-value_of-push w [] v =
+pub word_of-append : (w : ℕ) (xs ys : List ℕ) → word_of w (xs ++ ys) ≡ word_of w xs + 2 ^ (w * length xs) * word_of w ys
+word_of-append w [] ys =
     let z : w * length {A = ℕ} [] ≡ 0 = omega arith in
     let p : 2 ^ (w * length {A = ℕ} []) ≡ 1 = ap (λ (k : ℕ). 2 ^ k) z in
-    omega (arith, ap (λ (q : ℕ). q * v) p)
-value_of-push w (x ∷ xs) v =
+    omega (arith, ap (λ (q : ℕ). q * word_of w ys) p)
+word_of-append w (x ∷ xs) ys =
     let e : w * suc (length xs) ≡ w + w * length xs = omega arith in
     let p : 2 ^ (w * suc (length xs)) ≡ 2 ^ w * 2 ^ (w * length xs) = ap (λ (k : ℕ). 2 ^ k) e ∙ pow-add 2 w (w * length xs) in
-    ap (λ (y : ℕ). x + 2 ^ w * y) (value_of-push w xs v) ∙ spread (2 ^ w) (value_of w xs) (2 ^ (w * length xs)) ∙ ap (λ (q : ℕ). x + 2 ^ w * value_of w xs + q * v) (sym p)
+    ap (λ (y : ℕ). x + 2 ^ w * y) (word_of-append w xs ys) ∙ spread (2 ^ w) (word_of w xs) (2 ^ (w * length xs)) ∙ ap (λ (q : ℕ). x + 2 ^ w * word_of w xs + q * word_of w ys) (sym p)
   where
-    spread : (a b c : ℕ) → x + a * (b + c * v) ≡ x + a * b + a * c * v
+    spread : (a b c : ℕ) → x + a * (b + c * word_of w ys) ≡ x + a * b + a * c * word_of w ys
     spread a b c = omega arith
 
-digits-value : (w : ℕ) (xs : List ℕ) → All (λ v. v < 2 ^ w) xs → digits_of (2 ^ w) (length xs) (value_of w xs) ≡ xs
-unfolding value_of
-digits-value w [] h = refl
-digits-value w (x ∷ xs) h =
+word_of-push : (w : ℕ) (xs : List ℕ) (v : ℕ) → word_of w (xs ++ v ∷ []) ≡ word_of w xs + 2 ^ (w * length xs) * v
+word_of-push w xs v =
+    let one : v + 2 ^ w * 0 ≡ v = omega arith in
+    word_of-append w xs (v ∷ []) ∙ ap (λ (y : ℕ). word_of w xs + 2 ^ (w * length xs) * y) one
+
+pub digits-word_of : (w : ℕ) (xs : List ℕ) → All (λ v. v < 2 ^ w) xs → digits_of (2 ^ w) (length xs) (word_of w xs) ≡ xs
+digits-word_of w [] h = refl
+digits-word_of w (x ∷ xs) h =
     let first : x < 2 ^ w = h 0 0 (omega arith) in
     let others : All (λ v. v < 2 ^ w) xs = λ k d lt. h (suc k) d (omega (arith, lt)) in
-    let low : (x + 2 ^ w * value_of w xs) % 2 ^ w ≡ x = add-mul-mod_self_left x (2 ^ w) (value_of w xs) ∙ mod-eq_of_lt first in
-    let high : (x + 2 ^ w * value_of w xs) / 2 ^ w ≡ value_of w xs = add-mul-div_left x (value_of w xs) (pow_pos w) ∙ ap (λ (y : ℕ). y + value_of w xs) (div-eq_of_lt first) ∙ omega arith in
-    rw (low, high) (ap (λ (t : List ℕ). x ∷ t) (digits-value w xs others))
+    let low : (x + 2 ^ w * word_of w xs) % 2 ^ w ≡ x = add-mul-mod_self_left x (2 ^ w) (word_of w xs) ∙ mod-eq_of_lt first in
+    let high : (x + 2 ^ w * word_of w xs) / 2 ^ w ≡ word_of w xs = add-mul-div_left x (word_of w xs) (pow_pos w) ∙ ap (λ (y : ℕ). y + word_of w xs) (div-eq_of_lt first) ∙ omega arith in
+    rw (low, high) (ap (λ (t : List ℕ). x ∷ t) (digits-word_of w xs others))
 
 -- the numbers so far: what has been written since the start, and what is held of the next byte
 pub record Packs (w : ℕ) (start out xs : List ℕ) (bits held : ℕ) : Type 0 where
   pub text : List ℕ
   pub parts : out ≡ start ++ text
   pub size : 8 * length text + bits ≡ w * length xs
-  pub value : number_of text + 2 ^ (8 * length text) * held ≡ value_of w xs
+  pub value : number_of text + 2 ^ (8 * length text) * held ≡ word_of w xs
   pub small : held < 2 ^ bits
 
 pub packs_begin : (w : ℕ) (start : List ℕ) → Packs w start start [] 0 0
-unfolding value_of
 packs_begin w start = record {
   text = [];
   parts = sym (append-nil start);
@@ -130,7 +129,7 @@ packs_more w start out out' xs bits held v text rest left s e h =
       text = s.text ++ text;
       parts = e ∙ ap (λ (t : List ℕ). t ++ text) s.parts ∙ append_assoc start s.text text;
       size = ap (λ (j : ℕ). j + rest) bytes ∙ omega (arith, h.size, s.size, more) ∙ ap (λ (j : ℕ). w * j) (sym k);
-      value = values (2 ^ (8 * length s.text)) (2 ^ (8 * length text)) (2 ^ (8 * length (s.text ++ text))) (2 ^ bits) (2 ^ (w * length xs)) (number_of s.text) (number_of text) (number_of (s.text ++ text)) (value_of w xs) (value_of w (xs ++ v ∷ [])) power place (number_of-append s.text text) (value_of-push w xs v) s.value h.value;
+      value = values (2 ^ (8 * length s.text)) (2 ^ (8 * length text)) (2 ^ (8 * length (s.text ++ text))) (2 ^ bits) (2 ^ (w * length xs)) (number_of s.text) (number_of text) (number_of (s.text ++ text)) (word_of w xs) (word_of w (xs ++ v ∷ [])) power place (number_of-append s.text text) (word_of-push w xs v) s.value h.value;
       small = h.small;
     }
   where
@@ -145,12 +144,13 @@ packs_more w start out out' xs bits held v text rest left s e h =
 
 pub packs_end : (w : ℕ) (start out out' xs : List ℕ) (bits held : ℕ) (text : List ℕ) → All (λ v. v < 2 ^ w) xs → Packs w start out xs bits held → out' ≡ out ++ text → length text ≡ (bits + 7) / 8 → number_of text ≡ held → (whole : List ℕ) × (out' ≡ start ++ whole) × ArePacked w xs whole
 packs_end w start out out' xs bits held text below s e size is =
-    let value : number_of (s.text ++ text) ≡ value_of w xs = number_of-append s.text text ∙ ap (λ (x : ℕ). number_of s.text + 2 ^ (8 * length s.text) * x) is ∙ s.value in (
+    let value : number_of (s.text ++ text) ≡ word_of w xs = number_of-append s.text text ∙ ap (λ (x : ℕ). number_of s.text + 2 ^ (8 * length s.text) * x) is ∙ s.value in (
       s.text ++ text,
       e ∙ ap (λ (t : List ℕ). t ++ text) s.parts ∙ append_assoc start s.text text,
       record {
         size = length-append s.text text ∙ omega (arith, s.size, size);
-        unpacks = ap (λ (x : ℕ). digits_of (2 ^ w) (length xs) x) value ∙ digits-value w xs below;
+        unpacks = ap (λ (x : ℕ). digits_of (2 ^ w) (length xs) x) value ∙ digits-word_of w xs below;
+        value = value;
       },
     )
 
@@ -160,15 +160,12 @@ one_word bits held word left text some most small low high is =
     let four : length text ≡ 4 = ap length is in
     let e : bits ≡ 32 + bits % 32 = omega arith in
     let power : 2 ^ bits ≡ 2 ^ 32 * 2 ^ (bits % 32) = ap (λ (k : ℕ). 2 ^ k) e ∙ pow-add 2 32 (bits % 32) in
-    let number : number_of text ≡ word = ap number_of is ∙ word_bytes word (omega (arith, low)) in
+    let number : number_of text ≡ word = ap number_of is ∙ four_bytes word (omega (arith, low)) in
     record {
       size = omega (arith, four, e);
       value = ap (λ (k : ℕ). number_of text + 2 ^ (8 * k) * left) four ∙ omega (arith, number, low, high);
       small = omega (arith, high, small, power);
     }
-  where
-    word_bytes : (n : ℕ) → n < 2 ^ 32 → number_of (to_le_bytes w32 n) ≡ n
-    word_bytes n h = omega arith
 
 pub no_word : (bits held : ℕ) → bits < 32 → held < 2 ^ bits → HoldsIn bits held [] (bits % 32) held
 no_word bits held few small =
@@ -181,15 +178,12 @@ two_words bits held word left text some most small low high is =
     let eight : length text ≡ 8 = ap length is in
     let e : bits ≡ 64 + bits % 64 = omega arith in
     let power : 2 ^ bits ≡ 2 ^ 64 * 2 ^ (bits % 64) = ap (λ (k : ℕ). 2 ^ k) e ∙ pow-add 2 64 (bits % 64) in
-    let number : number_of text ≡ word = ap number_of is ∙ word_bytes word (omega (arith, low)) in
+    let number : number_of text ≡ word = ap number_of is ∙ eight_bytes word (omega (arith, low)) in
     record {
       size = omega (arith, eight, e);
       value = ap (λ (k : ℕ). number_of text + 2 ^ (8 * k) * left) eight ∙ omega (arith, number, low, high);
       small = omega (arith, high, small, power);
     }
-  where
-    word_bytes : (n : ℕ) → n < 2 ^ 64 → number_of (to_le_bytes w64 n) ≡ n
-    word_bytes n h = omega arith
 
 pub no_words : (bits held : ℕ) → bits < 64 → held < 2 ^ bits → HoldsIn bits held [] (bits % 64) held
 no_words bits held few small =

@@ -1,17 +1,13 @@
 -- The steps of a writer of runs.
 use Rattle.std.proofs.Common.{◌≡◌, ℕ, zero, suc, ◌+◌, ◌-◌, ◌*◌, ◌/◌, ◌%◌, ◌^◌, ◌<◌, ◌≤◌, List, [], ◌∷◌, ◌++◌, length, replicate, refl, sym, ap, subst, ◌∙◌, arith, append-nil, append_assoc, All, Result, Ok, Err, OnOk, map, false}
 use Rattle.std.specs.Prelude.{is_err}
-use Rattle.std.proofs.lemmas.Nat.{mul-le}
 use Rattle.std.proofs.Math.Nat.{pow-le-pow_right, mod-eq_of_lt}
-use Rattle.std.proofs.lemmas.List.{length-append, length-replicate}
 use Rattle.pq_numbers.specs.Bits.{unpacked, bytes_for}
 use Rattle.pq_numbers.specs.Texts.{number_of}
+use Rattle.pq_numbers.specs.Varint.{varint}
 use Rattle.pq_runs.specs.Packing.{ArePacked}
-use Rattle.pq_runs.specs.Runs.{Runs, no_more, no_bits, copies, last_copies, groups, last_groups}
-use Rattle.pq_numbers.specs.Varint.{IsNumber, varint}
-use Rattle.pq_runs.specs.Writing.{Closed, Wrote, IsWhole, Spelling, Encoded}
-use Rattle.pq_numbers.proofs.Digits.{length-digits}
-use Rattle.pq_numbers.proofs.Writes.{digits-last, is_number, varint-size_below}
+use Rattle.pq_runs.specs.Writing.{Closed, Wrote, IsWhole, AppendsRuns, Encoded}
+use Rattle.pq_runs.specs.WrittenRuns.{WrittenRuns, no_more, no_bits, copies, groups, last_groups}
 
 -- ---- whole runs
 
@@ -19,31 +15,16 @@ pub length-zero : (xs : List ℕ) → length xs ≡ 0 → xs ≡ []
 length-zero [] e = refl
 length-zero (x ∷ xs) e = absurd (omega (arith, e))
 
--- no runs spell nothing
-nothing_spelled : (w : ℕ) (rest vs : List ℕ) → Runs w rest vs → length vs ≡ 0 → rest ≡ []
-nothing_spelled w _ _ no_more e = refl
-nothing_spelled w _ _ (no_bits n h) e = refl
-nothing_spelled w _ _ (copies m head value rest v vs number size more) e = absurd (omega (arith, e, length-append (replicate m (number_of value)) (v ∷ vs)))
-nothing_spelled w _ _ (last_copies m n head value number size some within) e = absurd (omega (arith, e, some, length-replicate n (number_of value)))
-nothing_spelled w _ _ (groups g head body rest v vs number size more) e = absurd (omega (arith, e, length-append (unpacked w (8 * g) body) (v ∷ vs)))
-nothing_spelled w _ _ (last_groups g n head body number some within enough short) e = absurd (omega (arith, e, some, length-digits (2 ^ w) n (number_of body)))
-
 closed_append : (w : ℕ) (s t xs ys : List ℕ) → Closed w s xs → Closed w t ys → Closed w (s ++ t) (xs ++ ys)
 closed_append w s t xs ys a b = λ rest vs r.
-    let both : Runs w (s ++ (t ++ rest)) (xs ++ (ys ++ vs)) = a (t ++ rest) (ys ++ vs) (b rest vs r) in
+    let both : WrittenRuns w (s ++ (t ++ rest)) (xs ++ (ys ++ vs)) = a (t ++ rest) (ys ++ vs) (b rest vs r) in
     rw (append_assoc s t rest, append_assoc xs ys vs) both
 
-closed_copies : (w m : ℕ) (head value : List ℕ) → IsNumber head (2 * m) → length value ≡ bytes_for w → 0 < m → Closed w (head ++ value) (replicate m (number_of value))
-closed_copies w m head value number size some rest [] r =
-    let none : rest ≡ [] = nothing_spelled w rest [] r refl in
-    rw (none, append-nil (head ++ value), append-nil (replicate m (number_of value))) (last_copies m m head value number size some (omega arith))
-closed_copies w m head value number size some rest (v ∷ vs) r = rw (append_assoc head value rest) (copies m head value rest v vs number size r)
+closed_copies : (w m v : ℕ) (value : List ℕ) → 0 < w → 0 < m → m < 2 ^ 63 → length value ≡ bytes_for w → number_of value ≡ v → v < 2 ^ w → Closed w (varint (2 * m) ++ value) (replicate m v)
+closed_copies w m v value bits some few size is low = λ rest vs r. rw (append_assoc (varint (2 * m)) value rest) (copies m v value rest vs bits some few size is low r)
 
-closed_groups : (w g : ℕ) (head body : List ℕ) → IsNumber head (2 * g + 1) → length body ≡ w * g → 0 < g → Closed w (head ++ body) (unpacked w (8 * g) body)
-closed_groups w g head body number size some rest [] r =
-    let none : rest ≡ [] = nothing_spelled w rest [] r refl in
-    rw (none, append-nil (head ++ body), append-nil (unpacked w (8 * g) body)) (last_groups g (8 * g) head body number (omega arith) (omega arith) (omega (arith, size)) (omega (arith, size)))
-closed_groups w g head body number size some rest (v ∷ vs) r = rw (append_assoc head body rest) (groups g head body rest v vs number size r)
+closed_groups : (w g : ℕ) (body : List ℕ) → 0 < w → 0 < g → g < 2 ^ 63 → length body ≡ w * g → Closed w (varint (2 * g + 1) ++ body) (unpacked w (8 * g) body)
+closed_groups w g body bits some few size = λ rest vs r. rw (append_assoc (varint (2 * g + 1)) body rest) (groups g body rest vs bits some few size r)
 
 -- ---- the steps
 
@@ -54,7 +35,6 @@ wrote_begin w start = record {
   parts = sym (append-nil start);
   all = refl;
   closed = λ rest vs r. r;
-  size = omega arith;
 }
 
 pub wrote_push : (w : ℕ) (start out pending xs : List ℕ) (v : ℕ) → Wrote w start out pending xs → Wrote w start out (pending ++ v ∷ []) (xs ++ v ∷ [])
@@ -64,79 +44,63 @@ wrote_push w start out pending xs v s = record {
   parts = s.parts;
   all = sym (append_assoc s.done pending (v ∷ [])) ∙ ap (λ (t : List ℕ). t ++ v ∷ []) s.all;
   closed = s.closed;
-  size = s.size;
 }
 
-more_runs : (w : ℕ) (start out out' pending xs text ys : List ℕ) → Wrote w start out pending xs → out' ≡ out ++ text → pending ≡ [] → Closed w text ys → 8 * length text ≤ (w + 1) * length ys → Wrote w start out' [] (xs ++ ys)
-more_runs w start out out' pending xs text ys s e none closed size =
+more_runs : (w : ℕ) (start out out' pending xs text ys : List ℕ) → Wrote w start out pending xs → out' ≡ out ++ text → pending ≡ [] → Closed w text ys → Wrote w start out' [] (xs ++ ys)
+more_runs w start out out' pending xs text ys s e none closed =
     let all : s.done ≡ xs = sym (append-nil s.done) ∙ ap (λ (t : List ℕ). s.done ++ t) (sym none) ∙ s.all in
-    let more : (w + 1) * length (s.done ++ ys) ≡ (w + 1) * length s.done + (w + 1) * length ys = ap (λ (k : ℕ). (w + 1) * k) (length-append s.done ys) ∙ omega arith in
     record {
       text = s.text ++ text;
       done = s.done ++ ys;
       parts = e ∙ ap (λ (t : List ℕ). t ++ text) s.parts ∙ append_assoc start s.text text;
       all = append-nil (s.done ++ ys) ∙ ap (λ (t : List ℕ). t ++ ys) all;
       closed = closed_append w s.text text s.done ys s.closed closed;
-      size = omega (arith, s.size, size, more, length-append s.text text);
     }
 
 -- what is pending becomes done
 as_done : (w : ℕ) (start out pending xs : List ℕ) (s : Wrote w start out pending xs) → Wrote w start out [] s.done
-as_done w start out pending xs s = record { text = s.text; done = s.done; parts = s.parts; all = append-nil s.done; closed = s.closed; size = s.size }
+as_done w start out pending xs s = record { text = s.text; done = s.done; parts = s.parts; all = append-nil s.done; closed = s.closed }
 
-pub header-size : (g : ℕ) → g ≤ 63 → length (varint (2 * g + 1)) ≡ 1
-header-size g h = ap length (digits-last (2 * g + 1) (2 * g + 1) (omega (arith, h)))
-
-pub wrote_groups : (w g : ℕ) (start out out' pending xs body : List ℕ) → 0 < g → g ≤ 63 → length pending ≡ 8 * g → ArePacked w pending body → out' ≡ out ++ (varint (2 * g + 1) ++ body) → Wrote w start out pending xs → Wrote w start out' [] xs
-wrote_groups w g start out out' pending xs body some few count p e s =
-    let size : length body ≡ w * g = p.size ∙ ap (λ (k : ℕ). bytes_for (w * k)) count ∙ whole w g in
-    let unpacks : unpacked w (8 * g) body ≡ pending = ap (λ (k : ℕ). unpacked w k body) (sym count) ∙ p.unpacks in
-    let closed : Closed w (varint (2 * g + 1) ++ body) pending = subst (λ (ys : List ℕ). Closed w (varint (2 * g + 1) ++ body) ys) unpacks (closed_groups w g (varint (2 * g + 1)) body (is_number (2 * g + 1) (omega (arith, few))) size some) in
-    let bits : (w + 1) * length pending ≡ 8 * (w * g) + 8 * g = ap (λ (k : ℕ). (w + 1) * k) count ∙ omega arith in
-    subst (λ (ys : List ℕ). Wrote w start out' [] ys) s.all
-    (more_runs w start out out' [] s.done (varint (2 * g + 1) ++ body) pending (as_done w start out pending xs s) e refl closed
-    (omega (arith, bits, size, some, header-size g few, length-append (varint (2 * g + 1)) body)))
+-- the bytes of whole groups
+pub whole_size : (w g : ℕ) (numbers body : List ℕ) → length numbers ≡ 8 * g → ArePacked w numbers body → length body ≡ w * g
+whole_size w g numbers body count p = p.size ∙ ap (λ (k : ℕ). bytes_for (w * k)) count ∙ whole w g
   where
     whole : (w g : ℕ) → bytes_for (w * (8 * g)) ≡ w * g
     whole w g = let e : w * (8 * g) ≡ 8 * (w * g) = omega arith in ap bytes_for e ∙ omega arith
 
-pub wrote_copies : (w n v : ℕ) (start out out' xs value : List ℕ) → 8 ≤ n → n < 2 ^ 62 → IsWhole w v value → out' ≡ out ++ (varint (2 * n) ++ value) → Wrote w start out [] xs → Wrote w start out' [] (xs ++ replicate n v)
-wrote_copies w n v start out out' xs value some few p e s =
-    let closed : Closed w (varint (2 * n) ++ value) (replicate n v) = subst (λ (z : ℕ). Closed w (varint (2 * n) ++ value) (replicate n z)) p.value (closed_copies w n (varint (2 * n)) value (is_number (2 * n) (omega (arith, few))) p.size (omega (arith, some))) in
-    let head : 16 * length (varint (2 * n)) ≤ 2 * n = varint-size_below (2 * n) (2 * n) (omega (arith, some)) in
-    let many : w * 8 ≤ w * n = mul-le w 8 w n (omega arith) some in
-    let bits : (w + 1) * length (replicate n v) ≡ w * n + n = ap (λ (k : ℕ). (w + 1) * k) (length-replicate n v) ∙ omega arith in
-    more_runs w start out out' [] xs (varint (2 * n) ++ value) (replicate n v) s e refl closed
-    (omega (arith, head, many, bits, p.size, length-append (varint (2 * n)) value))
+pub whole_unpacks : (w g : ℕ) (numbers body : List ℕ) → length numbers ≡ 8 * g → ArePacked w numbers body → unpacked w (8 * g) body ≡ numbers
+whole_unpacks w g numbers body count p = ap (λ (k : ℕ). unpacked w k body) (sym count) ∙ p.unpacks
+
+-- whole groups that were pending
+pub wrote_flush : (w : ℕ) (start out out' pending xs body : List ℕ) → 0 < w → 0 < length pending → length pending ≤ 504 → length pending % 8 ≡ 0 → ArePacked w pending body → out' ≡ out ++ (varint (2 * (length pending / 8) + 1) ++ body) → Wrote w start out pending xs → Wrote w start out' [] xs
+wrote_flush w start out out' pending xs body bits some few whole p e s =
+    let g : ℕ = length pending / 8 in
+    let count : length pending ≡ 8 * g = omega (arith, whole) in
+    let closed : Closed w (varint (2 * g + 1) ++ body) pending = subst (λ (ys : List ℕ). Closed w (varint (2 * g + 1) ++ body) ys) (whole_unpacks w g pending body count p) (closed_groups w g body bits (omega (arith, some, count)) (omega (arith, few)) (whole_size w g pending body count p)) in
+    subst (λ (ys : List ℕ). Wrote w start out' [] ys) s.all
+    (more_runs w start out out' [] s.done (varint (2 * g + 1) ++ body) pending (as_done w start out pending xs s) e refl closed)
 
 -- ---- the end
 
-pub wrote_none : (w : ℕ) (start out xs : List ℕ) → Wrote w start out [] xs → Spelling w start out xs
+-- written runs of the list behind what stood there
+abbrev pub Ends : ℕ → List ℕ → List ℕ → List ℕ → Type 0
+Ends w start out xs = (text : List ℕ) × (out ≡ start ++ text) × WrittenRuns w text xs
+
+pub wrote_none : (w : ℕ) (start out xs : List ℕ) → Wrote w start out [] xs → Ends w start out xs
 wrote_none w start out xs s =
     let all : s.done ≡ xs = sym (append-nil s.done) ∙ s.all in
-    let n : length s.done ≡ length xs = ap length all in
-    let bits : (w + 1) * length s.done ≡ (w + 1) * length xs = ap (λ (k : ℕ). (w + 1) * k) n in
-    record {
-      text = s.text;
-      parts = s.parts;
-      runs = subst (λ (ys : List ℕ). Runs w s.text ys) all (rw (append-nil s.text, append-nil s.done) at (s.closed [] [] no_more));
-      size = omega (arith, s.size, bits);
-    }
+    (s.text, s.parts, subst (λ (ys : List ℕ). WrittenRuns w s.text ys) all (rw (append-nil s.text, append-nil s.done) at (s.closed [] [] no_more)))
 
-pub wrote_last : (w g : ℕ) (start out out' pending xs body : List ℕ) → 0 < length pending → length pending ≤ 8 * g → g ≤ 63 → 8 * g ≤ length pending + 7 → ArePacked w pending body → out' ≡ out ++ (varint (2 * g + 1) ++ body) → Wrote w start out pending xs → Spelling w start out' xs
-wrote_last w g start out out' pending xs body some within few least p e s =
-    let n : ℕ = length pending in
-    let fits : w * n ≤ w * (8 * g) = mul-le w n w (8 * g) (omega arith) within in
-    let bytes : length body ≡ (w * n + 7) / 8 = p.size in
-    let run : Runs w (varint (2 * g + 1) ++ body) (unpacked w n body) = last_groups g n (varint (2 * g + 1)) body (is_number (2 * g + 1) (omega (arith, few))) some within (omega (arith, bytes)) (omega (arith, bytes, fits)) in
-    let last : Runs w (varint (2 * g + 1) ++ body) pending = subst (λ (ys : List ℕ). Runs w (varint (2 * g + 1) ++ body) ys) p.unpacks run in
-    let count : (w + 1) * length xs ≡ (w + 1) * length s.done + (w * n + n) = ap (λ (k : ℕ). (w + 1) * k) (sym (ap length s.all) ∙ length-append s.done pending) ∙ omega arith in
-    record {
-      text = s.text ++ (varint (2 * g + 1) ++ body);
-      parts = e ∙ ap (λ (t : List ℕ). t ++ (varint (2 * g + 1) ++ body)) s.parts ∙ append_assoc start s.text (varint (2 * g + 1) ++ body);
-      runs = subst (λ (ys : List ℕ). Runs w (s.text ++ (varint (2 * g + 1) ++ body)) ys) s.all (s.closed (varint (2 * g + 1) ++ body) pending last);
-      size = omega (arith, s.size, bytes, count, some, header-size g few, length-append s.text (varint (2 * g + 1) ++ body), length-append (varint (2 * g + 1)) body);
-    }
+-- the last groups, filled up with zeros
+pub wrote_last : (w k : ℕ) (start out out' pending padded xs body : List ℕ) → 0 < w → 0 < length padded → length padded ≤ 504 → length padded % 8 ≡ 0 → k < 8 → padded ≡ pending ++ replicate k 0 → ArePacked w padded body → out' ≡ out ++ (varint (2 * (length padded / 8) + 1) ++ body) → Wrote w start out pending xs → Ends w start out' xs
+wrote_last w k start out out' pending padded xs body bits some few whole less is p e s =
+    let g : ℕ = length padded / 8 in
+    let count : length padded ≡ 8 * g = omega (arith, whole) in
+    let last : WrittenRuns w (varint (2 * g + 1) ++ body) pending = last_groups g k body pending bits (omega (arith, some, count)) (omega (arith, few)) less (whole_size w g padded body count p) (whole_unpacks w g padded body count p ∙ is) in (
+      s.text ++ (varint (2 * g + 1) ++ body),
+      e ∙ ap (λ (t : List ℕ). t ++ (varint (2 * g + 1) ++ body)) s.parts ∙ append_assoc start s.text (varint (2 * g + 1) ++ body),
+      subst (λ (ys : List ℕ). WrittenRuns w (s.text ++ (varint (2 * g + 1) ++ body)) ys) s.all (s.closed (varint (2 * g + 1) ++ body) pending last),
+    )
 
 -- ---- copies
 
@@ -159,40 +123,17 @@ wrote_one w start out pending xs v count left some most s =
     subst (λ (ys : List ℕ). Wrote w start out (pending ++ v ∷ []) ys) all (wrote_push w start out pending (xs ++ replicate (count - left) v) v s)
 
 -- all that are left
-pub wrote_left : (w : ℕ) (start out out' xs value : List ℕ) (v count left : ℕ) → 8 ≤ left → left ≤ count → count < 2 ^ 62 → IsWhole w v value → out' ≡ out ++ (varint (2 * left) ++ value) → Wrote w start out [] (xs ++ replicate (count - left) v) → Wrote w start out' [] (xs ++ replicate count v)
-wrote_left w start out out' xs value v count left some most few p e s =
+pub wrote_left : (w : ℕ) (start out out' xs value : List ℕ) (v count left : ℕ) → 0 < w → v < 2 ^ w → 0 < left → left ≤ count → count < 2 ^ 62 → IsWhole w v value → out' ≡ out ++ (varint (2 * left) ++ value) → Wrote w start out [] (xs ++ replicate (count - left) v) → Wrote w start out' [] (xs ++ replicate count v)
+wrote_left w start out out' xs value v count left bits low some most few p e s =
     let whole : count - left + left ≡ count = omega arith in
     let all : (xs ++ replicate (count - left) v) ++ replicate left v ≡ xs ++ replicate count v = append_assoc xs (replicate (count - left) v) (replicate left v) ∙ ap (λ (t : List ℕ). xs ++ t) (replicate-append (count - left) left v ∙ ap (λ (k : ℕ). replicate k v) whole) in
-    subst (λ (ys : List ℕ). Wrote w start out' [] ys) all (wrote_copies w left v start out out' (xs ++ replicate (count - left) v) value some (omega arith) p e s)
-
--- whole groups that were pending
-pub wrote_flush : (w : ℕ) (start out out' pending xs body : List ℕ) → 0 < length pending → length pending ≤ 504 → length pending % 8 ≡ 0 → ArePacked w pending body → out' ≡ out ++ (varint (2 * ((length pending + 7) / 8) + 1) ++ body) → Wrote w start out pending xs → Wrote w start out' [] xs
-wrote_flush w start out out' pending xs body some few whole p e s = wrote_groups w ((length pending + 7) / 8) start out out' pending xs body (omega arith) (omega arith) (omega arith) p e s
-
-pub wrote_finish : (w : ℕ) (start out out' pending xs body : List ℕ) → 0 < length pending → length pending ≤ 504 → ArePacked w pending body → out' ≡ out ++ (varint (2 * ((length pending + 7) / 8) + 1) ++ body) → Wrote w start out pending xs → Spelling w start out' xs
-wrote_finish w start out out' pending xs body some few p e s = wrote_last w ((length pending + 7) / 8) start out out' pending xs body some (omega arith) (omega arith) (omega arith) p e s
+    let closed : Closed w (varint (2 * left) ++ value) (replicate left v) = closed_copies w left v value bits some (omega (arith, few, most)) p.size p.value low in
+    subst (λ (ys : List ℕ). Wrote w start out' [] ys) all (more_runs w start out out' [] (xs ++ replicate (count - left) v) (varint (2 * left) ++ value) (replicate left v) s e refl closed)
 
 -- ---- the copies that wait
 
 pub none_waits : (w : ℕ) (start : List ℕ) → Encoded w start start [] 0 0 []
 none_waits w start = record { settled = []; all = refl; wrote = wrote_begin w start }
-
-pub one_waits_more : (w : ℕ) (start out pending : List ℕ) (number count : ℕ) (xs : List ℕ) → Encoded w start out pending number count xs → Encoded w start out pending number (count + 1) (xs ++ number ∷ [])
-one_waits_more w start out pending number count xs s = record {
-  settled = s.settled;
-  all = ap (λ (t : List ℕ). s.settled ++ t) (sym (replicate-append count 1 number)) ∙ sym (append_assoc s.settled (replicate count number) (number ∷ [])) ∙ ap (λ (t : List ℕ). t ++ number ∷ []) s.all;
-  wrote = s.wrote;
-}
-
-pub one_waits : (w : ℕ) (start out out' pending pending' : List ℕ) (number count value : ℕ) (xs : List ℕ) → Encoded w start out pending number count xs → ((start' ys : List ℕ) → Wrote w start' out pending ys → Wrote w start' out' pending' (ys ++ replicate count number)) → Encoded w start out' pending' value 1 (xs ++ value ∷ [])
-one_waits w start out out' pending pending' number count value xs s f = record {
-  settled = xs;
-  all = refl;
-  wrote = subst (λ (ys : List ℕ). Wrote w start out' pending' ys) s.all (f start s.settled s.wrote);
-}
-
-pub all_settled : (w : ℕ) (start out out' pending pending' : List ℕ) (number count : ℕ) (xs : List ℕ) → Encoded w start out pending number count xs → ((start' ys : List ℕ) → Wrote w start' out pending ys → Wrote w start' out' pending' (ys ++ replicate count number)) → Wrote w start out' pending' xs
-all_settled w start out out' pending pending' number count xs s f = subst (λ (ys : List ℕ). Wrote w start out' pending' ys) s.all (f start s.settled s.wrote)
 
 pub finished : {A E P Q : Type 0} (r : Result A E) → (P → Q) → OnOk r P → OnOk r Q
 finished (Ok x) f p = f p
@@ -213,14 +154,15 @@ all_zero (v ∷ vs) h =
     let others : All (λ v. v < 2 ^ 0) vs = λ k d lt. h (suc k) d (omega (arith, lt)) in
     ap (λ (x : ℕ). x ∷ vs) none ∙ ap (λ (t : List ℕ). 0 ∷ t) (all_zero vs others)
 
-pub zero_width : (w : ℕ) (start vs : List ℕ) → w ≡ 0 → All (λ v. v < 2 ^ w) vs → Spelling w start start vs
+pub zero_width : (w : ℕ) (start vs : List ℕ) → w ≡ 0 → All (λ v. v < 2 ^ w) vs → AppendsRuns w start start vs
 zero_width w start vs e h =
     let h' = subst (λ (k : ℕ). All (λ v. v < 2 ^ k) vs) e h in
     record {
       text = [];
       parts = sym (append-nil start);
-      runs = subst (λ (ys : List ℕ). Runs w [] ys) (sym (all_zero vs h')) (no_bits (length vs) e);
+      runs = subst (λ (ys : List ℕ). WrittenRuns w [] ys) (sym (all_zero vs h')) (no_bits (length vs) e);
       size = omega arith;
+      short = omega arith;
     }
 
 pub map_low : (w : ℕ) (vs : List ℕ) → All (λ v. v < 2 ^ w) vs → map (λ v. v % 2 ^ w) vs ≡ vs

@@ -12,3 +12,6 @@ pub mod State
 pub mod Taking
 pub mod Writing
 pub mod Stretches
+pub mod Words
+pub mod WrittenDelta
+pub mod WrittenRuns

@@ -1,10 +1,11 @@
 //! Blocks of delta packing.
 
-ghost use Rattle.std.specs.Prelude.{◌≡◌, ◌⊎◌, ◌<◌, ◌≤◌, ◌^◌, ◌+◌, ◌-◌, ◌*◌, ◌/◌, ◌++◌, ◌≤ℤ◌, ◌+ℤ◌, pos, ℕ, ℤ, List, [], length, take, drop, map, replicate, OnOk, All, Contains, FitsSigned, false};
-ghost use Rattle.std.specs.Int.{w64};
+ghost use Rattle.std.specs.Prelude.{◌≡◌, ◌<◌, ◌≤◌, ◌^◌, ◌+◌, ◌-◌, ◌*◌, ◌/◌, ◌++◌, ◌≤ℤ◌, ◌+ℤ◌, pos, ℕ, ℤ, List, length, take, drop, map, replicate, OnOk, All, Contains, FitsSigned};
+ghost use Rattle.std.specs.Int.{Width};
 ghost use Rattle.pq_numbers.specs.Bits.{unpacked};
-ghost use Rattle.pq_runs.specs.Delta.{Miniblocks};
-ghost use Rattle.pq_runs.specs.DeltaWriting.{IsLeastWidth, AreWidths, IsBlock};
+ghost use Rattle.pq_runs.specs.DeltaWriting.{AreWidths, IsBlock};
+ghost use Rattle.pq_runs.specs.Packing.{IsLeastWidth};
+ghost use Rattle.pq_runs.specs.WrittenDelta.{WrittenMiniblocks};
 ghost use Rattle.pq_runs.specs.Writing.{Extends};
 
 use crate::bits::get_bit_width;
@@ -31,8 +32,7 @@ fn least_of(deltas: &[i64]) -> i64
 fn rises(deltas: &[i64], least: i64, out: &mut [u64])
     requires size { length out.old ≡ length deltas.now }
     requires least { All (λ d. least ≤ℤ d) deltas.now }
-    ensures rises { map (λ m. least +ℤ pos m) out.new ≡ deltas.now }
-    ensures fits { All (FitsSigned w64) deltas.now }
+    ensures { map (λ m. least +ℤ pos m) out.new ≡ deltas.now }
 {
     for i in 0..deltas.len() {
         out[i] = deltas[i].abs_diff(least);
@@ -106,7 +106,7 @@ fn push_miniblock(out: &mut Vec<u8>, numbers: &[u64], width: u32) -> Result<(), 
     requires fits { width ≤ 64 }
     requires few { length numbers.now ≤ 32 }
     requires below { All (λ v. v < 2 ^ width) numbers.now }
-    ensures ok { OnOk result ((text : List ℕ) × (out.new.items ≡ out.old.items ++ text) × (8 * length text ≡ width * 32) × (unpacked width (length numbers.now) text ≡ numbers.now)) }
+    ensures ok { OnOk result ((text : List ℕ) × (out.new.items ≡ out.old.items ++ text) × (length text ≡ 4 * width) × (unpacked width 32 text ≡ numbers.now ++ replicate (32 - length numbers.now) 0)) }
     ensures kept { Extends out.old.items out.new.items }
 {
     push_packed_wide(out, numbers, width)?;
@@ -117,7 +117,7 @@ fn push_miniblock(out: &mut Vec<u8>, numbers: &[u64], width: u32) -> Result<(), 
 // Appends the miniblocks that are needed.
 fn push_miniblocks(out: &mut Vec<u8>, numbers: &[u64], widths: &[u8]) -> Result<(), AllocError>
     requires { AreWidths widths.now numbers.now }
-    ensures ok { OnOk result ((text : List ℕ) × (out.new.items ≡ out.old.items ++ text) × Miniblocks false 32 widths.now text numbers.now × (length text ≤ 8 * length numbers.now + 248)) }
+    ensures ok { OnOk result ((text : List ℕ) × (out.new.items ≡ out.old.items ++ text) × ((most : ℕ) → All (λ m. m < 2 ^ most) numbers.now → WrittenMiniblocks most widths.now text numbers.now) × (length text ≤ 8 * length numbers.now + 248)) }
     ensures kept { Extends out.old.items out.new.items }
 {
     if numbers.is_empty() {
@@ -136,7 +136,7 @@ fn push_miniblocks(out: &mut Vec<u8>, numbers: &[u64], widths: &[u8]) -> Result<
 pub fn push_block(out: &mut Vec<u8>, deltas: &[i64]) -> Result<(), AllocError>
     requires some { 0 < length deltas.now }
     requires few { length deltas.now ≤ 128 }
-    ensures ok { OnOk result ((text : List ℕ) × (out.new.items ≡ out.old.items ++ text) × IsBlock text deltas.now) }
+    ensures ok { OnOk result ((text : List ℕ) × (out.new.items ≡ out.old.items ++ text) × ((v : Width) → All (FitsSigned v) deltas.now → IsBlock v text deltas.now)) }
     ensures kept { Extends out.old.items out.new.items }
 {
     let least = least_of(deltas);

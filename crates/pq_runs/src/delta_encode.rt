@@ -1,10 +1,11 @@
 //! Writing delta packing.
 
-ghost use Rattle.std.specs.Prelude.{◌≡◌, ◌<◌, ◌≤◌, ◌++◌, ℕ, ℤ, List, [], ◌∷◌, length, OnOk, IfErr, Some};
+ghost use Rattle.std.specs.Prelude.{◌≡◌, ◌<◌, ◌≤◌, ◌++◌, ℕ, ℤ, ◌-ℤ◌, List, [], ◌∷◌, length, Bool, OnOk, IfErr, Option, Some, is_some, FitsSigned};
+ghost use Rattle.std.specs.Int.{Width, w32, w64, int_wrap};
 ghost use Rattle.std.specs.Iterator.{IsFinite, Drains};
 ghost use Rattle.columns_base.specs.declared.error.Error.TheVariants.{Memory};
 ghost use Rattle.pq_numbers.specs.Varint.{varint};
-ghost use Rattle.pq_runs.specs.DeltaWriting.{Begun, Deltas, DeltaSpelling};
+ghost use Rattle.pq_runs.specs.DeltaWriting.{Begun, Going, Deltas, AppendsDelta};
 ghost use Rattle.pq_runs.specs.Listed.{count};
 ghost use Rattle.pq_runs.specs.Writing.{Extends};
 
@@ -14,10 +15,10 @@ use columns_base::{Error, Result};
 use pq_numbers::{push_varint, to_zigzag};
 use std::alloc::AllocError;
 
-// Writes the deltas that wait where they are a full block.
+// Writes the differences that wait where they are a full block.
 fn make_room(out: &mut Vec<u8>, waiting: &mut Waiting) -> std::result::Result<(), AllocError>
     ensures room { OnOk result (length waiting.new < 128) }
-    ensures ok { OnOk result ((start : List ℕ) (latest : ℤ) (zs : List ℤ) → Begun start out.old.items waiting.old (Some latest) zs → Begun start out.new.items waiting.new (Some latest) zs) }
+    ensures ok { OnOk result ((v : Width) (start : List ℕ) (latest : ℤ) (zs : List ℤ) → Going v start out.old.items waiting.old latest zs → Going v start out.new.items waiting.new latest zs) }
     ensures kept { Extends out.old.items out.new.items }
 {
     if waiting.len() == 128 {
@@ -27,44 +28,64 @@ fn make_room(out: &mut Vec<u8>, waiting: &mut Waiting) -> std::result::Result<()
     Ok(())
 }
 
-// One more number behind the latest one.
+// One more difference, from the latest number to the next one.
+fn push_difference(
+    out: &mut Vec<u8>,
+    waiting: &mut Waiting,
+    difference: i64,
+) -> std::result::Result<(), AllocError>
+    ensures ok { OnOk result ((v : Width) (start : List ℕ) (latest value : ℤ) (zs : List ℤ) → FitsSigned v value → difference ≡ int_wrap v (value -ℤ latest) → Going v start out.old.items waiting.old latest zs → Going v start out.new.items waiting.new value (zs ++ value ∷ [])) }
+    ensures kept { Extends out.old.items out.new.items }
+{
+    make_room(out, waiting)?;
+    waiting.push(difference);
+    Ok(())
+}
+
+// One more number of 64 bits behind the latest one.
 fn add(
     out: &mut Vec<u8>,
     waiting: &mut Waiting,
     latest: Option<i64>,
     value: i64,
 ) -> std::result::Result<(), AllocError>
-    ensures ok { OnOk result ((start : List ℕ) (zs : List ℤ) → Begun start out.old.items waiting.old latest zs → Begun start out.new.items waiting.new (Some value) (zs ++ value ∷ [])) }
+    ensures ok { OnOk result ((start : List ℕ) (zs : List ℤ) → Begun w64 start out.old.items waiting.old latest zs → Begun w64 start out.new.items waiting.new (Some value) (zs ++ value ∷ [])) }
     ensures kept { Extends out.old.items out.new.items }
 {
     match latest {
         None => push_varint(out, to_zigzag(value)),
-        Some(latest) => {
-            make_room(out, waiting)?;
-            waiting.push(value.wrapping_sub(latest));
-            Ok(())
-        }
+        Some(latest) => push_difference(out, waiting, value.wrapping_sub(latest)),
     }
 }
 
-// Writes what waits, behind which nothing comes.
-fn finish(
+// One more number of 32 bits behind the latest one.
+fn add_i32(
     out: &mut Vec<u8>,
-    waiting: &Waiting,
-    latest: Option<i64>,
+    waiting: &mut Waiting,
+    latest: Option<i32>,
+    value: i32,
 ) -> std::result::Result<(), AllocError>
-    ensures ok { OnOk result ((start : List ℕ) (zs : List ℤ) → Begun start out.old.items waiting.now latest zs → Deltas start out.new.items zs) }
+    ensures ok { OnOk result ((start : List ℕ) (zs : List ℤ) → Begun w32 start out.old.items waiting.old latest zs → Begun w32 start out.new.items waiting.new (Some value) (zs ++ value ∷ [])) }
     ensures kept { Extends out.old.items out.new.items }
 {
     match latest {
-        None => push_varint(out, 0),
-        Some(_) => {
-            if waiting.len() > 0 {
-                push_block(out, waiting.as_slice())?;
-            }
-            Ok(())
-        }
+        None => push_varint(out, to_zigzag(i64::from(value))),
+        Some(latest) => push_difference(out, waiting, i64::from(value.wrapping_sub(latest))),
     }
+}
+
+// Writes what waits, behind which nothing comes, and 0 in place of a first number where there is none.
+fn finish(out: &mut Vec<u8>, waiting: &Waiting, some: bool) -> std::result::Result<(), AllocError>
+    ensures ok { OnOk result ((v : Width) (start : List ℕ) (latest : Option ℤ) (zs : List ℤ) → some ≡ is_some latest → Begun v start out.old.items waiting.now latest zs → Deltas v start out.new.items zs) }
+    ensures kept { Extends out.old.items out.new.items }
+{
+    if some {
+        if waiting.len() > 0 {
+            push_block(out, waiting.as_slice())?;
+        }
+        return Ok(());
+    }
+    push_varint(out, 0)
 }
 
 // The sizes of a block, and the count of all numbers.
@@ -85,7 +106,7 @@ fn push_numbers<I: Iterator<Item = i64>>(
     requires can { I.can_next values }
     requires ends { IsFinite (I.remaining values) }
     requires gives { (vs : List ℤ) → Drains I.next_gives values vs → count vs ≡ length }
-    ensures ok { OnOk result ((vs : List ℤ) × Drains I.next_gives values vs × DeltaSpelling out.old.items out.new.items vs) }
+    ensures ok { OnOk result ((vs : List ℤ) × Drains I.next_gives values vs × AppendsDelta w64 out.old.items out.new.items vs) }
     ensures kept { Extends out.old.items out.new.items }
 {
     push_head(out, length)?;
@@ -95,12 +116,12 @@ fn push_numbers<I: Iterator<Item = i64>>(
         add(out, &mut waiting, latest, value)?;
         latest = Some(value);
     }
-    finish(out, &waiting, latest)
+    finish(out, &waiting, latest.is_some())
 }
 
-/// Appends the delta spelling of the numbers, in blocks of 128 with 4 miniblocks
+/// Appends the delta spelling of INT64 numbers, in blocks of 128 with 4 whole miniblocks of the least widths
 /// (Parquet format, Encodings, "Delta Encoding"). Differences are taken modulo 2^64, as numbers from
-/// -2^63 on. A block states the least of its own, and each miniblock has the least width.
+/// -2^63 on. A block states the least of its own.
 ///
 /// # Errors
 ///
@@ -109,11 +130,57 @@ pub fn encode<I: Iterator<Item = i64>>(out: &mut Vec<u8>, values: I, length: usi
     requires can { I.can_next values }
     requires ends { IsFinite (I.remaining values) }
     requires gives { (vs : List ℤ) → Drains I.next_gives values vs → count vs ≡ length }
-    ensures ok { OnOk result ((vs : List ℤ) × Drains I.next_gives values vs × DeltaSpelling out.old.items out.new.items vs) }
+    ensures ok { OnOk result ((vs : List ℤ) × Drains I.next_gives values vs × AppendsDelta w64 out.old.items out.new.items vs) }
     ensures err { IfErr result (λ e. (e ≡ Memory) × (out.new.items ≡ out.old.items)) }
 {
     let before = out.len();
     if push_numbers(out, values, length).is_err() {
+        out.truncate(before);
+        return Err(Error::Memory);
+    }
+    Ok(())
+}
+
+fn push_numbers_i32<I: Iterator<Item = i32>>(
+    out: &mut Vec<u8>,
+    values: I,
+    length: usize,
+) -> std::result::Result<(), AllocError>
+    requires can { I.can_next values }
+    requires ends { IsFinite (I.remaining values) }
+    requires gives { (vs : List ℤ) → Drains I.next_gives values vs → count vs ≡ length }
+    ensures ok { OnOk result ((vs : List ℤ) × Drains I.next_gives values vs × AppendsDelta w32 out.old.items out.new.items vs) }
+    ensures kept { Extends out.old.items out.new.items }
+{
+    push_head(out, length)?;
+    let mut waiting = Waiting::new();
+    let mut latest: Option<i32> = None;
+    for value in values {
+        add_i32(out, &mut waiting, latest, value)?;
+        latest = Some(value);
+    }
+    finish(out, &waiting, latest.is_some())
+}
+
+/// Appends the delta spelling of INT32 numbers, as `encode` does. Differences are taken modulo 2^32, as numbers from -2^31 on, so that no
+/// miniblock's width passes 32.
+///
+/// # Errors
+///
+/// Want of memory; `out` is then as before.
+pub fn encode_i32<I: Iterator<Item = i32>>(
+    out: &mut Vec<u8>,
+    values: I,
+    length: usize,
+) -> Result<()>
+    requires can { I.can_next values }
+    requires ends { IsFinite (I.remaining values) }
+    requires gives { (vs : List ℤ) → Drains I.next_gives values vs → count vs ≡ length }
+    ensures ok { OnOk result ((vs : List ℤ) × Drains I.next_gives values vs × AppendsDelta w32 out.old.items out.new.items vs) }
+    ensures err { IfErr result (λ e. (e ≡ Memory) × (out.new.items ≡ out.old.items)) }
+{
+    let before = out.len();
+    if push_numbers_i32(out, values, length).is_err() {
         out.truncate(before);
         return Err(Error::Memory);
     }

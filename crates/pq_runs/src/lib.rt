@@ -3,29 +3,33 @@
 #![tactic(auto)]
 
 mod bits;
+mod block;
 mod decoder;
 pub mod delta_bitpacked;
 mod delta_block;
 mod delta_encode;
 mod encode;
+mod group;
 mod hybrid;
 pub mod hybrid_rle;
 mod laws;
 mod pack;
-mod pending;
 mod plain;
 mod run;
+mod runs;
+mod settle;
 mod state;
 mod waiting;
 mod whole;
 mod wide;
+mod writer;
 
 pub use bits::{get_bit_width, unpack};
 pub use encode::{encode_bool, encode_u32};
 pub use hybrid::HybridRleDecoder;
-pub use laws::{as_worked, runs_are_read, runs_are_unique};
+pub use laws::{
+    as_worked, runs_are_read, runs_are_unique, written_runs_are_runs, written_runs_are_short,
+};
 pub use plain::bitpacked_encode;
 pub use whole::decode;
-
-#[cfg(test)]
-mod tests;
+pub use writer::RunWriter;

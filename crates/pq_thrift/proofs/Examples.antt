@@ -1,5 +1,5 @@
 -- The examples, computed.
-use Rattle.std.proofs.Common.{◌≡◌, ℕ, pos, negsuc, List, [], ◌∷◌, true, false, Ok, Err, refl, sym, subst, ◌∙◌}
+use Rattle.std.proofs.Common.{◌≡◌, ℕ, ◌+◌, pos, negsuc, List, [], ◌∷◌, true, false, Ok, Err, refl, sym, ap, subst, ◌∙◌, length, arith}
 use Rattle.std.proofs.lemmas.List.{append-nil}
 use Rattle.pq_numbers.specs.Varint.{varint_up_to, digits}
 use Rattle.pq_thrift.specs.declared.fault.Fault.TheVariants.{Outside}
@@ -9,7 +9,7 @@ use Rattle.pq_thrift.specs.Value.{Value, truth, int8, int16, int32, int64, doubl
 use Rattle.pq_thrift.specs.Grammar.{Spells}
 use Rattle.pq_thrift.specs.Reading.{list_head_at, map_head_at, field_head_at, values_at, pair_with, pairs_at, fields_at, list_with, map_with, struct_with, value_at, thrift_at, max_depth}
 use Rattle.pq_thrift.specs.Spelling.{list_head, map_head, field_head}
-use Rattle.pq_thrift.specs.Examples.{one, letters, eight, SpellsNone, AreSpelled, AreNot, AreDeep, AreWritten, AreWorked}
+use Rattle.pq_thrift.specs.Examples.{one, letters, eight, SpellsNone, AreSpelled, AreNot, AreDeep, AreWritten, AreOtherSpellings, AreWorked}
 use Rattle.pq_thrift.proofs.Takes.{value_takes}
 use Rattle.pq_thrift.proofs.Whole.{spells_no_fault}
 
@@ -67,5 +67,17 @@ are_written : AreWritten
 unfolding digits list_head map_head field_head
 are_written = record { steps = refl; pairs = refl; no_pair = refl; truths = refl }
 
+are_others : AreOtherSpellings
+unfolding varint_up_to digits signed_at binary_at list_head_at list_head field_head_at field_head values_at fields_at list_with struct_with value_at
+are_others =
+    record {
+      padded = (spelled (21 ∷ 130 ∷ 0 ∷ 0 ∷ []) (one (int32 (pos 1))) refl, λ w. one_more 3 (ap length w.exact));
+      far = λ w. one_more 4 (ap length w.exact);
+      near = record { exact = refl; spells = spelled (25 ∷ 19 ∷ 7 ∷ 0 ∷ []) (one (list 3 (value (int8 (pos 7)) no_values))) refl };
+    }
+  where
+    one_more : (n : ℕ) → n + 1 ≡ n → ⊥
+    one_more n e = omega (arith, e)
+
 pub are_worked : AreWorked
-are_worked = record { spelled = are_spelled; none = are_not; deep = are_deep; written = are_written }
+are_worked = record { spelled = are_spelled; none = are_not; deep = are_deep; written = are_written; others = are_others }

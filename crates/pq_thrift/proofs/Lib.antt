@@ -1,5 +1,6 @@
 pub mod Again
 pub mod Deep
+pub mod Lengths
 pub mod Examples
 pub mod Loops
 pub mod OneReading

@@ -2,6 +2,7 @@
 use Rattle.std.specs.Prelude.{◌≡◌, ℕ, pos, negsuc, List, [], ◌∷◌, true, false}
 use Rattle.pq_thrift.specs.Grammar.{Spells, depth}
 use Rattle.pq_thrift.specs.Spelling.{spell}
+use Rattle.pq_thrift.specs.Written.{IsWritten}
 use Rattle.pq_thrift.specs.Value.{Value, truth, int8, int16, int32, int64, double, binary, list, set, map, struct, no_values, value, no_pairs, pair, no_fields, field}
 
 -- a struct with one field, of id 1
@@ -71,8 +72,15 @@ pub record AreWritten : Type 0 where
   pub no_pair : spell (one (map 0 0 no_pairs)) ≡ 27 ∷ 0 ∷ 0 ∷ []
   pub truths : spell (one (list 2 (value (truth true) (value (truth false) no_values)))) ≡ 25 ∷ 34 ∷ 1 ∷ 2 ∷ 0 ∷ []
 
+-- spelled, and not written so: a padded varint, and a size below 15 in the long form
+pub record AreOtherSpellings : Type 0 where
+  pub padded : Spells (21 ∷ 130 ∷ 0 ∷ 0 ∷ []) (one (int32 (pos 1))) × (¬ IsWritten (21 ∷ 130 ∷ 0 ∷ 0 ∷ []) (one (int32 (pos 1))))
+  pub far : ¬ IsWritten (25 ∷ 243 ∷ 1 ∷ 7 ∷ 0 ∷ []) (one (list 3 (value (int8 (pos 7)) no_values)))
+  pub near : IsWritten (25 ∷ 19 ∷ 7 ∷ 0 ∷ []) (one (list 3 (value (int8 (pos 7)) no_values)))
+
 pub record AreWorked : Type 0 where
   pub spelled : AreSpelled
   pub none : AreNot
   pub deep : AreDeep
   pub written : AreWritten
+  pub others : AreOtherSpellings

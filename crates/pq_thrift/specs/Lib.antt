@@ -9,3 +9,4 @@ pub mod Parse
 pub mod Reading
 pub mod Spelling
 pub mod Value
+pub mod Written

@@ -15,6 +15,3 @@ pub use laws::{as_worked, one_reading, written_is_read};
 pub use reading::read_thrift;
 pub use value::Thrift;
 pub use writing::write_thrift;
-
-#[cfg(test)]
-mod tests;

@@ -4,9 +4,9 @@ ghost use Rattle.std.specs.Prelude.{◌≡◌, ◌<◌, ◌-ℤ◌, ℕ, pos, Li
 ghost use Rattle.columns_base.specs.declared.error.Error.TheVariants.{Memory};
 ghost use Rattle.pq_numbers.specs.Varint.{varint};
 ghost use Rattle.pq_numbers.specs.Zigzag.{zigzag};
-ghost use Rattle.pq_thrift.specs.Grammar.{Spells};
 ghost use Rattle.pq_thrift.specs.Value.{list, map, view, values_view, pairs_view, fields_view};
 ghost use Rattle.pq_thrift.specs.Spelling.{number_of, list_head, map_head, field_head, short, kind_in_field, behind_head, spell, spell_fields, IsStruct, IsWritable, HasTypes, AreWritable, ArePairsWritable, AreFieldsWritable, Fits, FieldsFit};
+ghost use Rattle.pq_thrift.specs.Written.{IsWritten};
 
 use crate::kind::Kind;
 use crate::value::Thrift;
@@ -220,9 +220,9 @@ fn push_fields(out: &mut Vec<u8>, fields: &Vec<(i16, Thrift)>) -> Result<(), All
 pub fn write_thrift(value: &Thrift, out: &mut Vec<u8>) -> Outcome<()>
     requires is_struct { IsStruct (view value.now) }
     requires writable { IsWritable (view value.now) }
-    // What is written spells the value.
-    ensures spells { OnOk result ((text : List ℕ) × Spells text (view value.now) × (out.new.items ≡ out.old.items ++ text)) }
-    // Which spelling it is.
+    // What is written spells the value, without padding.
+    ensures written { OnOk result ((text : List ℕ) × IsWritten text (view value.now) × (out.new.items ≡ out.old.items ++ text)) }
+    // The same as an equation.
     ensures exact { OnOk result (out.new.items ≡ out.old.items ++ spell (view value.now)) }
     // The numbers are of their types, which the view alone does not tell.
     ensures fits { OnOk result (Fits (view value.now)) }

@@ -7,19 +7,20 @@ use Rattle.std.proofs.lemmas.Str.{IsUtf8-from_ascii}
 use Rattle.std.proofs.lemmas.Str.Ascii.{IsAscii-from_all}
 use Rattle.shredding.specs.Shred.{Triple}
 use Rattle.pq_numbers.specs.Texts.{number_of}
-use Rattle.pq_thrift.specs.Grammar.{Spells}
+use Rattle.pq_thrift.specs.Written.{IsWritten}
 use Rattle.pq_thrift.specs.Value.{struct, no_fields, field as field_of}
 use Rattle.pq_container.specs.declared.version.Version.TheVariants.{V1}
 use Rattle.pq_container.specs.Elements.{RawElement}
 use Rattle.pq_container.specs.Footer.{SpellsTree}
 use Rattle.pq_container.specs.Frame.{magic}
+use Rattle.pq_files.specs.FooterRecord.{FileMetaData}
 use Rattle.pq_files.specs.Layout.{OutPage, OutChunk}
 use Rattle.pq_files.specs.Packed.{IsWrittenPage, IsWrittenChunk, IsWrittenFile, IsKeyText, triples_out}
 use Rattle.pq_files.specs.Page.{plain, rows_in}
-use Rattle.pq_files.specs.Written.{elements_of, chunk_value, group_value}
+use Rattle.pq_files.specs.Written.{elements_of, chunk_record, group_record, footer_value}
 use Rattle.page_write.specs.Pages.{page_out}
 use Rattle.row_file.proofs.Fields.{footer_is}
-use Rattle.row_file.specs.FooterFields.{footer_fields}
+use Rattle.row_file.specs.FooterFields.{list_footer}
 use Rattle.pq_files.specs.ListColumn.{root_name, list_name}
 use Rattle.row_file.specs.ListColumn.{tree_out, leaf_out, chunk_out, groups_out, place_out}
 
@@ -92,11 +93,11 @@ is_chunk f i ts pages page = record {
 -- ---- the file
 
 pub written : (f i : List ℕ) (ts : List Triple) (pairs rows size : ℕ) (pages footer four_bytes bytes : List ℕ) → IsUtf8 f → IsUtf8 i → IsWrittenPage V1 (leaf_out f i) None (page_out ts) pages
-    → pairs ≡ length ts → rows ≡ rows_in ts → size ≡ length pages → Spells footer (footer_fields f i pairs rows size) → length four_bytes ≡ 4 → number_of four_bytes ≡ length footer
+    → pairs ≡ length ts → rows ≡ rows_in ts → size ≡ length pages → IsWritten footer (footer_value (list_footer f i pairs rows size)) → length four_bytes ≡ 4 → number_of four_bytes ≡ length footer
     → bytes ≡ magic ++ (pages ++ (footer ++ (four_bytes ++ magic))) → IsWrittenFile bytes (tree_out f i) [] V1 (groups_out ts)
-written f i ts pairs rows size pages footer four_bytes bytes text_f text_i page p r s spells four is_size parts =
-    let column = chunk_value (leaf_out f i) (chunk_out ts) (place_out (length pages)) in
-    let sized : Spells footer (footer_fields f i pairs rows (length pages)) = subst (λ (n : ℕ). Spells footer (footer_fields f i pairs rows n)) s spells in
+written f i ts pairs rows size pages footer four_bytes bytes text_f text_i page p r s is four is_size parts =
+    let column = chunk_record (leaf_out f i) (chunk_out ts) (place_out (length pages)) in
+    let sized : IsWritten footer (footer_value (list_footer f i pairs rows (length pages))) = subst (λ (n : ℕ). IsWritten footer (footer_value (list_footer f i pairs rows n))) s is in
     record {
       pages = pages;
       footer = footer;
@@ -104,7 +105,7 @@ written f i ts pairs rows size pages footer four_bytes bytes text_f text_i page 
       parts = parts;
       four = four;
       is_size = is_size;
-      values = group_value 0 (column ∷ []) (rows_in ts) 4 (length pages) ∷ [];
+      row_groups = group_record 0 (column ∷ []) (rows_in ts) 4 (length pages) ∷ [];
       are = (
         pages,
         [],
@@ -115,7 +116,7 @@ written f i ts pairs rows size pages footer four_bytes bytes text_f text_i page 
         (refl, refl),
         sym (append-nil pages),
       );
-      is_footer = footer_is f i ts pairs rows (length pages) footer p r sized;
+      is_footer = subst (λ (m : FileMetaData). IsWritten footer (footer_value m)) (footer_is f i ts pairs rows (length pages) p r) sized;
       is_tree = tree_is f i text_f text_i;
       are_keys = All-nil IsKeyText;
     }

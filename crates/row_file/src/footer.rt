@@ -2,9 +2,9 @@
 
 ghost use Rattle.std.specs.Prelude.{◌≡◌, ◌≤◌, ◌<◌, ◌^◌, length, IfOk, IfErr, OnOk, OnErr, IsUtf8};
 ghost use Rattle.pq_thrift.specs.Value.{view};
-ghost use Rattle.pq_files.specs.Written.{one, empty};
+ghost use Rattle.pq_files.specs.Written.{one, empty, column_value, chunk_value, group_value, footer_value};
 ghost use Rattle.row_file.specs.ListColumn.{longest_name};
-ghost use Rattle.row_file.specs.FooterFields.{column_fields, chunk_fields, group_fields, footer_fields, AppendsFooter};
+ghost use Rattle.row_file.specs.FooterFields.{list_column, list_chunk, list_group, list_footer, AppendsFooter};
 
 use crate::elements::{schema_elements, text_value};
 use columns_base::{Error, Result as Outcome};
@@ -26,8 +26,8 @@ pub struct ListFooter<'a> {
 }
 
 // `ColumnMetaData`. The page stands behind PAR1, at 4.
-fn column_value(alloc: Global, footer: ListFooter<'_>) -> Result<Thrift, AllocError>
-    ensures { IfOk result (λ v. view v ≡ column_fields footer.entry.field_name.now footer.entry.item_name.now footer.entry.pairs footer.entry.size) }
+fn column_from(alloc: Global, footer: ListFooter<'_>) -> Result<Thrift, AllocError>
+    ensures { IfOk result (λ v. view v ≡ column_value (list_column footer.entry.field_name.now footer.entry.item_name.now footer.entry.pairs footer.entry.size)) }
 {
     let encodings = vec![in alloc; Thrift::I32(0), Thrift::I32(3)]?;
     let field = text_value(alloc, footer.field_name)?;
@@ -49,19 +49,19 @@ fn column_value(alloc: Global, footer: ListFooter<'_>) -> Result<Thrift, AllocEr
 }
 
 // `ColumnChunk`.
-fn chunk_value(alloc: Global, footer: ListFooter<'_>) -> Result<Thrift, AllocError>
-    ensures { IfOk result (λ v. view v ≡ chunk_fields footer.entry.field_name.now footer.entry.item_name.now footer.entry.pairs footer.entry.size) }
+fn chunk_from(alloc: Global, footer: ListFooter<'_>) -> Result<Thrift, AllocError>
+    ensures { IfOk result (λ v. view v ≡ chunk_value (list_chunk footer.entry.field_name.now footer.entry.item_name.now footer.entry.pairs footer.entry.size)) }
 {
-    let column = column_value(alloc, footer)?;
+    let column = column_from(alloc, footer)?;
     let fields = vec![in alloc; (2, Thrift::I64(4)), (3, column)]?;
     Ok(Thrift::Struct(fields))
 }
 
 // `RowGroup`, the first.
-fn group_value(alloc: Global, footer: ListFooter<'_>) -> Result<Thrift, AllocError>
-    ensures { IfOk result (λ v. view v ≡ group_fields footer.entry.field_name.now footer.entry.item_name.now footer.entry.pairs footer.entry.rows footer.entry.size) }
+fn group_from(alloc: Global, footer: ListFooter<'_>) -> Result<Thrift, AllocError>
+    ensures { IfOk result (λ v. view v ≡ group_value (list_group footer.entry.field_name.now footer.entry.item_name.now footer.entry.pairs footer.entry.rows footer.entry.size)) }
 {
-    let chunk = chunk_value(alloc, footer)?;
+    let chunk = chunk_from(alloc, footer)?;
     let chunks = vec![in alloc; chunk]?;
     let size = i64::from(footer.size);
     let fields = vec![in alloc;
@@ -84,13 +84,13 @@ fn order_value(alloc: Global) -> Result<Thrift, AllocError>
 }
 
 // `FileMetaData`.
-fn footer_value(alloc: Global, footer: ListFooter<'_>) -> Result<Thrift, AllocError>
+fn footer_from(alloc: Global, footer: ListFooter<'_>) -> Result<Thrift, AllocError>
     ensures field_text { IsUtf8 footer.entry.field_name.now }
     ensures item_text { IsUtf8 footer.entry.item_name.now }
-    ensures ok { IfOk result (λ v. view v ≡ footer_fields footer.entry.field_name.now footer.entry.item_name.now footer.entry.pairs footer.entry.rows footer.entry.size) }
+    ensures ok { IfOk result (λ v. view v ≡ footer_value (list_footer footer.entry.field_name.now footer.entry.item_name.now footer.entry.pairs footer.entry.rows footer.entry.size)) }
 {
     let elements = schema_elements(alloc, footer.field_name, footer.item_name)?;
-    let group = group_value(alloc, footer)?;
+    let group = group_from(alloc, footer)?;
     let groups = vec![in alloc; group]?;
     let order = order_value(alloc)?;
     let orders = vec![in alloc; order]?;
@@ -122,7 +122,7 @@ pub fn push_footer(alloc: Global, file: &mut Vec<u8>, footer: ListFooter<'_>) ->
     ensures ok { OnOk result (AppendsFooter footer.entry.field_name.now footer.entry.item_name.now footer.entry.pairs footer.entry.rows footer.entry.size file.old.items file.new.items) }
 {
     let start = file.len();
-    let value = footer_value(alloc, footer)?;
+    let value = footer_from(alloc, footer)?;
     write_thrift(&value, file)?;
     let size = (file.len() - start) as u32;
     if let Err(error) = push_u32(file, size) {

@@ -16,8 +16,3 @@ pub use plain::PlainSink;
 pub use push::push_all;
 pub use sink::{Sink, SinkFault};
 pub use streams::StdSink;
-
-#[cfg(test)]
-mod list_column_tests;
-#[cfg(test)]
-mod tests;

@@ -18,6 +18,3 @@ pub use fault::CodecFault;
 pub use known::know_schema;
 pub use laws::{as_worked, read_is_written, written_is_read};
 pub use plain::PlainCodec;
-
-#[cfg(test)]
-mod tests;

@@ -10,6 +10,7 @@ use Rattle.pq_container.specs.TreeViews.{trees_of}
 use Rattle.pq_container.specs.Types.{Info, Repetition, required, optional, repeated, Logical, Converted}
 use Rattle.pq_container.specs.Types.TimeUnit.{millis, micros}
 use Rattle.schema_fit.specs.Fits.{agrees_with, fits_to}
+use Rattle.schema_fit.specs.RowExamples.{IsPageTable}
 
 abbrev pub node : Repetition → Option Converted → Option Logical → Info
 node repetition converted logical = record { name = []; repetition = repetition; id = None; converted = converted; logical = logical }
@@ -63,6 +64,7 @@ pub record AreRows : Type 0 where
   pub size : fits_to (must (t_fixed_size_binary 5)) (plain required (fixed 6)) ≡ false
   pub dictionary : fits_to (must (t_dictionary Int8 t_uint64 false)) (plain required int64) ≡ true
   pub nested_dictionary : fits_to (must (t_list (must (t_dictionary Int8 t_uint64 false)))) (plain repeated int64) ≡ false
+  pub nested_fixed_dictionary : fits_to (must (t_list (must (t_dictionary Int8 (t_fixed_size_binary 5) false)))) (plain repeated (fixed 5)) ≡ true
   pub decimal_dictionary : fits_to (must (t_dictionary Int8 (t_decimal 9 2) false)) (plain required int64) ≡ false
   pub same_unit : fits_to (must (t_timestamp Microsecond None)) (leaf (node required None (Some (Logical.timestamp true micros))) int64) ≡ true
   pub other_unit : fits_to (must (t_timestamp Microsecond None)) (leaf (node required None (Some (Logical.timestamp true millis))) int64) ≡ false
@@ -73,3 +75,4 @@ pub record AreRows : Type 0 where
 pub record AreWorked : Type 0 where
   pub skeletons : AreSkeletons
   pub rows : AreRows
+  pub table : IsPageTable

@@ -26,6 +26,8 @@ fn asked_for(data_type: &DataType) -> Asked
 /// the field has nullable fields, lists and leaves, and each leaf is stored as its Arrow type allows there, in the same
 /// unit of time (Parquet format, LogicalTypes; Arrow columnar format, "Data Types"). Names and field ids are not
 /// compared, and groups and structs without a column count as absent.
+///
+/// Both nest to at most 128: `Field::nests_within` tests the field, and the trees of every `SchemaDescriptor` do.
 pub fn fits(field: &Field, type_: &ParquetType) -> bool
     requires field { field_nesting (field_view field.now) ≤ 128 }
     requires tree { nesting (tree_view type_.now) ≤ 128 }
@@ -35,7 +37,7 @@ pub fn fits(field: &Field, type_: &ParquetType) -> bool
 }
 
 /// Whether nothing that is known of the field speaks against the tree: as `fits`, but a leaf whose Arrow type no page
-/// holds goes together with every leaf, and a leaf that pages hold in flat columns alone may be nested.
+/// holds goes together with every leaf, and a leaf that pages hold in flat columns alone may be nested. Both nest as `fits` asks.
 pub fn agrees(field: &Field, type_: &ParquetType) -> bool
     requires field { field_nesting (field_view field.now) ≤ 128 }
     requires tree { nesting (tree_view type_.now) ≤ 128 }

@@ -9,6 +9,3 @@ mod walk;
 
 pub use fit::{agrees, fits};
 pub use laws::as_worked;
-
-#[cfg(test)]
-mod tests;

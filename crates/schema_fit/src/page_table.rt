@@ -2,7 +2,7 @@
 ghost use Rattle.std.specs.Prelude.{◌≡◌, option_map};
 ghost use Rattle.columns_core.specs.View.{type_view};
 ghost use Rattle.pq_container.specs.Views.{physical_view, unit_view, logical_view, converted_view};
-ghost use Rattle.schema_fit.specs.PageTable.{allows, anywhere, only_flat, value_row, entry_row, row_of, unit_of, annotated_unit, value_unit, type_unit, is_same, no_other_unit, is_allowed, go_together};
+ghost use Rattle.schema_fit.specs.PageTable.{allows, anywhere, only_flat, is_stored_length, value_row, entry_row, row_of, unit_of, annotated_unit, value_unit, type_unit, is_same, no_other_unit, is_allowed, go_together};
 ghost use Rattle.schema_fit.specs.Places.{leaf_view};
 
 use columns_base::PhysicalType;
@@ -75,6 +75,13 @@ fn only_flat(stored: Stored) -> Option<Row>
     })
 }
 
+// Whether a page may have fixed byte strings of the length (Parquet format, `FIXED_LEN_BYTE_ARRAY`, whose length is an i32).
+fn is_stored_length(length: usize) -> bool
+    ensures { result ≡ is_stored_length length }
+{
+    1 <= length && length <= 2_147_483_647
+}
+
 /// The row of a type without a dictionary.
 fn row_of_values(is_nullable: bool, data_type: &DataType) -> Option<Row>
     ensures { result ≡ value_row is_nullable (type_view data_type.now) }
@@ -97,7 +104,7 @@ fn row_of_values(is_nullable: bool, data_type: &DataType) -> Option<Row>
         DataType::Utf8 | DataType::LargeUtf8 => anywhere(Stored::ByteArray),
         DataType::Binary | DataType::LargeBinary => anywhere(Stored::ByteArray),
         DataType::FixedSizeBinary(size) => {
-            if *size < 1 || *size > 2_147_483_647 {
+            if !is_stored_length(*size) {
                 return None;
             }
             only_flat(Stored::Fixed(*size))
@@ -106,7 +113,14 @@ fn row_of_values(is_nullable: bool, data_type: &DataType) -> Option<Row>
         DataType::Interval(IntervalUnit::YearMonth | IntervalUnit::DayTime) => {
             only_flat(Stored::Fixed(12))
         }
-        _ => None,
+        DataType::Time32(TimeUnit::Microsecond | TimeUnit::Nanosecond) => None,
+        DataType::Time64(TimeUnit::Second | TimeUnit::Millisecond) => None,
+        DataType::Interval(IntervalUnit::MonthDayNano) => None,
+        DataType::Float16 | DataType::Float32 | DataType::Float64 => None,
+        DataType::Decimal256(_, _) | DataType::Dictionary(_, _, _) => None,
+        DataType::List(_) | DataType::LargeList(_) | DataType::FixedSizeList(_, _) => None,
+        DataType::Struct(_) | DataType::Map(_, _) | DataType::Union(_, _, _) => None,
+        DataType::Extension(_, _, _) => None,
     }
 }
 
@@ -118,6 +132,12 @@ fn row_of_entries(data_type: &DataType) -> Option<Row>
         DataType::Null | DataType::Boolean => None,
         DataType::Decimal(_, _) | DataType::Interval(_) => None,
         DataType::UInt64 | DataType::Timestamp(_, _) => only_flat(Stored::Int64),
+        DataType::FixedSizeBinary(size) => {
+            if !is_stored_length(*size) {
+                return None;
+            }
+            anywhere(Stored::Fixed(*size))
+        }
         _ => row_of_values(true, data_type),
     }
 }

@@ -1,14 +1,16 @@
 -- Worked trees and leaves, with their Arrow types.
-use Rattle.std.specs.Prelude.{◌≡◌, ℕ, List, [], ◌∷◌, true, false, Option, Some, None, codes}
+use Rattle.std.specs.Prelude.{◌≡◌, ℕ, List, [], ◌∷◌, true, false, Option, Some, None, option_map, codes}
 use Rattle.columns_core.specs.declared.types.TimeUnit.TheVariants.{Millisecond, Microsecond, Nanosecond}
 use Rattle.columns_core.specs.declared.types.IntervalUnit.TheVariants.{DayTime}
 use Rattle.columns_core.specs.Tree.{TypeTree, t_int8, t_int32, t_int64, t_uint32, t_uint64, t_timestamp, t_date32, t_time32, t_time64, t_interval, t_binary, t_fixed_size_binary, t_utf8, t_decimal, t_list, t_map, t_struct, FieldTree, field}
+use Rattle.columns_core.specs.Measures.{nesting}
 use Rattle.columns_core.specs.View.{fields_of}
 use Rattle.pq_container.specs.Physical.{Physical, int32, int64, int96, byte_array, fixed}
 use Rattle.pq_container.specs.Tree.{Tree, leaf, group, no_trees, tree}
 use Rattle.pq_container.specs.TreeViews.{trees_of}
 use Rattle.pq_container.specs.Types.{Info, Repetition, required, optional, repeated, Logical, Converted}
 use Rattle.pq_container.specs.Types.TimeUnit.{millis, micros, nanos}
+use Rattle.schema_from_tree.specs.Depth.{depth}
 use Rattle.schema_from_tree.specs.Leaves.{leaf_type}
 use Rattle.schema_from_tree.specs.FromTree.{type_of, arrow_fields}
 
@@ -82,7 +84,16 @@ pub record AreLeaves : Type 0 where
   pub interval : annotated (fixed 12) None (Some Converted.interval) ≡ t_interval DayTime
   pub no_interval : annotated (fixed 12) (Some Logical.uuid) (Some Converted.interval) ≡ t_fixed_size_binary 12
 
+-- Repeated nodes, each of which counts twice: in one another, and as the middle of a list.
+pub record AreDeep : Type 0 where
+  pub nested : depth (group (plain_node (codes "a") repeated) (tree (group (plain_node (codes "b") repeated) (tree (number (codes "c") required) no_trees)) no_trees)) ≡ 5
+  pub nested_type : option_map nesting (type_of (group (plain_node (codes "a") repeated) (tree (group (plain_node (codes "b") repeated) (tree (number (codes "c") required) no_trees)) no_trees))) ≡ Some 5
+  pub required_type : option_map nesting (type_of (group (plain_node (codes "a") required) (tree (number (codes "c") required) no_trees))) ≡ Some 2
+  pub listed : depth (list_node (codes "a") (group (plain_node (codes "list") repeated) (tree (number (codes "element") required) no_trees) ∷ [])) ≡ 4
+  pub listed_type : option_map nesting (type_of (list_node (codes "a") (group (plain_node (codes "list") repeated) (tree (number (codes "element") required) no_trees) ∷ []))) ≡ Some 2
+
 pub record AreWorked : Type 0 where
   pub lists : AreLists
   pub groups : AreGroups
   pub leaves : AreLeaves
+  pub depths : AreDeep

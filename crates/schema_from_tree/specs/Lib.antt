@@ -1,4 +1,5 @@
 pub mod Answers
+pub mod Depth
 pub mod Examples
 pub mod FromTree
 pub mod Leaves

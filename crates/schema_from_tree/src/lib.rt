@@ -8,8 +8,5 @@ mod leaves;
 mod schema;
 
 pub use info::is_nullable;
-pub use laws::as_worked;
+pub use laws::{as_worked, types_nest_as_trees};
 pub use schema::{parquet_to_arrow_schema, to_data_type};
-
-#[cfg(test)]
-mod tests;

@@ -18,7 +18,7 @@ use pq_container::{FieldInfo, ParquetType, Repetition};
 use std::alloc::Global;
 
 /// The Arrow fields of the nodes, in order, without those of groups that hold no column (Parquet format, LogicalTypes).
-/// `Memory` alone is refused.
+/// `Memory` alone is refused. The trees nest to at most 128, as those of every `SchemaDescriptor` do.
 pub fn parquet_to_arrow_schema(alloc: Global, fields: &[ParquetType]) -> Result<Vec<Field>>
     requires { nesting_of (trees_view fields.now) ≤ 128 }
     ensures ok { IfOk result (λ fs. map field_view fs.items ≡ arrow_fields (trees_view fields.now)) }
@@ -28,7 +28,7 @@ pub fn parquet_to_arrow_schema(alloc: Global, fields: &[ParquetType]) -> Result<
 }
 
 /// The Arrow type of the node, and None where no column gives one (Parquet format, LogicalTypes). `Memory` alone is
-/// refused.
+/// refused. The node nests to at most 128, as those of every `SchemaDescriptor` do.
 pub fn to_data_type(alloc: Global, type_: &ParquetType) -> Result<Option<DataType>>
     requires { nesting (tree_view type_.now) ≤ 128 }
     ensures ok { IfOk result (λ t. option_map type_view t ≡ type_of (tree_view type_.now)) }

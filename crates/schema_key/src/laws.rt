@@ -16,8 +16,8 @@ pub fn attached_is_inferred<C: SchemaCodec>(_codec: &C)
     ensures { IsInferredAgain (C.bytes_of _codec.now) (C.reads _codec.now) }
 {}
 
-/// The same of a schema in memory, which has all that the codec asks of it. Its types nest to at most 128. The two premises
-/// that are left are clauses of `add_arrow_schema`.
+/// The same of a schema in memory, which has all that the codec asks of it. Its types nest to at most 128, which
+/// `Schema::nests_within` tests. The two premises that are left are clauses of `add_arrow_schema`.
 pub fn attached_schema_is_inferred<C: SchemaCodec>(codec: &C, schema: &Schema)
     requires { fields_nesting (schema_view schema.now).fields ≤ max_nesting }
     ensures { IsInferredFrom (C.bytes_of codec.now) (C.reads codec.now) (schema_view schema.now) }

@@ -36,7 +36,7 @@ module _ (asked : Asked) where
     type_fits (t_struct fs) i b h = same_under (go_together asked) i.repetition (fields_bones fs) (trees_bones (trees_of fs)) (fields_fit fs h)
     type_fits (t_extension name t m) i b h = type_fits t i b h
     type_fits (t_dictionary keys values sorted) i b h = dictionary_fits asked i (record { data_type = t_dictionary keys values sorted; is_nullable = b }) values refl refl (and_parts _ _ h).0
-    type_fits t i b h = value_fits asked i b t refl (and_parts _ _ h).0
+    type_fits t i b h = value_fits asked i b t refl (and_parts (has_row asked (record { data_type = t; is_nullable = b })) true h).0
 
     field_fits : (f : FieldTree) → all_bones (has_row asked) (field_bones f) ≡ true → same_bones (go_together asked) (field_bones f) (tree_bones (tree_of f)) ≡ true
     field_fits (field name t true m) h = type_fits t (named name optional) true (all_beneath (has_row asked) optional (type_bones true t) h)

@@ -1,5 +1,5 @@
 -- What is stored of a leaf is what its row allows, in its unit.
-use Rattle.std.proofs.Common.{◌≡◌, ℕ, zero, suc, ◌+◌, ◌-◌, ◌*◌, ◌^◌, ◌≤◌, Bool, true, false, ◌&&◌, cond, leb, nat_le, is_some, Option, Some, None, refl, sym, ap, ◌∙◌, subst, true≢false, arith}
+use Rattle.std.proofs.Common.{◌≡◌, ℕ, zero, suc, ◌+◌, ◌-◌, ◌*◌, ◌^◌, ◌≤◌, Bool, true, false, cond, leb, is_some, Option, Some, None, refl, sym, ap, ◌∙◌, subst, true≢false, arith}
 use Rattle.std.specs.Prelude.{if◌then◌else◌}
 use Rattle.std.proofs.lemmas.Bool.{and_from, le-leb, eq-eqb}
 use Rattle.columns_core.specs.declared.types.TimeUnit.TheVariants.{Second, Millisecond, Microsecond, Nanosecond}
@@ -12,7 +12,7 @@ use Rattle.schema_fit.specs.declared.page_table.Stored.TheVariants as S
 use Rattle.schema_fit.specs.declared.page_table.Row.{Row}
 use Rattle.schema_fit.specs.declared.page_table.Asked.{Asked}
 use Rattle.schema_fit.specs.declared.page_table.Asked.TheVariants as A
-use Rattle.schema_fit.specs.PageTable.{allows, only_flat, value_row, entry_row, row_of, annotated_unit, value_unit, type_unit, no_other_unit, same_units, go_by, go_together}
+use Rattle.schema_fit.specs.PageTable.{allows, anywhere, only_flat, is_stored_length, value_row, entry_row, row_of, annotated_unit, value_unit, type_unit, no_other_unit, same_units, go_by, go_together}
 use Rattle.schema_fit.specs.Skeleton.{bone, no_bones, one, under, StoredLeaf, ArrowLeaf, tree_bones, same_bones}
 use Rattle.schema_map.specs.Rows.{allows_asked, has_row}
 use Rattle.schema_map.proofs.Bones.{same_under}
@@ -65,9 +65,17 @@ nullable_row (t_interval YearMonth) h = refl
 nullable_row (t_interval DayTime) h = refl
 nullable_row t h = refl
 
-fixed_stored : (has_length : Bool) (n : ℕ) → is_some (if has_length then only_flat (S.Fixed n) else None) ≡ true → stores (if has_length then only_flat (S.Fixed n) else None) (fixed n) ≡ true
-fixed_stored true n h = eq-eqb n n refl
-fixed_stored false n h = h
+-- byte strings of a length, where pages have such
+abbrev fixed_row : Bool → Bool → ℕ → Option Row
+fixed_row has_length nested n = if has_length then Some (record { stored = S.Fixed n; is_nested = nested }) else None
+
+fixed_stored : (has_length nested : Bool) (n : ℕ) → is_some (fixed_row has_length nested n) ≡ true → stores (fixed_row has_length nested n) (fixed n) ≡ true
+fixed_stored true nested n h = eq-eqb n n refl
+fixed_stored false nested n h = h
+
+fixed_value : (has_length : Bool) (n : ℕ) → is_some (if has_length then anywhere (S.Fixed n) else None) ≡ true → is_some (if has_length then only_flat (S.Fixed n) else None) ≡ true
+fixed_value true n h = refl
+fixed_value false n h = h
 
 value_stored : (t : TypeTree) → is_some (value_row true t) ≡ true → stores (value_row true t) (stored_as t).physical ≡ true
 value_stored (t_timestamp Second z) h = h
@@ -84,7 +92,7 @@ value_stored (t_time64 Microsecond) h = h
 value_stored (t_time64 Nanosecond) h = h
 value_stored (t_interval YearMonth) h = h
 value_stored (t_interval DayTime) h = h
-value_stored (t_fixed_size_binary n) h = fixed_stored (nat_le 1 n && nat_le n 2147483647) n h
+value_stored (t_fixed_size_binary n) h = fixed_stored (is_stored_length n) false n h
 value_stored (t_decimal p s) h = let w = decimal_within p in decimal_allowed (leb p 9) (leb p 18) (decimal_length p) w.0 w.1
 value_stored t h = h
 
@@ -98,6 +106,7 @@ entry_stored (t_timestamp Second z) h = refl
 entry_stored (t_timestamp Millisecond z) h = refl
 entry_stored (t_timestamp Microsecond z) h = refl
 entry_stored (t_timestamp Nanosecond z) h = refl
+entry_stored (t_fixed_size_binary n) h = fixed_stored (is_stored_length n) true n h
 entry_stored t h = value_stored t h
 
 -- what may be an entry may be a value
@@ -108,6 +117,7 @@ entry_value (t_decimal p s) h = refl
 entry_value (t_interval unit) h = absurd (true≢false (sym h))
 entry_value t_uint64 h = refl
 entry_value (t_timestamp unit z) h = refl
+entry_value (t_fixed_size_binary n) h = fixed_value (is_stored_length n) n h
 entry_value t h = h
 
 -- ---- units

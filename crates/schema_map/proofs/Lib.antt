@@ -2,3 +2,4 @@ mod Bones
 mod Leaves
 mod Fields
 mod Counts
+mod Storing

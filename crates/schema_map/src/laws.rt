@@ -1,6 +1,7 @@
 //! What is known of a field and the tree that it is written as.
 ghost use Rattle.schema_map.specs.Counts.{LeavesAreCounted};
 ghost use Rattle.schema_map.specs.Examples.{AreWorked};
+ghost use Rattle.schema_map.specs.StoredRows.{AreStoredByRows};
 ghost use Rattle.schema_map.specs.Laws.{FittingFieldsAgree, RowsDecide, WrittenFieldsFit, WrittenSchemasFit};
 
 /// The tree that `to_parquet_type` gives for a field fits the field, where each of the field's leaves is of a type whose
@@ -29,6 +30,12 @@ pub fn fitting_fields_agree()
 /// counts, where each leaf is of a type whose values pages have.
 pub fn leaves_are_counted()
     ensures { LeavesAreCounted }
+{}
+
+/// The two sides of the page table are one: the row of a type allows exactly the physical types under which values of the type are stored
+/// (Parquet format, "Types" and LogicalTypes). Null has a row and no value.
+pub fn rows_are_stored()
+    ensures { AreStoredByRows }
 {}
 
 /// Worked fields that fit the trees that they are written as, or do not.

@@ -5,8 +5,8 @@
 mod laws;
 
 pub use laws::{
-    as_worked, fitting_fields_agree, leaves_are_counted, rows_decide, written_fields_fit,
-    written_schemas_fit,
+    as_worked, fitting_fields_agree, leaves_are_counted, rows_are_stored, rows_decide,
+    written_fields_fit, written_schemas_fit,
 };
 pub use schema_codec::{CodecFault, PlainCodec, SchemaCodec};
 pub use schema_fit::{agrees, fits};
@@ -18,6 +18,3 @@ pub use schema_to_tree::{
     can_encode, decimal_length_from_precision, n_columns, to_parquet_schema, to_parquet_type,
     transverse,
 };
-
-#[cfg(test)]
-mod tests;

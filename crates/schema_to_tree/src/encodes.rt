@@ -8,7 +8,8 @@ use columns_core::DataType;
 use pq_container::Encoding;
 
 /// Whether values of the type can be written in the encoding (Parquet format, "Encodings"): plain always, the delta encodings
-/// and those of dictionaries by the type beneath its extensions. The type nests to at most 128.
+/// and those of dictionaries by the type beneath its extensions. The type nests to at most 128, which `DataType::nests_within`
+/// tests.
 pub fn can_encode(data_type: &DataType, encoding: Encoding) -> bool
     requires { nesting (type_view data_type.now) ≤ 128 }
     ensures { result ≡ table.encodes encoding (type_view data_type.now) }

@@ -12,7 +12,8 @@ use columns_base::{A, Error, N, Result};
 use columns_core::{DataType, Field};
 use std::alloc::Global;
 
-/// The number of a type's leaves, or `usize::MAX` where there are more. N5 for a union. The type nests to at most 128.
+/// The number of a type's leaves, or `usize::MAX` where there are more. N5 for a union. The type nests to at most 128, which
+/// `DataType::nests_within` tests.
 #[cycle(count)]
 pub fn n_columns(data_type: &DataType) -> Result<usize>
     requires { nesting (type_view data_type.now) ≤ 128 }
@@ -50,7 +51,7 @@ fn n_columns_of(fields: &Vec<Field>) -> Result<usize>
 
 /// What `map` gives for each leaf type, in order. A dictionary is a leaf, and an extension over a leaf is given as it stands.
 /// N5 for a union, A8 for a map whose entry is no struct, whichever comes first in the order of the parts. The type nests to
-/// at most 128.
+/// at most 128, which `DataType::nests_within` tests.
 pub fn transverse<T: Drop, F: Fn(&DataType) -> T + Drop>(
     alloc: Global,
     data_type: &DataType,

@@ -18,6 +18,3 @@ pub use laws::as_worked;
 pub use leaves::{n_columns, transverse};
 pub use schemas::to_parquet_schema;
 pub use trees::to_parquet_type;
-
-#[cfg(test)]
-mod tests;

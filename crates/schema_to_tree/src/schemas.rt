@@ -8,7 +8,7 @@ ghost use Rattle.schema_to_tree.specs.Order.{IsFirst, schema_refusal};
 
 use crate::depth::{fields_nesting_to, fields_tree_depth_to};
 use crate::times::have_bad_time64;
-use crate::trees::{MOST, field_trees};
+use crate::trees::{MAX_NESTING, field_trees};
 use columns_base::{A, Error, N, Result};
 use columns_core::Schema;
 use pq_container::SchemaDescriptor;
@@ -21,10 +21,10 @@ pub fn to_parquet_schema(alloc: Global, schema: &Schema) -> Result<SchemaDescrip
     ensures err { IfErr result (RefusesSchema (schema_view schema.now).fields) }
     ensures first { IfErr result (IsFirst (schema_refusal (schema_view schema.now).fields)) }
 {
-    if fields_nesting_to(&schema.fields, MOST + 1) > MOST {
+    if fields_nesting_to(&schema.fields, MAX_NESTING + 1) > MAX_NESTING {
         return Err(Error::NotYetImplemented(N::N7));
     }
-    if fields_tree_depth_to(&schema.fields, MOST) >= MOST {
+    if fields_tree_depth_to(&schema.fields, MAX_NESTING) >= MAX_NESTING {
         return Err(Error::NotYetImplemented(N::N7));
     }
     if have_bad_time64(&schema.fields) {

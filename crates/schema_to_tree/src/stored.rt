@@ -2,7 +2,7 @@
 ghost use Rattle.std.specs.Prelude.{◌≡◌, ◌≤◌, false, Some, None, option_map, string_bytes};
 ghost use Rattle.columns_core.specs.View.{type_view};
 ghost use Rattle.columns_core.specs.declared.types.IntervalUnit.TheVariants.{YearMonth};
-ghost use Rattle.columns_core.specs.Tree.{t_utf8, t_date32, t_interval, t_time32, t_time64, t_timestamp, t_fixed_size_binary, t_decimal};
+ghost use Rattle.columns_core.specs.Tree.{t_null, t_utf8, t_date32, t_interval, t_time32, t_time64, t_timestamp, t_fixed_size_binary, t_decimal};
 ghost use Rattle.pq_container.specs.Types.{Logical};
 ghost use Rattle.pq_container.specs.Views.{physical_view, converted_view, unit_view, integer_view};
 ghost use Rattle.schema_to_tree.specs.Table as table;
@@ -77,6 +77,16 @@ fn interval() -> StoredAs
         physical_type: PhysicalType::FixedLenByteArray(12),
         converted_type: Some(ConvertedType::Interval),
         logical_type: None,
+    }
+}
+
+fn unknown() -> StoredAs
+    ensures { stored_view result ≡ table.stored_as t_null }
+{
+    StoredAs {
+        physical_type: PhysicalType::Int32,
+        converted_type: None,
+        logical_type: Some(LogicalType::Unknown),
     }
 }
 
@@ -198,63 +208,35 @@ pub fn stored_as(data_type: &DataType) -> Result<StoredAs>
     requires { table.is_compound (type_view data_type.now) ≡ false }
     ensures { Gives stored_view (table.stored_as (type_view data_type.now)) (leaf_fault (type_view data_type.now)) result }
 {
-    let stored = match data_type {
-        DataType::Null => StoredAs {
-            physical_type: PhysicalType::Int32,
-            converted_type: None,
-            logical_type: Some(LogicalType::Unknown),
-        },
-        DataType::Boolean => bare(PhysicalType::Boolean),
-        DataType::Int8 => whole(PhysicalType::Int32, ConvertedType::Int8, IntegerType::Int8),
-        DataType::Int16 => whole(
-            PhysicalType::Int32,
-            ConvertedType::Int16,
-            IntegerType::Int16,
-        ),
-        DataType::Int32 => bare(PhysicalType::Int32),
-        DataType::UInt8 => whole(
-            PhysicalType::Int32,
-            ConvertedType::Uint8,
-            IntegerType::UInt8,
-        ),
-        DataType::UInt16 => whole(
-            PhysicalType::Int32,
-            ConvertedType::Uint16,
-            IntegerType::UInt16,
-        ),
-        DataType::UInt32 => whole(
-            PhysicalType::Int32,
-            ConvertedType::Uint32,
-            IntegerType::UInt32,
-        ),
-        DataType::UInt64 => whole(
-            PhysicalType::Int64,
-            ConvertedType::Uint64,
-            IntegerType::UInt64,
-        ),
-        DataType::Int64 | DataType::Date64 | DataType::Duration(_) => bare(PhysicalType::Int64),
-        DataType::Float32 => bare(PhysicalType::Float),
-        DataType::Float64 => bare(PhysicalType::Double),
-        DataType::Binary | DataType::LargeBinary => bare(PhysicalType::ByteArray),
-        DataType::Utf8 | DataType::LargeUtf8 => text(),
-        DataType::Date32 => date(),
-        DataType::Timestamp(unit, zone) => timestamp(*unit, zone),
-        DataType::Time32(unit) => time32(*unit)?,
-        DataType::Time64(unit) => time64(*unit)?,
-        DataType::Interval(_) => interval(),
-        DataType::FixedSizeBinary(size) => fixed(*size)?,
-        DataType::Decimal(precision, scale) => decimal(*precision, *scale)?,
-        DataType::Float16 | DataType::Decimal256(_, _) | DataType::Union(_, _, _) => {
-            return Err(UNWRITTEN);
-        }
+    let (int32, int64) = (PhysicalType::Int32, PhysicalType::Int64);
+    match data_type {
+        DataType::Null => Ok(unknown()),
+        DataType::Boolean => Ok(bare(PhysicalType::Boolean)),
+        DataType::Int8 => Ok(whole(int32, ConvertedType::Int8, IntegerType::Int8)),
+        DataType::Int16 => Ok(whole(int32, ConvertedType::Int16, IntegerType::Int16)),
+        DataType::UInt8 => Ok(whole(int32, ConvertedType::Uint8, IntegerType::UInt8)),
+        DataType::UInt16 => Ok(whole(int32, ConvertedType::Uint16, IntegerType::UInt16)),
+        DataType::Int32 => Ok(bare(int32)),
+        DataType::UInt32 => Ok(whole(int32, ConvertedType::Uint32, IntegerType::UInt32)),
+        DataType::UInt64 => Ok(whole(int64, ConvertedType::Uint64, IntegerType::UInt64)),
+        DataType::Int64 | DataType::Date64 | DataType::Duration(_) => Ok(bare(int64)),
+        DataType::Float32 => Ok(bare(PhysicalType::Float)),
+        DataType::Float64 => Ok(bare(PhysicalType::Double)),
+        DataType::Binary | DataType::LargeBinary => Ok(bare(PhysicalType::ByteArray)),
+        DataType::Utf8 | DataType::LargeUtf8 => Ok(text()),
+        DataType::Date32 => Ok(date()),
+        DataType::Timestamp(unit, zone) => Ok(timestamp(*unit, zone)),
+        DataType::Time32(unit) => time32(*unit),
+        DataType::Time64(unit) => time64(*unit),
+        DataType::Interval(_) => Ok(interval()),
+        DataType::FixedSizeBinary(size) => fixed(*size),
+        DataType::Decimal(precision, scale) => decimal(*precision, *scale),
+        DataType::Float16 | DataType::Decimal256(_, _) | DataType::Union(_, _, _) => Err(UNWRITTEN),
         // Types of parts, which the caller takes apart.
-        DataType::List(_)
-        | DataType::LargeList(_)
-        | DataType::FixedSizeList(_, _)
-        | DataType::Struct(_)
-        | DataType::Map(_, _)
-        | DataType::Dictionary(_, _, _)
-        | DataType::Extension(_, _, _) => return Err(UNWRITTEN),
-    };
-    Ok(stored)
+        DataType::List(_) | DataType::LargeList(_) | DataType::FixedSizeList(_, _) => Err(
+            UNWRITTEN,
+        ),
+        DataType::Struct(_) | DataType::Map(_, _) => Err(UNWRITTEN),
+        DataType::Dictionary(_, _, _) | DataType::Extension(_, _, _) => Err(UNWRITTEN),
+    }
 }

@@ -18,8 +18,8 @@ use columns_core::{DataType, Field};
 use pq_container::{ConvertedType, FieldInfo, LogicalType, ParquetType, Repetition};
 use std::alloc::Global;
 
-/// The most that types and trees nest.
-pub const MOST: usize = 128;
+/// How deep types and trees may nest.
+pub const MAX_NESTING: usize = 128;
 
 /// The tree of a field (Parquet format, LogicalTypes). A node is optional where the field is nullable. A dictionary goes as
 /// its value type under the field's name, an extension by its inner type. A4 where the field's type has a struct without
@@ -31,10 +31,10 @@ pub fn to_parquet_type(alloc: Global, field: &Field) -> Result<ParquetType>
     ensures err { IfErr result (RefusesField (field_view field.now)) }
     ensures first { IfErr result (IsFirst (field_refusal (field_view field.now))) }
 {
-    if nesting_to(&field.data_type, MOST + 1) > MOST {
+    if nesting_to(&field.data_type, MAX_NESTING + 1) > MAX_NESTING {
         return Err(Error::NotYetImplemented(N::N7));
     }
-    if tree_depth_to(&field.data_type, MOST + 1) > MOST {
+    if tree_depth_to(&field.data_type, MAX_NESTING + 1) > MAX_NESTING {
         return Err(Error::NotYetImplemented(N::N7));
     }
     if has_bad_time64(&field.data_type) {

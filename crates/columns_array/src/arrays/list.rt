@@ -125,7 +125,7 @@ impl ListArray {
         requires { offset + length ≤ tree_len self.old }
         ensures { self.new ≡ cut self.old offset length }
     {
-        self.offsets.slice(offset, length);
+        self.offsets.slice_ranges(offset, length);
         cut_validity(&mut self.validity, offset, length);
     }
 }

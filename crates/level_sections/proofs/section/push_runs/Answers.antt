@@ -1,10 +1,10 @@
-use Rattle.std.proofs.Common.{arith, refl, subst, ℕ, List, [], map, ◌∙◌}
+use Rattle.std.proofs.Common.{arith, ◌≤◌, refl, subst, ℕ, List, [], map, ◌∙◌}
 use Rattle.std.proofs.lemmas.List.{length-map}
 use Rattle.levels.specs.Nested.{part_of, parts_of}
 use Rattle.levels.specs.Levels.{path_pairs}
 use Rattle.pq_runs.proofs.Steps.{finished}
 use Rattle.levels.specs.Stretch.{level_of}
-use Rattle.level_runs.specs.Writing.{AppendsRuns}
+use Rattle.pq_runs.specs.Writing.{AppendsRuns}
 use Rattle.level_sections.proofs.Within.{greatest-below}
 use Rattle.level_sections.proofs.Walked.{walked-path}
 use Rattle.level_sections.proofs.section.push_runs.Goals as goal
@@ -12,7 +12,8 @@ use Rattle.level_sections.proofs.section.push_runs.Goals as goal
 pub new-writer-requires-clause-most : goal.new-writer-requires-clause-most
 new-writer-requires-clause-most c =
     let low = greatest-below c.args.level (parts_of c.args.nested.now) c.requires.well (rw (length-map c.args.nested.now part_of) c.requires.parts) in
-    c.get_bit_width.ensures.least 8 (omega (arith, low, c.requires.max))
+    let eight : c.get_bit_width.result ≤ 8 = c.get_bit_width.ensures.least 8 (omega (arith, low, c.requires.max)) in
+    omega (arith, eight)
 
 pub returns-clause-ok : goal.returns-clause-ok
 returns-clause-ok c =

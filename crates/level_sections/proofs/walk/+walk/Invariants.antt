@@ -1,7 +1,7 @@
 use Rattle.std.proofs.Common.{◌≡◌, ℕ, ◌+◌, ◌-◌, ◌*◌, ◌≤◌, ◌++◌, List, length}
 use Rattle.levels.specs.Nested.{parts_of}
 use Rattle.pq_runs.specs.Writing.{Extends}
-use Rattle.level_runs.specs.Writing.{Keeps}
+use Rattle.pq_runs.specs.Writing.{Keeps}
 use Rattle.level_sections.specs.Walk.{walked}
 use Rattle.level_sections.proofs.Walked.{Goes}
 use Rattle.level_sections.proofs.walk.+walk.Given as goal

@@ -1,6 +1,6 @@
 use Rattle.std.proofs.Common.{◌++◌, ◌-◌, ◌∙◌, List, ℕ, replicate, subst, sym, ap, append_assoc}
 use Rattle.pq_runs.proofs.Steps.{finished}
-use Rattle.level_runs.specs.Writing.{Keeps}
+use Rattle.pq_runs.specs.Writing.{Keeps}
 use Rattle.level_sections.proofs.Walked.{definitions-like, repetitions-like}
 use Rattle.level_sections.proofs.walk.push_pairs.Goals as goal
 

@@ -9,4 +9,4 @@ overflow_sub-result g c =
     let o = c.args.rows.first in
     let n = c.args.rows.count in
     let up : slice_index os (o + 0) ≤ slice_index os (o + n) = later_place os o 0 n c.know.ensures (omega arith) c.requires.within in
-    rw (c.place-first.ensures, c.place.ensures, c.slice.ensures, place_cut os o n 0 (omega arith), place_cut os o n n (omega arith)) up
+    rw (c.place-first.ensures, c.place.ensures, c.slice_ranges.ensures, place_cut os o n 0 (omega arith), place_cut os o n n (omega arith)) up

@@ -1,7 +1,7 @@
 use Rattle.std.proofs.Common.{◌<◌, ◌^◌, ℕ, rules, arith, subst}
 use Rattle.std.specs.Iterator.{Drains}
 use Rattle.pq_numbers.specs.Bits.{IsWidth}
-use Rattle.page_write.proofs.Sections.{no_section, no_section_short, a_section, below_width}
+use Rattle.page_write.proofs.Sections.{no_section, a_section, below_width}
 use Rattle.page_write.proofs.levels.push_levels.Goals as goal
 
 pub returns-then-max-eq0-clause-ok : goal.returns-then-max-eq0-clause-ok
@@ -25,14 +25,3 @@ returns-clause-ok g c =
     let e = c.in_ok-encode_u32.ensures.ok in
     let fits : c.args.max < 2 ^ 32 = omega arith in
     (e.0, e.1, a_section c.args.max c.get_bit_width.result c.args.out.now.items c.encode_u32.new.out.items e.0 width fits c.if-max-eq0.false (c.requires.gives e.0 e.1).1 e.2)
-
-pub returns-then-max-eq0-clause-short : goal.returns-then-max-eq0-clause-short
-returns-then-max-eq0-clause-short g c =
-    let drains : Drains g.I.Iterator.next_gives c.args.levels c.loop-level.yielded = search rules in
-    (c.loop-level.yielded, drains, no_section_short c.args.max c.args.out.now.items c.loop-level.yielded c.if-max-eq0.true)
-
-pub returns-clause-short : goal.returns-clause-short
-returns-clause-short g c =
-    let width : IsWidth c.args.max c.get_bit_width.result = subst (λ (n : ℕ). IsWidth n c.get_bit_width.result) c.from.ensures c.get_bit_width.ensures in
-    let e = c.in_ok-encode_u32.ensures.short in
-    (e.0, e.1, record { width = c.get_bit_width.result; is_width = width; short = e.2 })

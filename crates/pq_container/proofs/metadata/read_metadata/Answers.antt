@@ -1,4 +1,4 @@
-use Rattle.std.proofs.Common.{◌≡◌, ◌-◌, ℕ, List, take, drop, length, sym, ap, subst, ◌∙◌, inr}
+use Rattle.std.proofs.Common.{◌≡◌, ◌-◌, ℕ, List, take, drop, length, ap, subst, ◌∙◌, inr}
 use Rattle.columns_base.specs.declared.error.Error.{Error}
 use Rattle.pq_container.specs.Frame.{footer_of}
 use Rattle.pq_container.specs.Metadata.{RefusesMetadata, RefusesFile}

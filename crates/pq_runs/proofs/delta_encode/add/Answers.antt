@@ -4,7 +4,7 @@ use Rattle.std.specs.Int.{w64}
 use Rattle.pq_numbers.specs.Varint.{varint}
 use Rattle.pq_numbers.specs.Zigzag.{zigzag}
 use Rattle.pq_runs.specs.DeltaWriting.{Begun}
-use Rattle.pq_runs.proofs.DeltaSteps.{going_first, going_more}
+use Rattle.pq_runs.proofs.DeltaSteps.{going_first}
 use Rattle.pq_runs.proofs.Steps.{finished}
 use Rattle.pq_runs.proofs.delta_encode.add.Goals as goal
 
@@ -12,12 +12,10 @@ pub returns-in-None-clause-ok : goal.returns-in-None-clause-ok
 returns-in-None-clause-ok c =
     let number : c.to_zigzag.result ≡ zigzag c.args.value = c.to_zigzag.ensures ∙ ap zigzag (to_z-of_z w64 c.args.value c.ranges.value) in
     finished c.push_varint.result (λ e start zs b.
-    let n = subst (λ (o : Option ℤ). Begun start c.args.out.now.items c.args.waiting.now o zs) c.in-None.is b in
-    going_first start c.args.out.now.items c.push_varint.new.out.items c.args.waiting.now zs c.args.value c.ranges.value n.0 n.1 n.2 (e ∙ ap (λ (k : ℕ). c.args.out.now.items ++ varint k) number)) c.push_varint.ensures.ok
+    let n = subst (λ (o : Option ℤ). Begun w64 start c.args.out.now.items c.args.waiting.now o zs) c.in-None.is b in
+    going_first w64 start c.args.out.now.items c.push_varint.new.out.items c.args.waiting.now zs c.args.value c.ranges.value n.0 n.1 n.2 (e ∙ ap (λ (k : ℕ). c.args.out.now.items ++ varint k) number)) c.push_varint.ensures.ok
 
-pub returns-in_ok-make_room-in-Some-clause-ok : goal.returns-in_ok-make_room-in-Some-clause-ok
-returns-in_ok-make_room-in-Some-clause-ok c =
+pub returns-in-Some-clause-ok : goal.returns-in-Some-clause-ok
+returns-in-Some-clause-ok c =
     let fits : SFits w64 c.in-Some.latest = search rules in
-    λ start zs b.
-    let g = c.in_ok-make_room-in-Some.ensures.ok start c.in-Some.latest zs (subst (λ (o : Option ℤ). Begun start c.args.out.now.items c.args.waiting.now o zs) c.in-Some.is b) in
-    rw c.push.ensures (going_more start c.make_room.new.out.items c.make_room.new.waiting zs c.in-Some.latest c.args.value _ c.ranges.value (wrapping_sub_is w64 c.args.value c.in-Some.latest c.ranges.value fits) g)
+    finished c.push_difference.result (λ f start zs b. f w64 start c.in-Some.latest c.args.value zs c.ranges.value (wrapping_sub_is w64 c.args.value c.in-Some.latest c.ranges.value fits) (subst (λ (o : Option ℤ). Begun w64 start c.args.out.now.items c.args.waiting.now o zs) c.in-Some.is b)) c.push_difference.ensures.ok

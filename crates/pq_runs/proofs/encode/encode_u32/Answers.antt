@@ -1,9 +1,7 @@
 use Rattle.std.proofs.Common.{rules, arith, subst, List, ℕ}
 use Rattle.std.specs.Iterator.{Drains}
 use Rattle.pq_runs.proofs.Steps.{zero_width, map_low, was_ok}
-use Rattle.pq_runs.specs.Stretches.{IsShort}
-use Rattle.pq_runs.specs.Writing.{Spelling}
-use Rattle.pq_runs.proofs.Short.{nothing_short}
+use Rattle.pq_runs.specs.Writing.{AppendsRuns}
 use Rattle.pq_runs.proofs.encode.encode_u32.Goals as goal
 
 pub returns-then-width-eq0-clause-ok : goal.returns-then-width-eq0-clause-ok
@@ -14,14 +12,4 @@ returns-then-width-eq0-clause-ok g c =
 pub returns-clause-ok : goal.returns-clause-ok
 returns-clause-ok g c =
     let f = was_ok c.encode_numbers.result c.if-is_err.ensures.value c.encode_numbers.ensures.ok in
-    (f.0, f.1, subst (λ (vs : List ℕ). Spelling c.args.width c.args.out.now.items c.encode_numbers.new.out.items vs) (map_low c.args.width f.0 (c.requires.gives f.0 f.1).1) f.2)
-
-pub returns-then-width-eq0-clause-short : goal.returns-then-width-eq0-clause-short
-returns-then-width-eq0-clause-short g c =
-    let drains : Drains g.I.Iterator.next_gives c.args.values c.loop-value.yielded = search rules in
-    (c.loop-value.yielded, drains, nothing_short c.args.width c.args.out.now.items c.loop-value.yielded)
-
-pub returns-clause-short : goal.returns-clause-short
-returns-clause-short g c =
-    let f = was_ok c.encode_numbers.result c.if-is_err.ensures.value c.encode_numbers.ensures.short in
-    (f.0, f.1, subst (λ (vs : List ℕ). IsShort c.args.width c.args.out.now.items c.encode_numbers.new.out.items vs) (map_low c.args.width f.0 (c.requires.gives f.0 f.1).1) f.2)
+    (f.0, f.1, subst (λ (vs : List ℕ). AppendsRuns c.args.width c.args.out.now.items c.encode_numbers.new.out.items vs) (map_low c.args.width f.0 (c.requires.gives f.0 f.1).1) f.2)

@@ -30,5 +30,5 @@ returns-clause-packed c =
     (p.is (leaf_out column.field_name.now column.item_name.now) (record { physical = refl; repeats = refl; defines = refl }))
     (sym (length-triples 3 column.repetitions.now column.definitions.now vs c.requires.pairs.even))
     (c.row_count.ensures ∙ sym (rows-triples 3 column.repetitions.now column.definitions.now vs c.requires.pairs.even))
-    size f.spells f.four f.is_length
+    size f.is f.four f.is_length
     (joined c.extend_from_slice.new.self.items c.push_data_page.new.out.items c.push_footer.new.file.items c.extend_from_slice-2.new.self.items magic pages f.footer f.four_bytes begin p.parts f.parts c.in_ok-extend_from_slice-2.ensures.items))

@@ -7,8 +7,8 @@ use Rattle.schema_to_tree.proofs.Order.{schema_deep, schema_timed, schema_given}
 use Rattle.schema_to_tree.proofs.Rooted.{schema_answered, schema_short, schema_refuses}
 use Rattle.schema_to_tree.proofs.schemas.to_parquet_schema.Goals as goal
 
-pub returns-then-fields_tree_depth_to-ge-MOST-clause-err : goal.returns-then-fields_tree_depth_to-ge-MOST-clause-err
-returns-then-fields_tree_depth_to-ge-MOST-clause-err c = inr (omega (arith, depth-fields (fields_view c.args.schema.now.fields.items)))
+pub returns-then-fields_tree_depth_to-ge-MAX_NESTING-clause-err : goal.returns-then-fields_tree_depth_to-ge-MAX_NESTING-clause-err
+returns-then-fields_tree_depth_to-ge-MAX_NESTING-clause-err c = inr (omega (arith, depth-fields (fields_view c.args.schema.now.fields.items)))
 
 pub returns-in_err-fields-clause-err : goal.returns-in_err-fields-clause-err
 returns-in_err-fields-clause-err c =
@@ -24,8 +24,8 @@ pub returns-clause-err : goal.returns-clause-err
 returns-clause-err c =
     schema_short (fields_view c.args.schema.now.fields.items) c.in_ok-fields.fields.items c.new.result c.new.ensures.refused c.in_ok-fields.ensures.0
 
-pub returns-then-fields_tree_depth_to-ge-MOST-clause-first : goal.returns-then-fields_tree_depth_to-ge-MOST-clause-first
-returns-then-fields_tree_depth_to-ge-MOST-clause-first c =
+pub returns-then-fields_tree_depth_to-ge-MAX_NESTING-clause-first : goal.returns-then-fields_tree_depth_to-ge-MAX_NESTING-clause-first
+returns-then-fields_tree_depth_to-ge-MAX_NESTING-clause-first c =
     let fs = fields_view c.args.schema.now.fields.items in schema_deep fs (omega (arith, depth-fields fs))
 
 pub returns-then-have_bad_time64-clause-first : goal.returns-then-have_bad_time64-clause-first

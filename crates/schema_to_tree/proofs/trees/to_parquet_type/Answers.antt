@@ -9,8 +9,8 @@ use Rattle.schema_to_tree.proofs.Faulty.{answered, refused_or_short}
 use Rattle.schema_to_tree.proofs.Order.{field_deep, field_timed, field_given}
 use Rattle.schema_to_tree.proofs.trees.to_parquet_type.Goals as goal
 
-pub returns-then-tree_depth_to-gt-MOST-clause-err : goal.returns-then-tree_depth_to-gt-MOST-clause-err
-returns-then-tree_depth_to-gt-MOST-clause-err c =
+pub returns-then-tree_depth_to-gt-MAX_NESTING-clause-err : goal.returns-then-tree_depth_to-gt-MAX_NESTING-clause-err
+returns-then-tree_depth_to-gt-MAX_NESTING-clause-err c =
     let f = c.args.field.now in inr (omega (arith, depth-field (field_view f) ∙ ap field_tree_depth (seen f)))
 
 pub returns-clause-ok : goal.returns-clause-ok
@@ -23,8 +23,8 @@ returns-clause-err c =
     let f = c.args.field.now in
     refused_or_short _ _ (field_view f) _ c.field_tree.ensures (ap (some_field is_bad_time64) (seen f) ∙ sym c.if-has_bad_time64.ensures)
 
-pub returns-then-tree_depth_to-gt-MOST-clause-first : goal.returns-then-tree_depth_to-gt-MOST-clause-first
-returns-then-tree_depth_to-gt-MOST-clause-first c =
+pub returns-then-tree_depth_to-gt-MAX_NESTING-clause-first : goal.returns-then-tree_depth_to-gt-MAX_NESTING-clause-first
+returns-then-tree_depth_to-gt-MAX_NESTING-clause-first c =
     let f = c.args.field.now in field_deep (field_view f) (omega (arith, depth-field (field_view f) ∙ ap field_tree_depth (seen f)))
 
 pub returns-then-has_bad_time64-clause-first : goal.returns-then-has_bad_time64-clause-first

@@ -9,7 +9,7 @@ use Rattle.columns_array.proofs.arrays.LargeListArray.slice.Goals as goal
 pub invariant_of-self : goal.invariant_of-self
 invariant_of-self c =
     let i = c.self.inside in
-    rw (c.slice.ensures, c.cut_validity.ensures) (
+    rw (c.slice_ranges.ensures, c.cut_validity.ensures) (
       cut_sound (list_array (type_view i.data_type) i.offsets (boxed i.values.value) i.validity) c.args.offset c.args.length c.self.invariant.0
           (subst (λ t. c.args.offset + c.args.length ≤ tree_len t) (sym c.self.view_is) c.requires),
       c.self.invariant.1,

@@ -10,7 +10,7 @@ invariant_of-self g c =
     let i = c.self.inside in
     let v = c.self.invariant in
     let h : c.args.offset + c.args.length ≤ length i.offsets - 1 = subst (λ t. c.args.offset + c.args.length ≤ length t.1.0 - 1) (sym c.self.view_is) c.requires in
-    rw (c.slice.ensures, c.cut_validity.ensures) (
+    rw (c.slice_ranges.ensures, c.cut_validity.ensures) (
       places_cut i.offsets (length i.values.value.items) c.args.offset c.args.length v.0 (omega (arith, some_place i.offsets _ v.0, h)),
       rw (len_places i.offsets (length i.values.value.items) c.args.offset c.args.length v.0 h) (mask_cut i.validity _ c.args.offset c.args.length v.1 h),
       v.2,

@@ -1,4 +1,0 @@
-pub mod Groups
-pub mod Tight
-pub mod Short
-pub mod Kept

@@ -1,0 +1,11 @@
+//! Tests of levels, of cut paths and of the paths of arrays, in a crate of their own so that no crate is proved twice.
+#![tactic(auto)]
+
+#[cfg(test)]
+mod array_tests;
+#[cfg(test)]
+mod cut_tests;
+#[cfg(test)]
+mod level_tests;
+#[cfg(test)]
+mod parts;

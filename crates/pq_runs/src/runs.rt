@@ -1,0 +1,70 @@
+//! One run after another.
+
+ghost use Rattle.std.specs.Prelude.{◌≡◌, ◌<◌, ◌≤◌, ◌^◌, ◌+◌, ◌*◌, ◌/◌, ◌%◌, ◌++◌, ℕ, List, [], length, OnOk, All};
+ghost use Rattle.pq_numbers.specs.Varint.{varint};
+ghost use Rattle.pq_runs.specs.Packing.{ArePacked};
+ghost use Rattle.pq_runs.specs.Writing.{Extends, Wrote, IsWhole};
+
+use crate::block::Block;
+use crate::group::push_narrow;
+use crate::pack::{push_packed, push_whole_bytes};
+use pq_numbers::push_varint;
+use std::alloc::AllocError;
+
+// Whole groups of packed numbers, by words of eight where they are narrow.
+fn push_body(out: &mut Vec<u8>, numbers: &[u32], width: u32) -> Result<(), AllocError>
+    requires fits { width ≤ 32 }
+    requires whole { length numbers.now % 8 ≡ 0 }
+    requires below { All (λ v. v < 2 ^ width) numbers.now }
+    ensures ok { OnOk result ((text : List ℕ) × (out.new.items ≡ out.old.items ++ text) × ArePacked width numbers.now text) }
+    ensures kept { Extends out.old.items out.new.items }
+{
+    if width <= 8 {
+        push_narrow(out, numbers, width)
+    } else {
+        push_packed(out, numbers, width)
+    }
+}
+
+// A run of packed numbers, which are whole groups.
+pub fn push_groups(out: &mut Vec<u8>, numbers: &[u32], width: u32) -> Result<(), AllocError>
+    requires fits { width ≤ 32 }
+    requires few { length numbers.now ≤ 504 }
+    requires whole { length numbers.now % 8 ≡ 0 }
+    requires below { All (λ v. v < 2 ^ width) numbers.now }
+    ensures ok { OnOk result ((body : List ℕ) × (out.new.items ≡ out.old.items ++ (varint (2 * (length numbers.now / 8) + 1) ++ body)) × ArePacked width numbers.now body) }
+    ensures kept { Extends out.old.items out.new.items }
+{
+    push_varint(out, 2 * (numbers.len() as u64 / 8) + 1)?;
+    push_body(out, numbers, width)
+}
+
+// A run of copies.
+pub fn push_copies(out: &mut Vec<u8>, number: u32, count: u64, width: u32) -> Result<(), AllocError>
+    requires fits { width ≤ 32 }
+    requires few { count < 2 ^ 62 }
+    requires below { number < 2 ^ width }
+    ensures ok { OnOk result ((text : List ℕ) × (out.new.items ≡ out.old.items ++ (varint (2 * count) ++ text)) × IsWhole width number text) }
+    ensures kept { Extends out.old.items out.new.items }
+{
+    push_varint(out, 2 * count)?;
+    push_whole_bytes(out, u64::from(number), (width + 7) / 8 * 8)?;
+    Ok(())
+}
+
+// Writes the block, which is whole groups.
+pub fn flush(out: &mut Vec<u8>, block: &mut Block, width: u32) -> Result<(), AllocError>
+    requires some { 1 ≤ width }
+    requires fits { width ≤ 32 }
+    requires whole { length block.old % 8 ≡ 0 }
+    requires below { All (λ v. v < 2 ^ width) block.old }
+    ensures ok { OnOk result ((block.new ≡ []) × ((start xs : List ℕ) → Wrote width start out.old.items block.old xs → Wrote width start out.new.items [] xs)) }
+    ensures size { OnOk result (8 * length out.new.items ≤ 8 * length out.old.items + 8 + width * length block.old) }
+    ensures kept { Extends out.old.items out.new.items }
+{
+    if block.len() > 0 {
+        push_groups(out, block.as_slice(), width)?;
+        block.clear();
+    }
+    Ok(())
+}

@@ -1,0 +1,57 @@
+//! Copies of a number into the block or into a run of their own.
+
+ghost use Rattle.std.specs.Prelude.{◌≡◌, ◌<◌, ◌≤◌, ◌^◌, ◌+◌, ◌*◌, ◌/◌, ◌++◌, ℕ, List, length, replicate, OnOk, All};
+ghost use Rattle.pq_runs.specs.Writing.{Extends, Wrote, IsTight};
+ghost use Rattle.pq_runs.specs.Stretches.{Takes, one_if_any, stretch_bits};
+
+use crate::block::Block;
+use crate::runs::{flush, push_copies};
+use std::alloc::AllocError;
+
+// From so many copies on a run of their own, with the header of the packed run before it, takes no more bytes than they would take packed.
+fn fewest(width: u32) -> u64
+    requires { 1 ≤ width }
+    ensures eight { 8 ≤ result }
+    ensures low { width + 24 ≤ width * result }
+    ensures most { result ≤ 32 }
+    ensures high { width * result ≤ 8 * width + 24 }
+{
+    u64::from(24 / width) + 8
+}
+
+// Takes so many copies of a number: into the groups of the block, and where many are left, as a run of their own.
+pub fn settle(
+    out: &mut Vec<u8>,
+    block: &mut Block,
+    number: u32,
+    count: u64,
+    width: u32,
+) -> Result<(), AllocError>
+    requires some { 1 ≤ width }
+    requires fits { width ≤ 32 }
+    requires few { count < 2 ^ 62 }
+    requires room { length block.old < 504 }
+    requires below { All (λ v. v < 2 ^ width) block.old }
+    requires number { number < 2 ^ width }
+    ensures room { OnOk result (length block.new < 504) }
+    ensures below { OnOk result (All (λ v. v < 2 ^ width) block.new) }
+    ensures wrote { OnOk result ((start xs : List ℕ) → Wrote width start out.old.items block.old xs → Wrote width start out.new.items block.new (xs ++ replicate count number)) }
+    ensures tight { OnOk result ((start done : ℕ) → IsTight width start (length out.old.items) done → (more : ℕ) × (done + length block.old + count ≡ more + length block.new) × IsTight width start (length out.new.items) more) }
+    ensures short { OnOk result (Takes width out.old.items block.old out.new.items block.new (stretch_bits width * one_if_any count)) }
+    ensures kept { Extends out.old.items out.new.items }
+{
+    let many = fewest(width);
+    let mut left = count;
+    while left > 0 && (left < many || block.len() % 8 != 0) {
+        block.push(number);
+        left -= 1;
+        if block.len() == 504 {
+            flush(out, block, width)?;
+        }
+    }
+    if left > 0 {
+        flush(out, block, width)?;
+        push_copies(out, number, left, width)?;
+    }
+    Ok(())
+}

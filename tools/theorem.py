@@ -1,0 +1,189 @@
+#!/usr/bin/env python3
+"""theorem.py: lists the definitions of crates/*/specs on which the contract of a call rests.
+
+usage: theorem.py [--list] FILE [FUNCTION]      as: theorem.py crates/pq_rewrite/src/call.rt run
+
+  --list      writes them as docs/THEOREM.md has them: a heading a crate, an item a file with the comment in front of it
+
+It starts with the names in the clauses of the function (of all functions, if none is named), and follows each name through the definitions that its
+definition names, by the `use` lines of their files. It prints the files, by crates in the order of crates.txt and in a crate each behind the files that it rests on, with the
+definitions that are reached and the number of their lines. What the kit's library defines, and what structs and enums of the code declare, is left out.
+"""
+
+import os
+import re
+import sys
+
+ROOT = os.path.dirname(os.path.dirname(os.path.realpath(__file__)))
+WORD = re.compile(r"[^\s(){}\[\];,.]+")
+START = re.compile(r"(?P<indent> *)(?:(?:abbrev|unfoldable) )*(?:pub )?(?:(?:abbrev|record|data|unfoldable) )*(?P<name>[^\s{}():.]+)(?= *[({:]| *$)")
+
+
+class File:
+    """A file of specs: its definitions with their lines, and what it brings in."""
+
+    def __init__(self, path):
+        self.path = path
+        with open(path, encoding="utf-8") as file:
+            self.lines = file.read().split("\n")
+        self.spans, self.owners = {}, {}
+        self.imports, self.renamed = {}, {}
+        self.read_imports()
+        self.read_definitions()
+
+    def read_imports(self):
+        for line in self.lines:
+            found = re.match(r"(?:pub )?use Rattle\.(\w+)\.specs\.(.+?)(?:\.\{(.*)\})?$", line.strip())
+            if not found:
+                continue
+            crate, module, names = found[1], found[2], found[3]
+            target = f"{ROOT}/crates/{crate}/specs/{module.replace('.', '/')}.antt"
+            if names is None:
+                continue
+            for part in re.split(r",\s*", names):
+                words = part.split(" as ")
+                self.imports[words[-1].strip()] = (target, words[0].strip())
+
+    def read_definitions(self):
+        is_mutual, name = False, None
+        for number, line in enumerate(self.lines):
+            if line.startswith("use ") or not line.strip() or line.lstrip().startswith("--"):
+                continue
+            if not line.startswith(" "):
+                is_mutual = line.split()[-1] == "mutual"
+                if is_mutual:
+                    name = None
+                    continue
+            found = START.match(line)
+            own = found and found["indent"] == ("  " if is_mutual else "")
+            if own and found["name"] not in ("mutual", "where"):
+                name = found["name"]
+                self.spans.setdefault(name, [])
+            elif own:
+                continue
+            elif line.startswith("  " if is_mutual else "") and not line.startswith(("   " if is_mutual else " ")):
+                first = line.split()[0]
+                name = first if first in self.spans else name
+            if name:
+                self.spans[name].append(number)
+        for name, span in self.spans.items():
+            self.owners[name] = name
+            head = self.lines[span[0]]
+            if re.search(r"\bdata\b", head):
+                for number in span[1:]:
+                    found = re.match(r" +((?:[^\s:(){}]+ )*[^\s:(){}]+) *:", self.lines[number])
+                    for word in found[1].split() if found else []:
+                        self.owners.setdefault(word, name)
+
+
+FILES = {}
+
+
+def file_at(path):
+    if path not in FILES:
+        FILES[path] = File(path) if os.path.exists(path) else None
+    return FILES[path]
+
+
+def reached(path, name, seen, order):
+    """Adds a definition, behind all that it names."""
+    file = file_at(path)
+    if file is None or name not in file.owners:
+        return
+    name = file.owners[name]
+    if (path, name) in seen:
+        return
+    seen.add((path, name))
+    for number in file.spans[name]:
+        for word in WORD.findall(file.lines[number]):
+            for part in {word, *word.split(".")}:
+                if part in file.owners:
+                    reached(path, part, seen, order)
+                elif part in file.imports:
+                    reached(*file.imports[part], seen, order)
+    order.append((path, name))
+
+
+def clauses(text, function):
+    """Returns the lines of the contracts of a function, or of all."""
+    kept, is_own = [], function is None
+    for line in text.split("\n"):
+        found = re.match(r"\s*(?:pub(?:\([^)]*\))? )?fn (\w+)", line)
+        if found:
+            is_own = function is None or found[1] == function
+        if is_own and re.match(r"\s*(requires|ensures|ghost)\b", line):
+            kept.append(line)
+    return kept
+
+
+def crates():
+    """Returns the crates in the order of crates.txt."""
+    with open(os.path.join(ROOT, "crates.txt"), encoding="utf-8") as file:
+        return [line.split(":")[0].split()[0] for line in file if line.strip() and not line.startswith("#")]
+
+
+def parts(path):
+    """Returns the crate of a file of specs, and its path below the crate."""
+    words = os.path.relpath(path, ROOT).split(os.sep)
+    return words[1], "/".join(words[2:])
+
+
+def head_of(path):
+    """Returns the comment in front of a file."""
+    head = []
+    for line in file_at(path).lines:
+        if not line.startswith("--"):
+            break
+        head.append(line.lstrip("-").strip())
+    return " ".join(head)
+
+
+def found_in(path_of_source, function):
+    """Returns the definitions that the contracts reach, each behind what it names, by files."""
+    with open(path_of_source, encoding="utf-8") as file:
+        text = file.read()
+    names = {}
+    for found in re.finditer(r"ghost use Rattle\.(\w+)\.specs\.([\w.]+)\.\{([^}]*)\}", text):
+        target = f"{ROOT}/crates/{found[1]}/specs/{found[2].replace('.', '/')}.antt"
+        for part in re.split(r",\s*", found[3]):
+            words = part.split(" as ")
+            names[words[-1].strip()] = (target, words[0].strip())
+    seen, order = set(), []
+    for line in clauses(text, function):
+        for word in WORD.findall(line):
+            if word in names:
+                reached(*names[word], seen, order)
+    by_file = {}
+    for path, name in order:
+        by_file.setdefault(path, []).append(name)
+    places = {crate: at for at, crate in enumerate(crates())}
+    return dict(sorted(by_file.items(), key=lambda item: places[parts(item[0])[0]]))
+
+
+def main():
+    words = sys.argv[1:]
+    is_list = words[:1] == ["--list"]
+    words = words[1:] if is_list else words
+    if len(words) not in (1, 2):
+        print(__doc__, file=sys.stderr)
+        return 2
+    sys.setrecursionlimit(10_000)
+    by_file = found_in(words[0], words[1] if len(words) == 2 else None)
+    lines, crate = 0, None
+    for path, found in by_file.items():
+        count = sum(len(file_at(path).spans[name]) for name in found)
+        lines += count
+        if not is_list:
+            print(f"{os.path.relpath(path, ROOT)} ({count} lines): {' '.join(found)}")
+            continue
+        if parts(path)[0] != crate:
+            crate = parts(path)[0]
+            print(f"\n### {crate}\n")
+        print(f"- {parts(path)[1]}: {head_of(path)} {', '.join(f'`{name}`' for name in found)}.")
+    total = sum(len(found) for found in by_file.values())
+    print(f"{'' if not is_list else chr(10)}{total} definitions in {len(by_file)} files, {lines} lines")
+    return 0
+
+
+if __name__ == "__main__":
+    sys.exit(main())
