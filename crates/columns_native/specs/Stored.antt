@@ -9,7 +9,7 @@ use Rattle.columns_core.specs.Shapes.{leaf_type}
 use Rattle.columns_core.specs.Tree.{TypeTree, t_int8, t_int16, t_int32, t_int64, t_uint8, t_uint16, t_uint32, t_uint64, t_timestamp, t_date32, t_date64, t_time32, t_time64, t_duration, t_interval, t_decimal}
 use Rattle.columns_core.specs.declared.types.IntervalUnit.TheVariants.{YearMonth}
 use Rattle.columns_core.specs.Natives.{within_signed, within_unsigned, value_i8, value_i16, value_i32, value_i64, value_i128, value_u8, value_u16, value_u32, value_u64, stores_i8, stores_i16, stores_i32, stores_i64, stores_i128, stores_u8, stores_u16, stores_u32, stores_u64}
-use Rattle.pq_container.specs.Physical.{Physical, int32, int64}
+use Rattle.pq_tree.specs.Physical.{Physical, int32, int64}
 use Rattle.pq_files.specs.Statistics.{has_order}
 use Rattle.pq_files.specs.Stored.{IsStored}
 

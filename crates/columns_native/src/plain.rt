@@ -1,7 +1,7 @@
 //! Numbers of 32 and 64 bits as plain bytes.
 ghost use Rattle.std.specs.Prelude.{◌≡◌, length};
 ghost use Rattle.shredding.specs.Slot.{number};
-ghost use Rattle.pq_container.specs.Views.{physical_view};
+ghost use Rattle.pq_tree.specs.Views.{physical_view};
 ghost use Rattle.pq_files.specs.Plain.{IsOne};
 
 use columns_core::ParquetNativeType;

@@ -27,7 +27,7 @@ pub trait StoredAs<P: PlainNumber>: AsPrimitive<P> {
     ghost use Rattle.shredding.specs.Slot.{number};
     ghost use Rattle.columns_core.specs.Tree.{TypeTree};
     ghost use Rattle.columns_core.specs.Shapes.{leaf_type};
-    ghost use Rattle.pq_container.specs.Views.{physical_view};
+    ghost use Rattle.pq_tree.specs.Views.{physical_view};
     ghost use Rattle.pq_files.specs.Statistics.{has_order};
     ghost use Rattle.pq_files.specs.Stored.{IsStored};
 

@@ -6,17 +6,17 @@ use Rattle.shredding.specs.Slot.{Slot}
 use Rattle.shredding.proofs.Counts.{counted as rows_are_counted}
 use Rattle.pq_thrift.specs.Value.{Value, struct}
 use Rattle.pq_numbers.specs.Texts.{Begins}
-use Rattle.pq_container.specs.FlatFooter.{FlatFooter, SpellsFlatFooter, SpellsFlatRecord, flat_form}
-use Rattle.pq_container.specs.Footer.{ChunkMeta, GroupMeta, Footer, SpellsFooter}
-use Rattle.pq_container.specs.Frame.{HasFrame, footer_place, footer_of}
-use Rattle.pq_container.specs.Header.{Header, DataHeader, data_page}
-use Rattle.pq_container.specs.Tree.{Leaf, columns_of}
-use Rattle.pq_container.proofs.Framed.{are_told}
-use Rattle.pq_container.specs.Metadata.{IsFooterText}
+use Rattle.pq_metadata.specs.FlatFooter.{FlatFooter, SpellsFlatFooter, SpellsFlatRecord, flat_form}
+use Rattle.pq_metadata.specs.Footer.{ChunkMeta, GroupMeta, Footer, SpellsFooter}
+use Rattle.pq_metadata.specs.Frame.{HasFrame, footer_place, footer_of}
+use Rattle.pq_metadata.specs.Header.{Header, DataHeader, data_page}
+use Rattle.pq_tree.specs.Tree.{Leaf, columns_of}
+use Rattle.pq_metadata.proofs.Framed.{are_told}
+use Rattle.pq_metadata.specs.Metadata.{IsFooterText}
 use Rattle.pq_files.specs.Carried.{IsChunkOf, AreChunks, IsGroup}
 use Rattle.pq_files.specs.Chunk.{RawPage, IsPageText, Pages, here, page, HasPages, Page, Chunk, IsPageIn, IsChunk, HasEntries, count_in, triples_of}
 use Rattle.pq_files.proofs.CarriedOnce.{frame_same}
-use Rattle.pq_container.proofs.Injective.{cons_same}
+use Rattle.pq_metadata.proofs.Injective.{cons_same}
 use Rattle.std.specs.List.{AllZip}
 use Rattle.pq_files.specs.ListColumn.{Names, tree_in, way, pages_in, IsListColumn}
 use Rattle.pq_files.specs.Page.{IsPage, rows_in}

@@ -5,11 +5,11 @@ use Rattle.pq_numbers.specs.Texts.{Begins}
 use Rattle.pq_thrift.specs.declared.kind.Kind.{Kind}
 use Rattle.pq_thrift.specs.Grammar.{IsElement, AreElements, AreFields, InField}
 use Rattle.pq_thrift.specs.Value.{Value, truth, int8, int16, int32, int64, double, binary, list, set, map, struct, Values, no_values, value, Fields, no_fields, field}
-use Rattle.pq_container.specs.Elements.{SpellsNode}
-use Rattle.pq_container.specs.FlatFooter.{FlatFooter, SpellsFlatFooter, SpellsFlatRecord}
-use Rattle.pq_container.specs.Ids.{get, or_else, is_number, Each}
-use Rattle.pq_container.specs.Tree.{Element}
-use Rattle.pq_container.proofs.Injective.{some_same}
+use Rattle.pq_metadata.specs.Elements.{SpellsNode}
+use Rattle.pq_metadata.specs.FlatFooter.{FlatFooter, SpellsFlatFooter, SpellsFlatRecord}
+use Rattle.pq_metadata.specs.Ids.{get, or_else, is_number, Each}
+use Rattle.pq_tree.specs.Tree.{Element}
+use Rattle.pq_metadata.proofs.Injective.{some_same}
 use Rattle.file_read.specs.Plans.{name_of}
 
 -- the most bytes of a text within the value, where it stands in structs and lists alone

@@ -4,9 +4,9 @@ use Rattle.std.proofs.lemmas.List.{take-append-drop, length-take-le}
 use Rattle.pq_thrift.specs.Value.{Value}
 use Rattle.pq_thrift.proofs.OneReading.{same_reading}
 use Rattle.pq_numbers.specs.Texts.{Begins}
-use Rattle.pq_container.specs.Header.{DataHeader, data_page, PageHeader, SpellsHeader}
-use Rattle.pq_container.specs.HeaderText.{IsHeaderText}
-use Rattle.pq_container.proofs.HeaderOnce.{page_header_same}
+use Rattle.pq_metadata.specs.Header.{DataHeader, data_page, PageHeader, SpellsHeader}
+use Rattle.pq_metadata.specs.HeaderText.{IsHeaderText}
+use Rattle.pq_metadata.proofs.HeaderOnce.{page_header_same}
 use Rattle.pq_files.proofs.Unique.{append_same}
 use Rattle.file_read.specs.Found.{IsPlainHeader}
 use Rattle.file_read.specs.Steps.{IsOnlyPage}

@@ -9,17 +9,17 @@ use Rattle.shredding.specs.Shred.{Triple}
 use Rattle.shredding.specs.Slot.{Value}
 use Rattle.shredding.specs.Triples.{triples_from}
 use Rattle.pq_numbers.specs.Texts.{Begins}
-use Rattle.pq_container.specs.declared.types.DataPageHeader.TheVariants.{V1}
-use Rattle.pq_container.specs.declared.types.DataPageHeaderV1.{DataPageHeaderV1}
-use Rattle.pq_container.specs.declared.types.PageHeader.{PageHeader as RustHeader}
-use Rattle.pq_container.specs.declared.types.TypedPageHeader.{TypedPageHeader}
-use Rattle.pq_container.specs.declared.types.TypedPageHeader.TheVariants.{Data}
-use Rattle.pq_container.specs.HeaderText.{IsHeaderText}
-use Rattle.pq_container.specs.Reads.{HasNone}
-use Rattle.pq_container.specs.Views.{page_header_view, typed_view, v1_view}
+use Rattle.pq_tree.specs.declared.types.DataPageHeader.TheVariants.{V1}
+use Rattle.pq_tree.specs.declared.types.DataPageHeaderV1.{DataPageHeaderV1}
+use Rattle.pq_tree.specs.declared.types.PageHeader.{PageHeader as RustHeader}
+use Rattle.pq_tree.specs.declared.types.TypedPageHeader.{TypedPageHeader}
+use Rattle.pq_tree.specs.declared.types.TypedPageHeader.TheVariants.{Data}
+use Rattle.pq_metadata.specs.HeaderText.{IsHeaderText}
+use Rattle.pq_tree.specs.Reads.{HasNone}
+use Rattle.pq_tree.specs.Views.{page_header_view, typed_view, v1_view}
 use Rattle.file_read.proofs.PageParts.{header_with, no_header}
-use Rattle.pq_container.specs.Header.{DataHeader, data_page}
-use Rattle.pq_container.specs.Tree.{Leaf}
+use Rattle.pq_metadata.specs.Header.{DataHeader, data_page}
+use Rattle.pq_tree.specs.Tree.{Leaf}
 use Rattle.pq_files.specs.ListColumn.{Names, HoldsListColumn}
 use Rattle.pq_files.specs.Page.{IsPage, rows_in}
 use Rattle.page_read.specs.PlainPage.{IsPlainPage}
@@ -27,9 +27,9 @@ use Rattle.page_read.specs.Rows.{HasRows}
 use Rattle.page_read.proofs.Matched.{repetitions_of}
 use Rattle.file_read.specs.Steps.{Plan, IsPlanned, IsOnlyPage, IsPlannedIn, IsReadOf, leaf_in, chunk_in}
 use Rattle.std.proofs.lemmas.List.{length-map, length-take, length-drop}
-use Rattle.pq_container.specs.FlatFooter.{FlatFooter, SpellsFlatRecord}
-use Rattle.pq_container.specs.FooterReads.{RefusesFooter}
-use Rattle.pq_container.specs.Frame.{HasFrame, footer_length, footer_place, footer_of}
+use Rattle.pq_metadata.specs.FlatFooter.{FlatFooter, SpellsFlatRecord}
+use Rattle.pq_metadata.specs.FooterReads.{RefusesFooter}
+use Rattle.pq_metadata.specs.Frame.{HasFrame, footer_length, footer_place, footer_of}
 use Rattle.file_read.specs.Found.{IsFoundIn, RefusesFile}
 use Rattle.file_read.proofs.Layers.{found, rows_of}
 use Rattle.file_read.proofs.Refusals.{no_footer, no_plan, no_only, no_page, no_rows, no_count, IsPagedIn}

@@ -1,9 +1,9 @@
 -- Answers of the plan's functions.
 use Rattle.std.proofs.Common.{◌≡◌, ℕ, pos, List, [], ◌∷◌, Option, Some, None, sym, ap, subst, ◌∙◌}
 use Rattle.std.specs.Prelude.{MatchOption}
-use Rattle.pq_container.specs.FlatFooter.{FlatFooter}
-use Rattle.pq_container.specs.Footer.{ChunkMeta, GroupMeta}
-use Rattle.pq_container.proofs.Injective.{cons_same}
+use Rattle.pq_metadata.specs.FlatFooter.{FlatFooter}
+use Rattle.pq_metadata.specs.Footer.{ChunkMeta, GroupMeta}
+use Rattle.pq_metadata.proofs.Injective.{cons_same}
 use Rattle.file_read.specs.declared.extent.ColumnPlan.{ColumnPlan}
 use Rattle.file_read.specs.Plans.{AreListNodes, names_in, IsExtent, IsGroupPlan}
 use Rattle.file_read.specs.Steps.{Plan, IsPlanned}

@@ -1,17 +1,17 @@
 -- The parts of a plan.
 use Rattle.std.proofs.Common.{◌≡◌, ℕ, List, [], ◌∷◌, Option, Some, None, refl, sym, subst}
 use Rattle.std.specs.Prelude.{option_map}
-use Rattle.pq_container.specs.declared.types.ConvertedType.{ConvertedType}
-use Rattle.pq_container.specs.declared.types.ConvertedType.TheVariants as C
+use Rattle.pq_tree.specs.declared.types.ConvertedType.{ConvertedType}
+use Rattle.pq_tree.specs.declared.types.ConvertedType.TheVariants as C
 use Rattle.columns_base.specs.declared.physical.PhysicalType.{PhysicalType}
 use Rattle.columns_base.specs.declared.physical.PhysicalType.TheVariants as P
-use Rattle.pq_container.specs.declared.types.Repetition.{Repetition}
-use Rattle.pq_container.specs.declared.types.Repetition.TheVariants as R
-use Rattle.pq_container.specs.FlatFooter.{FlatFooter}
-use Rattle.pq_container.specs.Physical as F
-use Rattle.pq_container.specs.Tree.{Element, preorder_of}
-use Rattle.pq_container.specs.Types as S
-use Rattle.pq_container.specs.Views.{physical_view, converted_view, repetition_view}
+use Rattle.pq_tree.specs.declared.types.Repetition.{Repetition}
+use Rattle.pq_tree.specs.declared.types.Repetition.TheVariants as R
+use Rattle.pq_metadata.specs.FlatFooter.{FlatFooter}
+use Rattle.pq_tree.specs.Physical as F
+use Rattle.pq_tree.specs.Tree.{Element, preorder_of}
+use Rattle.pq_tree.specs.Types as S
+use Rattle.pq_tree.specs.Views.{physical_view, converted_view, repetition_view}
 use Rattle.pq_files.specs.ListColumn.{Names, tree_in}
 use Rattle.file_read.specs.Plans.{AreListNodes, names_with, names_in, IsGroupPlan}
 use Rattle.file_read.specs.Steps.{Plan, IsPlanned}

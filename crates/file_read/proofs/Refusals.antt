@@ -5,13 +5,13 @@ use Rattle.shredding.specs.Slot.{Slot}
 use Rattle.pq_thrift.specs.Value.{Value}
 use Rattle.pq_thrift.proofs.OneReading.{same_reading}
 use Rattle.pq_numbers.specs.Texts.{Begins}
-use Rattle.pq_container.specs.FlatFooter.{FlatFooter, SpellsFlatFooter, SpellsFlatRecord}
-use Rattle.pq_container.specs.Footer.{ChunkMeta, GroupMeta}
-use Rattle.pq_container.specs.Frame.{footer_place, footer_of}
-use Rattle.pq_container.specs.Header.{DataHeader, data_page}
-use Rattle.pq_container.specs.Tree.{Element, preorder_of}
-use Rattle.pq_container.proofs.FlatOnce.{flat_once}
-use Rattle.pq_container.proofs.Injective.{cons_same, pos_same}
+use Rattle.pq_metadata.specs.FlatFooter.{FlatFooter, SpellsFlatFooter, SpellsFlatRecord}
+use Rattle.pq_metadata.specs.Footer.{ChunkMeta, GroupMeta}
+use Rattle.pq_metadata.specs.Frame.{footer_place, footer_of}
+use Rattle.pq_metadata.specs.Header.{DataHeader, data_page}
+use Rattle.pq_tree.specs.Tree.{Element, preorder_of}
+use Rattle.pq_metadata.proofs.FlatOnce.{flat_once}
+use Rattle.pq_metadata.proofs.Injective.{cons_same, pos_same}
 use Rattle.pq_files.specs.Carried.{start_of}
 use Rattle.pq_files.specs.Chunk.{RawPage}
 use Rattle.pq_files.specs.ListColumn.{Names, tree_in, IsListColumn, AreRowsOf}

@@ -6,8 +6,8 @@ use Rattle.columns_base.specs.declared.error.S.TheVariants.{S1}
 use Rattle.columns_base.specs.declared.error.N.TheVariants.{N5}
 use Rattle.shredding.specs.Shred.{Triple, column}
 use Rattle.shredding.specs.Slot.{Slot}
-use Rattle.pq_container.specs.Frame.{HasFrame}
-use Rattle.pq_container.specs.Header.{DataHeader}
+use Rattle.pq_metadata.specs.Frame.{HasFrame}
+use Rattle.pq_metadata.specs.Header.{DataHeader}
 use Rattle.pq_files.specs.ListColumn.{Names, IsListColumn, HoldsListColumn, way}
 
 -- a plain page of version 1 with this number of pairs, whose levels stand in runs

@@ -2,7 +2,7 @@
 use Rattle.std.specs.Prelude.{◌≡◌, ℕ, List}
 use Rattle.shredding.specs.Shred.{Triple}
 use Rattle.shredding.specs.Slot.{Slot}
-use Rattle.pq_container.specs.Header.{DataHeader}
+use Rattle.pq_metadata.specs.Header.{DataHeader}
 use Rattle.pq_files.specs.ListColumn.{Names, IsListColumn}
 use Rattle.file_read.specs.Steps.{Plan, IsReadAs}
 

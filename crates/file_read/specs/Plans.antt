@@ -1,10 +1,10 @@
 -- The plan of a list column, part by part.
 use Rattle.std.specs.Prelude.{◌≡◌, ◌⊎◌, ℕ, ◌+◌, ◌≤◌, ℤ, pos, List, [], ◌∷◌, drop, Option, Some, None}
-use Rattle.pq_container.specs.FlatFooter.{FlatFooter}
-use Rattle.pq_container.specs.Footer.{ChunkMeta, GroupMeta}
-use Rattle.pq_container.specs.Physical.{Physical, int32}
-use Rattle.pq_container.specs.Tree.{Element}
-use Rattle.pq_container.specs.Types.{Repetition, optional, repeated, Converted}
+use Rattle.pq_metadata.specs.FlatFooter.{FlatFooter}
+use Rattle.pq_metadata.specs.Footer.{ChunkMeta, GroupMeta}
+use Rattle.pq_tree.specs.Physical.{Physical, int32}
+use Rattle.pq_tree.specs.Tree.{Element}
+use Rattle.pq_tree.specs.Types.{Repetition, optional, repeated, Converted}
 use Rattle.pq_files.specs.Carried.{start_of}
 use Rattle.pq_files.specs.ListColumn.{Names, list_name}
 

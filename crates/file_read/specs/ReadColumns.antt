@@ -1,8 +1,8 @@
 -- A column as it was read.
 use Rattle.std.specs.Prelude.{◌≤◌, ◌<◌, ℕ, List, drop, map, length}
 use Rattle.shredding.specs.Triples.{ArePairs}
-use Rattle.pq_container.specs.Tree.{Element}
-use Rattle.pq_container.specs.Views.{element_view}
+use Rattle.pq_tree.specs.Tree.{Element}
+use Rattle.pq_tree.specs.Views.{element_view}
 use Rattle.page_read.specs.LevelPairs.{triples}
 use Rattle.file_read.specs.declared.read_column.ReadColumn.{ReadColumn}
 use Rattle.file_read.specs.Found.{IsFoundIn}

@@ -3,13 +3,13 @@ use Rattle.std.specs.Prelude.{◌≡◌, ◌⊎◌, ℕ, ◌+◌, ◌≤◌, pos
 use Rattle.shredding.specs.Shred.{Triple}
 use Rattle.shredding.specs.Slot.{Slot}
 use Rattle.pq_numbers.specs.Texts.{Begins}
-use Rattle.pq_container.specs.FlatFooter.{FlatFooter, SpellsFlatRecord}
-use Rattle.pq_container.specs.Footer.{ChunkMeta}
-use Rattle.pq_container.specs.Frame.{HasFrame, footer_place, footer_of}
-use Rattle.pq_container.specs.Header.{DataHeader, data_page}
-use Rattle.pq_container.specs.Physical.{int32}
-use Rattle.pq_container.specs.Tree.{Leaf, preorder_of}
-use Rattle.pq_container.specs.Types.{optional, repeated, Converted}
+use Rattle.pq_metadata.specs.FlatFooter.{FlatFooter, SpellsFlatRecord}
+use Rattle.pq_metadata.specs.Footer.{ChunkMeta}
+use Rattle.pq_metadata.specs.Frame.{HasFrame, footer_place, footer_of}
+use Rattle.pq_metadata.specs.Header.{DataHeader, data_page}
+use Rattle.pq_tree.specs.Physical.{int32}
+use Rattle.pq_tree.specs.Tree.{Leaf, preorder_of}
+use Rattle.pq_tree.specs.Types.{optional, repeated, Converted}
 use Rattle.pq_files.specs.Carried.{start_of}
 use Rattle.pq_files.specs.Chunk.{IsPageText}
 use Rattle.pq_files.specs.ListColumn.{Names, node, list_name, tree_in, AreRowsOf}

@@ -1,7 +1,7 @@
 //! What the footer says of the one list column.
 ghost use Rattle.std.specs.Prelude.{◌≡◌, ◌↔◌, ◌⊎◌, ℕ, IsTrue, MatchOption, None, Some, [], ◌∷◌, pos, string_bytes, map};
 ghost use Rattle.pq_files.specs.Carried.{start_of as chunk_start};
-ghost use Rattle.pq_container.specs.Views.{element_view, chunk_view, group_view, flat_view};
+ghost use Rattle.pq_tree.specs.Views.{element_view, chunk_view, group_view, flat_view};
 ghost use Rattle.file_read.specs.Plans.{IsFieldNode, IsListNode, IsItemNode, AreListNodes, IsExtent, IsHere, IsGroupPlan, names_in};
 ghost use Rattle.file_read.specs.ColumnPlans.{plan_with};
 ghost use Rattle.file_read.specs.Steps.{Plan, IsPlanned};

@@ -1,6 +1,6 @@
 //! A list column as it was read.
 ghost use Rattle.std.specs.Prelude.{◌≡◌, drop, map};
-ghost use Rattle.pq_container.specs.Views.{element_view};
+ghost use Rattle.pq_tree.specs.Views.{element_view};
 ghost use Rattle.file_read.specs.Plans.{AreListNodes, name_of};
 
 use page_read::LevelPairs;

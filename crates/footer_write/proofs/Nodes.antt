@@ -3,14 +3,14 @@ use Rattle.std.proofs.Common.{◌≡◌, suc, ◌<◌, ◌≤◌, ◌^◌, List,
 use Rattle.std.specs.declared.vec.Vec.{Vec}
 use Rattle.pq_thrift.specs.declared.value.Thrift.{Thrift}
 use Rattle.pq_thrift.specs.Value.{binary, struct, no_fields, view, values_view, values_of}
-use Rattle.pq_container.specs.declared.types.ConvertedType.{ConvertedType}
-use Rattle.pq_container.specs.declared.types.LogicalType.{LogicalType}
-use Rattle.pq_container.specs.declared.types.FieldInfo.{FieldInfo}
-use Rattle.pq_container.specs.declared.types.PrimitiveType.{PrimitiveType}
-use Rattle.pq_container.specs.declared.types.ParquetType.{ParquetType, the_lemmas, PrimitiveType as PrimitiveType', GroupType as GroupType'}
-use Rattle.pq_container.specs.Tree.{Tree, leaf, group, Trees, no_trees, tree, Schema, count_trees, preorder, preorder_of}
-use Rattle.pq_container.specs.TreeViews.{info_view, leaf_view, tree_view, trees_view}
-use Rattle.pq_container.specs.Views.{physical_view}
+use Rattle.pq_tree.specs.declared.types.ConvertedType.{ConvertedType}
+use Rattle.pq_tree.specs.declared.types.LogicalType.{LogicalType}
+use Rattle.pq_tree.specs.declared.types.FieldInfo.{FieldInfo}
+use Rattle.pq_tree.specs.declared.types.PrimitiveType.{PrimitiveType}
+use Rattle.pq_tree.specs.declared.types.ParquetType.{ParquetType, the_lemmas, PrimitiveType as PrimitiveType', GroupType as GroupType'}
+use Rattle.pq_tree.specs.Tree.{Tree, leaf, group, Trees, no_trees, tree, Schema, count_trees, preorder, preorder_of}
+use Rattle.pq_tree.specs.TreeViews.{info_view, leaf_view, tree_view, trees_view}
+use Rattle.pq_tree.specs.Views.{physical_view}
 use Rattle.pq_files.specs.Written.{at, i32, element_of, element_value, elements_of, tree_root}
 use Rattle.footer_write.specs.Room.{tree_room, trees_room}
 

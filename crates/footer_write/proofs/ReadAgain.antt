@@ -5,24 +5,24 @@ use Rattle.std.specs.List.{AllByRecursion as All'}
 use Rattle.std.specs.declared.vec.Vec.{Vec}
 use Rattle.std.proofs.lemmas.Str.{IsUtf8-string_bytes}
 use Rattle.pq_thrift.specs.Value.{Value, int32, binary, struct, Fields, no_fields, values_of}
-use Rattle.pq_container.specs.declared.types.ConvertedType.{ConvertedType}
-use Rattle.pq_container.specs.declared.types.ConvertedType.TheVariants as C
-use Rattle.pq_container.specs.declared.types.LogicalType.{LogicalType}
-use Rattle.pq_container.specs.declared.types.LogicalType.TheVariants as L
-use Rattle.pq_container.specs.declared.types.TimeUnit.TheVariants as U
-use Rattle.pq_container.specs.declared.types.IntegerType.TheVariants as I
-use Rattle.pq_container.specs.declared.types.FieldInfo.{FieldInfo}
-use Rattle.pq_container.specs.declared.types.ParquetType.{ParquetType, ind-ParquetType, roll-ParquetType, map-ParquetType}
-use Rattle.pq_container.specs.declared.types.ParquetType.TheOpen.{ParquetType-F}
-use Rattle.pq_container.specs.declared.types.ParquetType.TheShapes.{former-ParquetType-GroupType-3}
-use Rattle.pq_container.specs.declared.types.ParquetType.TheViews.{rolls-PrimitiveType, rolls-GroupType}
-use Rattle.pq_container.specs.Elements.{RawElement, HasElement, IsNatural, IsPhysical, number_of_repetition, converted_of, logical_of, SpellsNode}
-use Rattle.pq_container.specs.Ids.{Each}
-use Rattle.pq_container.specs.Physical.{Physical, number_of_physical}
-use Rattle.pq_container.specs.Tree.{Tree, leaf, group, Trees, no_trees, tree, Element, count_trees, preorder, preorder_of}
-use Rattle.pq_container.specs.TreeViews.{info_view, tree_view, trees_view}
-use Rattle.pq_container.specs.Types.{Converted, Logical, Info}
-use Rattle.pq_container.specs.Views.{converted_view, logical_view}
+use Rattle.pq_tree.specs.declared.types.ConvertedType.{ConvertedType}
+use Rattle.pq_tree.specs.declared.types.ConvertedType.TheVariants as C
+use Rattle.pq_tree.specs.declared.types.LogicalType.{LogicalType}
+use Rattle.pq_tree.specs.declared.types.LogicalType.TheVariants as L
+use Rattle.pq_tree.specs.declared.types.TimeUnit.TheVariants as U
+use Rattle.pq_tree.specs.declared.types.IntegerType.TheVariants as I
+use Rattle.pq_tree.specs.declared.types.FieldInfo.{FieldInfo}
+use Rattle.pq_tree.specs.declared.types.ParquetType.{ParquetType, ind-ParquetType, roll-ParquetType, map-ParquetType}
+use Rattle.pq_tree.specs.declared.types.ParquetType.TheOpen.{ParquetType-F}
+use Rattle.pq_tree.specs.declared.types.ParquetType.TheShapes.{former-ParquetType-GroupType-3}
+use Rattle.pq_tree.specs.declared.types.ParquetType.TheViews.{rolls-PrimitiveType, rolls-GroupType}
+use Rattle.pq_metadata.specs.Elements.{RawElement, HasElement, IsNatural, IsPhysical, number_of_repetition, converted_of, logical_of, SpellsNode}
+use Rattle.pq_metadata.specs.Ids.{Each}
+use Rattle.pq_tree.specs.Physical.{Physical, number_of_physical}
+use Rattle.pq_tree.specs.Tree.{Tree, leaf, group, Trees, no_trees, tree, Element, count_trees, preorder, preorder_of}
+use Rattle.pq_tree.specs.TreeViews.{info_view, tree_view, trees_view}
+use Rattle.pq_tree.specs.Types.{Converted, Logical, Info}
+use Rattle.pq_tree.specs.Views.{converted_view, logical_view}
 use Rattle.pq_files.specs.Written.{at, at_some, i32, number_of_converted, logical_value, length_of, scale_of, precision_of, element_of, element_value}
 use Rattle.footer_write.specs.Reads.{without_id, without_numbers, bare, tree_told, trees_told, HasLength, TreeHasLengths, HasLengths}
 use Rattle.footer_write.proofs.Nodes.{view_leaf, view_group}

@@ -4,14 +4,14 @@ use Rattle.std.specs.Prelude.{string_bytes, IsUtf8, IfSome, Vec}
 use Rattle.std.proofs.lemmas.Str.{IsUtf8-string_bytes}
 use Rattle.std.proofs.lemmas.List.Elements.{All-nil, All-cons}
 use Rattle.pq_thrift.specs.Value.{binary, struct, no_fields}
-use Rattle.pq_container.specs.declared.schema.SchemaDescriptor.{SchemaDescriptor}
-use Rattle.pq_container.specs.declared.types.KeyValue.{KeyValue}
-use Rattle.pq_container.specs.Elements.{SpellsRoot}
-use Rattle.pq_container.specs.Footer.{SpellsTree, SpellsFooter}
-use Rattle.pq_container.specs.Tree.{Schema, Tree, leaf, group, Trees, no_trees, tree, count_trees}
-use Rattle.pq_container.specs.TreeViews.{schema_view, pairs_view}
-use Rattle.pq_container.specs.Types.{Converted}
-use Rattle.pq_container.specs.Views.{key_view}
+use Rattle.pq_tree.specs.declared.schema.SchemaDescriptor.{SchemaDescriptor}
+use Rattle.pq_tree.specs.declared.types.KeyValue.{KeyValue}
+use Rattle.pq_metadata.specs.Elements.{SpellsRoot}
+use Rattle.pq_metadata.specs.Footer.{SpellsTree, SpellsFooter}
+use Rattle.pq_tree.specs.Tree.{Schema, Tree, leaf, group, Trees, no_trees, tree, count_trees}
+use Rattle.pq_tree.specs.TreeViews.{schema_view, pairs_view}
+use Rattle.pq_tree.specs.Types.{Converted}
+use Rattle.pq_tree.specs.Views.{key_view}
 use Rattle.pq_files.specs.Packed.{IsKeyText}
 use Rattle.pq_files.specs.Written.{at, i32, elements_of, tree_root, footer_value}
 use Rattle.pq_files.proofs.FooterSays.{footer_says as says}

@@ -2,7 +2,7 @@
 use Rattle.std.proofs.Common.{◌≡◌, ◌+◌, [], ◌∷◌, length, None, refl, ◌∙◌, arith}
 use Rattle.std.specs.List.{sum_by}
 use Rattle.std.proofs.lemmas.List.Sums.{sum_by-append}
-use Rattle.pq_container.specs.Tree.{Tree, leaf, group, Trees, no_trees, tree, count_trees, preorder, preorder_of}
+use Rattle.pq_tree.specs.Tree.{Tree, leaf, group, Trees, no_trees, tree, count_trees, preorder, preorder_of}
 use Rattle.pq_files.specs.Room.{node_room, footer_room}
 use Rattle.footer_write.specs.declared.types.ThriftFileMetaData.{ThriftFileMetaData}
 use Rattle.footer_write.specs.FooterView.{footer_view}

@@ -1,8 +1,8 @@
 -- What the 32-bit fields of a footer hold (Parquet format, parquet.thrift: SchemaElement, DecimalType; "File format": footer length).
 use Rattle.std.specs.Prelude.{ℕ, ◌<◌, ◌≤◌, ◌^◌, Option, Some}
-use Rattle.pq_container.specs.Physical.{Physical}
-use Rattle.pq_container.specs.Tree.{Tree, leaf, group, Trees, no_trees, tree}
-use Rattle.pq_container.specs.Types.{Converted, Logical}
+use Rattle.pq_tree.specs.Physical.{Physical}
+use Rattle.pq_tree.specs.Tree.{Tree, leaf, group, Trees, no_trees, tree}
+use Rattle.pq_tree.specs.Types.{Converted, Logical}
 use Rattle.pq_files.specs.FooterRecord.{FileMetaData}
 use Rattle.pq_files.specs.Room.{footer_room, max_size}
 

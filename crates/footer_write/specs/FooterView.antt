@@ -1,7 +1,7 @@
 -- What the Rust records of a footer state.
 use Rattle.std.specs.Prelude.{map, option_map, string_bytes}
-use Rattle.pq_container.specs.TreeViews.{schema_view, pairs_view}
-use Rattle.pq_container.specs.Views.{statistics_view}
+use Rattle.pq_tree.specs.TreeViews.{schema_view, pairs_view}
+use Rattle.pq_tree.specs.Views.{statistics_view}
 use Rattle.pq_files.specs.FooterRecord.{ColumnMetaData, ColumnChunk, RowGroup, FileMetaData}
 use Rattle.footer_write.specs.declared.types.ThriftColumnMetaData.{ThriftColumnMetaData}
 use Rattle.footer_write.specs.declared.types.ThriftColumnChunk.{ThriftColumnChunk}

@@ -1,9 +1,9 @@
 -- The footer that a reader finds in what is written: what was given, but for what is not written. That is the field ids of nodes, and the precision and scale of a group's converted type, which count as 0.
 use Rattle.std.specs.Prelude.{◌≡◌, ◌≤◌, map, Option, Some, None}
-use Rattle.pq_container.specs.Footer.{Footer}
-use Rattle.pq_container.specs.Physical.{Physical}
-use Rattle.pq_container.specs.Tree.{Schema, Tree, leaf, group, Trees, no_trees, tree}
-use Rattle.pq_container.specs.Types.{Converted, Info}
+use Rattle.pq_metadata.specs.Footer.{Footer}
+use Rattle.pq_tree.specs.Physical.{Physical}
+use Rattle.pq_tree.specs.Tree.{Schema, Tree, leaf, group, Trees, no_trees, tree}
+use Rattle.pq_tree.specs.Types.{Converted, Info}
 use Rattle.pq_files.specs.FooterRecord.{FileMetaData, group_meta}
 
 abbrev pub without_id : Info → Info

@@ -1,7 +1,7 @@
 -- The room of a footer, tree by tree.
 use Rattle.std.specs.Prelude.{ℕ, ◌+◌, length, sum_by}
-use Rattle.pq_container.specs.Tree.{Tree, leaf, group, Trees, no_trees, tree}
-use Rattle.pq_container.specs.Types.{Info}
+use Rattle.pq_tree.specs.Tree.{Tree, leaf, group, Trees, no_trees, tree}
+use Rattle.pq_tree.specs.Types.{Info}
 use Rattle.pq_files.specs.FooterRecord.{FileMetaData}
 use Rattle.pq_files.specs.Room.{key_room, group_room}
 

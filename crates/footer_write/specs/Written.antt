@@ -1,7 +1,7 @@
 -- What writing a footer appends.
 use Rattle.std.specs.Prelude.{◌≡◌, ℕ, ◌≤◌, List, ◌++◌, length}
 use Rattle.pq_thrift.specs.Written.{IsWritten}
-use Rattle.pq_container.specs.Metadata.{IsFooterText}
+use Rattle.pq_metadata.specs.Metadata.{IsFooterText}
 use Rattle.pq_files.specs.FooterRecord.{FileMetaData}
 use Rattle.pq_files.specs.Room.{footer_room, IsBrief}
 use Rattle.pq_files.specs.Written.{footer_value}

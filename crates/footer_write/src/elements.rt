@@ -1,22 +1,22 @@
 //! The nodes of a schema as Thrift values (Parquet format, `SchemaElement`).
 ghost use Rattle.std.specs.Prelude.{◌≡◌, ◌<◌, ◌≤◌, ◌^◌, ◌++◌, ◌∷◌, [], IfOk, OnOk, map, option_map, length, Some, None};
 ghost use Rattle.pq_thrift.specs.Value.{int32, binary, struct, no_fields, view, values_view};
-ghost use Rattle.pq_container.specs.Elements.{number_of_repetition};
-ghost use Rattle.pq_container.specs.Physical.{number_of_physical};
-ghost use Rattle.pq_container.specs.Tree.{preorder, preorder_of, columns_of};
-ghost use Rattle.pq_container.specs.Types.{Logical};
-ghost use Rattle.pq_container.specs.TreeViews.{info_view, leaf_view, tree_view, trees_view, schema_view};
-ghost use Rattle.pq_container.specs.Views.{repetition_view, physical_view, converted_view, logical_view, unit_view, integer_view};
+ghost use Rattle.pq_metadata.specs.Elements.{number_of_repetition};
+ghost use Rattle.pq_tree.specs.Physical.{number_of_physical};
+ghost use Rattle.pq_tree.specs.Tree.{preorder, preorder_of, columns_of};
+ghost use Rattle.pq_tree.specs.Types.{Logical};
+ghost use Rattle.pq_tree.specs.TreeViews.{info_view, leaf_view, tree_view, trees_view, schema_view};
+ghost use Rattle.pq_tree.specs.Views.{repetition_view, physical_view, converted_view, logical_view, unit_view, integer_view};
 ghost use Rattle.pq_files.specs.Written.{empty, one, time_fields, number_of_converted, number_of_unit, logical_value, length_of, scale_of, precision_of, element_of, element_value, elements_of, at, i32 as small};
 ghost use Rattle.footer_write.specs.Fits.{ConvertedFits, LogicalFits, PhysicalFits, TreeFits, TreesFit};
 ghost use Rattle.footer_write.specs.Room.{tree_room, trees_room};
 
 use crate::parts::{struct_of, text_from};
-use pq_container::{
+use pq_thrift::Thrift;
+use pq_tree::{
     ConvertedType, FieldInfo, IntegerType, LogicalType, ParquetType, PhysicalType, PrimitiveType,
     Repetition, SchemaDescriptor, TimeUnit,
 };
-use pq_thrift::Thrift;
 use std::alloc::{AllocError, Global};
 
 fn number_from(physical_type: PhysicalType) -> i32

@@ -1,8 +1,8 @@
 //! The footer as a Thrift value.
 ghost use Rattle.std.specs.Prelude.{◌≡◌, ◌<◌, ◌^◌, IfOk, map, option_map, string_bytes};
 ghost use Rattle.pq_thrift.specs.Value.{binary, view};
-ghost use Rattle.pq_container.specs.TreeViews.{schema_view, pairs_view};
-ghost use Rattle.pq_container.specs.Views.{key_view};
+ghost use Rattle.pq_tree.specs.TreeViews.{schema_view, pairs_view};
+ghost use Rattle.pq_tree.specs.Views.{key_view};
 ghost use Rattle.pq_files.specs.Written.{key_value, keys_value, footer_value};
 ghost use Rattle.footer_write.specs.Fits.{TreesFit};
 ghost use Rattle.footer_write.specs.FooterView.{footer_view};
@@ -12,8 +12,8 @@ use crate::elements::{elements_from, orders_from};
 use crate::groups::groups_from;
 use crate::parts::{struct_of, text_from};
 use crate::types::ThriftFileMetaData;
-use pq_container::KeyValue;
 use pq_thrift::Thrift;
+use pq_tree::KeyValue;
 use std::alloc::{AllocError, Global};
 
 fn some_text(alloc: Global, text: &Option<String>) -> Result<Option<Thrift>, AllocError>

@@ -1,14 +1,14 @@
 //! Row groups and their columns as Thrift values.
 ghost use Rattle.std.specs.Prelude.{◌≡◌, IfOk, map, option_map, string_bytes};
 ghost use Rattle.pq_thrift.specs.Value.{int32, binary, view, values_of};
-ghost use Rattle.pq_container.specs.Views.{statistics_view};
+ghost use Rattle.pq_tree.specs.Views.{statistics_view};
 ghost use Rattle.pq_files.specs.Written.{statistics_value, column_value, chunk_value, group_value};
 ghost use Rattle.footer_write.specs.FooterView.{column_view, chunk_view, row_group_view};
 
 use crate::parts::{bytes_from, i16_from, i64_from, struct_of, text_from};
 use crate::types::{ThriftColumnChunk, ThriftColumnMetaData, ThriftRowGroup};
-use pq_container::Statistics;
 use pq_thrift::Thrift;
+use pq_tree::Statistics;
 use std::alloc::{AllocError, Global};
 
 fn statistics_from(alloc: Global, statistics: &Statistics) -> Result<Thrift, AllocError>

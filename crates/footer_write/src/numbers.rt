@@ -1,10 +1,10 @@
 //! Whether the 32-bit fields of a footer hold the numbers of a schema.
 ghost use Rattle.std.specs.Prelude.{◌≡◌, ◌<◌, ◌^◌, ◌↔◌, IsTrue, option_map};
-ghost use Rattle.pq_container.specs.TreeViews.{leaf_view, tree_view, trees_view, schema_view};
-ghost use Rattle.pq_container.specs.Views.{physical_view, converted_view, logical_view};
+ghost use Rattle.pq_tree.specs.TreeViews.{leaf_view, tree_view, trees_view, schema_view};
+ghost use Rattle.pq_tree.specs.Views.{physical_view, converted_view, logical_view};
 ghost use Rattle.footer_write.specs.Fits.{IsSmall, ConvertedFits, LogicalFits, PhysicalFits, TreeFits, TreesFit};
 
-use pq_container::{
+use pq_tree::{
     ConvertedType, LogicalType, ParquetType, PhysicalType, PrimitiveType, SchemaDescriptor,
 };
 

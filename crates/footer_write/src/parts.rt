@@ -1,7 +1,7 @@
 //! Structs whose fields may be absent.
 ghost use Rattle.std.specs.Prelude.{◌≡◌, ◌++◌, OnOk, IfOk, map, option_map};
 ghost use Rattle.pq_thrift.specs.Value.{struct, binary, int16, int64, view, field_view};
-ghost use Rattle.pq_container.specs.Views.{bytes_view};
+ghost use Rattle.pq_tree.specs.Views.{bytes_view};
 ghost use Rattle.footer_write.specs.Parts.{part_view, present, one_part};
 
 use pq_thrift::Thrift;

@@ -1,13 +1,13 @@
 //! How many bytes a footer may take, spent from what is left of a limit.
 ghost use Rattle.std.specs.Prelude.{◌≡◌, ◌<◌, ◌+◌, length, sum_by, map, option_map, string_bytes, MatchOption};
-ghost use Rattle.pq_container.specs.TreeViews.{tree_view, trees_view, schema_view, pairs_view};
-ghost use Rattle.pq_container.specs.Views.{bytes_view, key_view, statistics_view};
+ghost use Rattle.pq_tree.specs.TreeViews.{tree_view, trees_view, schema_view, pairs_view};
+ghost use Rattle.pq_tree.specs.Views.{bytes_view, key_view, statistics_view};
 ghost use Rattle.pq_files.specs.Room.{bytes_of, key_room, are_same, schema_key, bounds_room, name_room, chunk_room, group_room};
 ghost use Rattle.footer_write.specs.FooterView.{chunk_view, row_group_view, footer_view};
 ghost use Rattle.footer_write.specs.Room.{walked_room, tree_room, trees_room};
 
 use crate::types::{ThriftColumnChunk, ThriftFileMetaData, ThriftRowGroup};
-use pq_container::{FieldInfo, KeyValue, ParquetType, Statistics};
+use pq_tree::{FieldInfo, KeyValue, ParquetType, Statistics};
 
 /// The key of the Arrow schema.
 const SCHEMA_KEY: &str = "ARROW:schema";

@@ -1,5 +1,5 @@
 //! What is written in a footer (Parquet format, parquet.thrift), with a field for each id.
-use pq_container::{KeyValue, SchemaDescriptor, Statistics};
+use pq_tree::{KeyValue, SchemaDescriptor, Statistics};
 
 /// The metadata of a column of one row group (Parquet format, `ColumnMetaData`). Sizes and places
 /// are in bytes, the places from the start of the file.

@@ -13,8 +13,8 @@ use crate::numbers::numbers_fit;
 use crate::room::spend_footer;
 use crate::types::ThriftFileMetaData;
 use columns_base::{Error, Result, V};
-use pq_container::SchemaDescriptor;
 use pq_thrift::write_thrift;
+use pq_tree::SchemaDescriptor;
 
 /// The most bytes that a footer may take.
 const MAX_SIZE: usize = 2_147_483_647;

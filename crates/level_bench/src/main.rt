@@ -7,7 +7,7 @@ use anyhow::Result;
 use columns_core::{MutableBitmap, Offsets};
 use level_sections::write_rep_and_def;
 use levels::{DefLevelsIter, ListNested, Nested, RepLevelsIter, is_well_formed, num_values};
-use pq_container::Version;
+use pq_tree::Version;
 use std::alloc::Global;
 use std::env;
 use std::time::Instant;

@@ -9,7 +9,7 @@ use Rattle.levels.specs.Nested.{part_of, parts_of, nested_column}
 use Rattle.levels.specs.Levels.{path_pairs}
 use Rattle.levels.proofs.Sizes.{length-path_pairs, total-leaf}
 use Rattle.levels.proofs.Columns.{repetitions-column, definitions-column, length-column}
-use Rattle.pq_container.specs.declared.version.Version.{Version}
+use Rattle.pq_tree.specs.declared.version.Version.{Version}
 use Rattle.pq_files.specs.Room.{level_room}
 use Rattle.levels.specs.declared.walk.Level.TheVariants.{Repetition, Definition}
 use Rattle.levels.specs.Stretch.{level_of}

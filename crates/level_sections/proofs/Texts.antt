@@ -3,8 +3,8 @@ use Rattle.std.proofs.Common.{◌≡◌, ℕ, zero, suc, ◌+◌, ◌-◌, ◌*�
 use Rattle.std.proofs.lemmas.List.{length-append}
 use Rattle.std.proofs.lemmas.List.Elements.{All-head, All-tail}
 use Rattle.std.proofs.Math.Nat.{mul-le-mul_right}
-use Rattle.pq_container.specs.declared.version.Version.{Version}
-use Rattle.pq_container.specs.declared.version.Version.TheVariants.{V1, V2}
+use Rattle.pq_tree.specs.declared.version.Version.{Version}
+use Rattle.pq_tree.specs.declared.version.Version.TheVariants.{V1, V2}
 use Rattle.pq_files.specs.Levels.{IsBehindLength}
 use Rattle.pq_files.specs.Packed.{AreLevels}
 use Rattle.pq_numbers.specs.Bits.{IsWidth}

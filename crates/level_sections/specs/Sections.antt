@@ -9,8 +9,8 @@ use Rattle.levels.specs.Stretch.{level_of}
 use Rattle.level_sections.specs.Walk.{greatest}
 use Rattle.levels.specs.declared.walk.Level.TheVariants.{Repetition, Definition}
 use Rattle.shredding.specs.Shred.{Triple, column, max_repetition, max_definition}
-use Rattle.pq_container.specs.declared.version.Version.{Version}
-use Rattle.pq_container.specs.declared.version.Version.TheVariants.{V1, V2}
+use Rattle.pq_tree.specs.declared.version.Version.{Version}
+use Rattle.pq_tree.specs.declared.version.Version.TheVariants.{V1, V2}
 use Rattle.pq_files.specs.Levels.{IsBehindLength}
 use Rattle.pq_files.specs.Packed.{AreLevels}
 use Rattle.pq_files.specs.Room.{level_room}

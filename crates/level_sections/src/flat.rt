@@ -11,7 +11,7 @@ use crate::section::push_section;
 use crate::sections::MOST_PAIRS;
 use columns_core::{Bitmap, Error, Result, V};
 use levels::{Level, Nested};
-use pq_container::Version;
+use pq_tree::Version;
 
 // A mask that shares what is lent.
 fn shared(validity: Option<&Bitmap>) -> Result<Option<Bitmap>>

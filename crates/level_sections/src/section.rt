@@ -8,13 +8,13 @@ ghost use Rattle.pq_runs.specs.Writing.{Extends, AppendsRuns};
 ghost use Rattle.levels.specs.Stretch.{level_of};
 ghost use Rattle.level_sections.specs.Walk.{greatest};
 ghost use Rattle.level_sections.specs.Sections.{AppendsOne};
-ghost use Rattle.pq_container.specs.declared.version.Version.TheVariants.{V1, V2};
+ghost use Rattle.pq_tree.specs.declared.version.Version.TheVariants.{V1, V2};
 
 use crate::prefix::put_number;
 use crate::walk::{Above, walk};
 use levels::{Level, Nested, max_def_level, max_rep_level, slot_count};
-use pq_container::Version;
 use pq_runs::{RunWriter, get_bit_width};
+use pq_tree::Version;
 use std::alloc::AllocError;
 
 // The greatest level of a path.

@@ -13,7 +13,7 @@ ghost use Rattle.level_sections.specs.Walk.{greatest};
 use crate::section::push_section;
 use columns_core::{Error, Result, V};
 use levels::{Level, Nested, num_values};
-use pq_container::Version;
+use pq_tree::Version;
 use std::alloc::AllocError;
 
 // With more pairs the level sections could pass the 32-bit sizes of a page's header: 2,048 bytes and two a pair.

@@ -6,7 +6,7 @@ use columns_core::{DataType, Field, IntegerType, Metadata, OffsetsBuffer};
 use columns_leaf::{DictionaryKeys, NullArray, PrimitiveArray};
 use levels::{Nested, is_in_bounds};
 use nested_paths::{fits_leaf, merge_nulls, to_leaves, to_nested, to_parquet_leaves};
-use pq_container::{FieldInfo, ParquetType, PrimitiveType, Repetition};
+use pq_tree::{FieldInfo, ParquetType, PrimitiveType, Repetition};
 use std::alloc::Global;
 use std::test::Fail;
 

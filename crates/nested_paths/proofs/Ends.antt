@@ -1,13 +1,13 @@
 -- What a leaf of a tree says of itself is the same under any node.
 use Rattle.std.proofs.Common.{◌≡◌, Option, Some, None, List, [], ◌∷◌, ◌++◌, map, append_assoc, refl, sym, ap, ◌∙◌}
 use Rattle.std.proofs.lemmas.List.{map-append}
-use Rattle.pq_container.specs.Columns.{last_of}
-use Rattle.pq_container.specs.Ids.{or_else}
-use Rattle.pq_container.specs.Physical.{Physical}
-use Rattle.pq_container.specs.Tree.{Leaf, under, Tree, leaf, group, Trees, no_trees, tree, leaves, leaves_of}
-use Rattle.pq_container.specs.TreeViews.{tree_view, trees_view}
-use Rattle.pq_container.specs.Types.{Info}
-use Rattle.pq_container.specs.declared.types.ParquetType.{ParquetType}
+use Rattle.pq_tree.specs.Columns.{last_of}
+use Rattle.pq_tree.specs.Options.{or_else}
+use Rattle.pq_tree.specs.Physical.{Physical}
+use Rattle.pq_tree.specs.Tree.{Leaf, under, Tree, leaf, group, Trees, no_trees, tree, leaves, leaves_of}
+use Rattle.pq_tree.specs.TreeViews.{tree_view, trees_view}
+use Rattle.pq_tree.specs.Types.{Info}
+use Rattle.pq_tree.specs.declared.types.ParquetType.{ParquetType}
 use Rattle.nested_paths.specs.Leaves.{node_of}
 
 or_twice : (a : Option Info) (i info : Info) → or_else (or_else a (Some i)) (Some info) ≡ or_else a (Some i)

@@ -6,8 +6,8 @@ use Rattle.shredding.specs.Shred.{up}
 use Rattle.columns_base.specs.declared.error.Error.{Error}
 use Rattle.columns_slots.specs.Tree.{Mask, ArrayTree, null_array, leaf_array, list_array, fixed_list_array, struct_array, dictionary_array, ArrayTrees, no_arrays, more_arrays}
 use Rattle.columns_slots.specs.Slots.{first_len, count_arrays}
-use Rattle.pq_container.specs.Tree.{Leaf, under, Tree, leaf, group, Trees, no_trees, tree, leaves, leaves_of, defines, repeats}
-use Rattle.pq_container.specs.Types.{Repetition, required, optional, repeated, Info}
+use Rattle.pq_tree.specs.Tree.{Leaf, under, Tree, leaf, group, Trees, no_trees, tree, leaves, leaves_of, defines, repeats}
+use Rattle.pq_tree.specs.Types.{Repetition, required, optional, repeated, Info}
 use Rattle.nested_paths.specs.Laws.{PathsHaveLevels}
 use Rattle.nested_paths.specs.Levels.{path_levels, leaf_levels}
 use Rattle.nested_paths.specs.Nodes.{given, is_repeated, is_optional, only_tree, only_child, item_node, field_nodes}

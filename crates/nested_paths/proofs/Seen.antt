@@ -15,7 +15,7 @@ use Rattle.columns_slots.proofs.Sound.{some_place}
 use Rattle.columns_slots.proofs.Rows.{slots_counted}
 use Rattle.levels.specs.InBounds.{AreWithin, bounded_slot, bounded_slots}
 use Rattle.levels.specs.Ranges.{leaf_count_or}
-use Rattle.pq_container.specs.Tree.{Tree, Trees, no_trees, tree}
+use Rattle.pq_tree.specs.Tree.{Tree, Trees, no_trees, tree}
 use Rattle.nested_paths.specs.Laws.{PathsAreSeen}
 use Rattle.nested_paths.specs.Leaves.{array_leaves, leaves_in}
 use Rattle.nested_paths.specs.Nodes.{given, is_optional, item_node, field_nodes}

@@ -9,9 +9,9 @@ use Rattle.columns_slots.specs.Tree.{ArrayTree, list_array, struct_array}
 use Rattle.columns_slots.specs.Slots.{type_of, mask_of, offsets_of, tree_size, trees_size, count_arrays}
 use Rattle.columns_array.specs.Boxed.{boxed, all_boxed}
 use Rattle.columns_array.specs.declared.arrays.ArrayBox.{ArrayBox}
-use Rattle.pq_container.specs.Tree.{Tree, count_trees}
-use Rattle.pq_container.specs.TreeViews.{trees_view}
-use Rattle.pq_container.specs.declared.types.ParquetType.{ParquetType}
+use Rattle.pq_tree.specs.Tree.{Tree, count_trees}
+use Rattle.pq_tree.specs.TreeViews.{trees_view}
+use Rattle.pq_tree.specs.declared.types.ParquetType.{ParquetType}
 use Rattle.nested_paths.specs.Leaves.{array_leaves, leaves_in, has_fixed_list, have_fixed_list}
 use Rattle.nested_paths.specs.Nodes.{only_tree, given, is_optional, item_node, field_nodes}
 use Rattle.nested_paths.specs.Paths.{differs, counted, part_at, misfit, misfits, below, paths, paths_in}

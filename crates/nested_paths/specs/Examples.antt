@@ -9,9 +9,9 @@ use Rattle.columns_slots.specs.Tree.{Mask, ArrayTree, null_array, list_array, st
 use Rattle.columns_slots.specs.Slots.{slots}
 use Rattle.columns_slots.specs.Worked.{a_field, number_slot, list_slot, five, lists, pairs, structs, keyed}
 use Rattle.levels.specs.Levels.{path_pairs}
-use Rattle.pq_container.specs.Physical.{int32}
-use Rattle.pq_container.specs.Tree.{Tree, leaf, group, no_trees, tree}
-use Rattle.pq_container.specs.Types.{Repetition, required, optional, repeated, Info}
+use Rattle.pq_tree.specs.Physical.{int32}
+use Rattle.pq_tree.specs.Tree.{Tree, leaf, group, no_trees, tree}
+use Rattle.pq_tree.specs.Types.{Repetition, required, optional, repeated, Info}
 use Rattle.nested_paths.specs.Kinds.{kinds}
 use Rattle.nested_paths.specs.LeafNulls.{MergesNulls}
 use Rattle.nested_paths.specs.Leaves.{array_leaves}

@@ -3,7 +3,7 @@ use Rattle.std.specs.Prelude.{◌≡◌, ℕ, ◌+◌, ◌<◌, None, map}
 use Rattle.shredding.specs.Shape.{ways}
 use Rattle.columns_slots.specs.Tree.{ArrayTree}
 use Rattle.columns_slots.specs.Slots.{slots, cut, IsSound}
-use Rattle.pq_container.specs.Tree.{Tree, leaves}
+use Rattle.pq_tree.specs.Tree.{Tree, leaves}
 use Rattle.nested_paths.specs.Leaves.{array_leaves}
 use Rattle.nested_paths.specs.Levels.{path_levels, leaf_levels}
 use Rattle.nested_paths.specs.Paths.{misfit, paths}

@@ -1,13 +1,13 @@
 -- The leaves of an array and of a tree of columns, in order.
 use Rattle.std.specs.Prelude.{Bool, true, false, ◌||◌, List, [], ◌∷◌, ◌++◌, Option, Some}
 use Rattle.columns_slots.specs.Tree.{ArrayTree, null_array, leaf_array, list_array, fixed_list_array, struct_array, dictionary_array, ArrayTrees, no_arrays, more_arrays}
-use Rattle.pq_container.specs.Columns.{last_of}
-use Rattle.pq_container.specs.Physical.{Physical}
-use Rattle.pq_container.specs.Tree.{Leaf}
-use Rattle.pq_container.specs.TreeViews.{info_view}
-use Rattle.pq_container.specs.Types.{Info}
-use Rattle.pq_container.specs.Views.{physical_view}
-use Rattle.pq_container.specs.declared.types.PrimitiveType.{PrimitiveType}
+use Rattle.pq_tree.specs.Columns.{last_of}
+use Rattle.pq_tree.specs.Physical.{Physical}
+use Rattle.pq_tree.specs.Tree.{Leaf}
+use Rattle.pq_tree.specs.TreeViews.{info_view}
+use Rattle.pq_tree.specs.Types.{Info}
+use Rattle.pq_tree.specs.Views.{physical_view}
+use Rattle.pq_tree.specs.declared.types.PrimitiveType.{PrimitiveType}
 
 -- The leaves of lists and of maps are those of the items, the leaves of structs those of the arrays of the fields, one field after
 -- another. Every other array is a leaf: a dictionary too, whatever its entries are.

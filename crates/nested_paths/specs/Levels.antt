@@ -2,7 +2,7 @@
 use Rattle.std.specs.Prelude.{ℕ, List}
 use Rattle.shredding.specs.Parts.{Part, path_way}
 use Rattle.shredding.specs.Shred as path
-use Rattle.pq_container.specs.Tree.{Leaf, max_definition, max_repetition}
+use Rattle.pq_tree.specs.Tree.{Leaf, max_definition, max_repetition}
 
 -- the definition level and the repetition level
 abbrev pub path_levels : List Part → ℕ × ℕ

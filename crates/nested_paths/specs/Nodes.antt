@@ -1,8 +1,8 @@
 -- Which nodes of a tree stand for a list, a struct and a leaf (Parquet format, LogicalTypes, "Nested Types"; parquet.thrift,
 -- FieldRepetitionType).
 use Rattle.std.specs.Prelude.{Bool, true, false, not, cond, nat_eq, Option, Some, None}
-use Rattle.pq_container.specs.Tree.{Tree, leaf, group, Trees, no_trees, tree, defines, repeats}
-use Rattle.pq_container.specs.Types.{Info}
+use Rattle.pq_tree.specs.Tree.{Tree, leaf, group, Trees, no_trees, tree, defines, repeats}
+use Rattle.pq_tree.specs.Types.{Info}
 
 -- the node may stand any number of times: it adds a repetition level
 abbrev pub is_repeated : Info → Bool

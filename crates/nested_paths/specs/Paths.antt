@@ -7,7 +7,7 @@ use Rattle.columns_base.specs.declared.error.N.TheVariants.{N5}
 use Rattle.columns_base.specs.declared.error.A.TheVariants.{A8}
 use Rattle.columns_slots.specs.Tree.{ArrayTree, null_array, leaf_array, list_array, fixed_list_array, struct_array, dictionary_array, ArrayTrees, no_arrays, more_arrays}
 use Rattle.columns_slots.specs.Slots.{tree_len, first_len, count_arrays}
-use Rattle.pq_container.specs.Tree.{Tree, Trees, no_trees, tree, count_trees}
+use Rattle.pq_tree.specs.Tree.{Tree, Trees, no_trees, tree, count_trees}
 use Rattle.nested_paths.specs.Nodes.{given, is_optional, item_node, field_nodes, is_leaf_node}
 
 -- ---- what does not go together

@@ -9,7 +9,7 @@ use Rattle.columns_core.specs.Shapes.{leaf_type}
 use Rattle.columns_slots.specs.Tree.{Mask, ArrayTree, null_array, leaf_array, list_array, fixed_list_array, struct_array, dictionary_array, ArrayTrees, no_arrays, more_arrays}
 use Rattle.columns_slots.specs.Slots.{slot_at, leaf_at, entry_at, type_of}
 use Rattle.levels.specs.InBounds.{IsInBounds, bounded_slots}
-use Rattle.pq_container.specs.Tree.{Tree, Trees, no_trees, tree}
+use Rattle.pq_tree.specs.Tree.{Tree, Trees, no_trees, tree}
 use Rattle.nested_paths.specs.Nodes.{given, is_optional, item_node, field_nodes}
 use Rattle.nested_paths.specs.PathLeaf.{FitsLeaf}
 

@@ -1,9 +1,9 @@
 //! Which nodes of a tree stand for lists, structs and leaves.
 ghost use Rattle.std.specs.Prelude.{◌≡◌, option_map};
-ghost use Rattle.pq_container.specs.TreeViews.{tree_view, trees_view, info_view};
+ghost use Rattle.pq_tree.specs.TreeViews.{tree_view, trees_view, info_view};
 ghost use Rattle.nested_paths.specs.Nodes as table;
 
-use pq_container::{FieldInfo, ParquetType, Repetition};
+use pq_tree::{FieldInfo, ParquetType, Repetition};
 
 fn info_of(node: &ParquetType) -> &FieldInfo
     ensures { (info_view result.now None None).repetition ≡ (table.info_of (tree_view node.now)).repetition }

@@ -1,12 +1,12 @@
 //! The leaves of a tree of columns.
 ghost use Rattle.std.specs.Prelude.{◌≡◌, IfOk, IfErr, OnOk, ◌++◌, map};
 ghost use Rattle.columns_base.specs.declared.error.Error.TheVariants.{Memory};
-ghost use Rattle.pq_container.specs.Tree.{leaves, leaves_of};
-ghost use Rattle.pq_container.specs.TreeViews.{tree_view, trees_view};
+ghost use Rattle.pq_tree.specs.Tree.{leaves, leaves_of};
+ghost use Rattle.pq_tree.specs.TreeViews.{tree_view, trees_view};
 ghost use Rattle.nested_paths.specs.Leaves.{node_of, leaf_node};
 
 use columns_base::Result;
-use pq_container::{ParquetType, PrimitiveType};
+use pq_tree::{ParquetType, PrimitiveType};
 use std::alloc::Global;
 
 /// The leaves of a tree, in order, moved out of it (Parquet format, "Nested Encoding").

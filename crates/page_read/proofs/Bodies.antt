@@ -6,9 +6,9 @@ use Rattle.columns_base.specs.declared.error.Error.{Error}
 use Rattle.columns_base.specs.declared.error.Error.TheVariants.{Memory}
 use Rattle.shredding.specs.Slot.{Value, number}
 use Rattle.shredding.specs.Shred.{Triple}
-use Rattle.pq_container.specs.Header.{DataHeader, data_page}
-use Rattle.pq_container.specs.Physical.{Physical, int32}
-use Rattle.pq_container.specs.Tree.{Leaf, max_definition, max_repetition}
+use Rattle.pq_metadata.specs.Header.{DataHeader, data_page}
+use Rattle.pq_tree.specs.Physical.{Physical, int32}
+use Rattle.pq_tree.specs.Tree.{Leaf, max_definition, max_repetition}
 use Rattle.pq_files.specs.Levels.{HasLevels, IsBehindLength}
 use Rattle.pq_files.specs.Page.{Encoding, plain, encoding_numbered, IsSpelled, IsPage}
 use Rattle.shredding.specs.Laws.{BeginsRow}

@@ -7,9 +7,9 @@ use Rattle.std.specs.Prelude.{count_by}
 use Rattle.shredding.specs.Slot.{Value}
 use Rattle.shredding.specs.Shred.{Triple}
 use Rattle.shredding.specs.Triples.{value_if, left_if, triples_from, BeginsAtZero}
-use Rattle.pq_container.specs.Header.{DataHeader}
-use Rattle.pq_container.specs.Physical.{Physical, int32}
-use Rattle.pq_container.specs.Tree.{Leaf, max_definition, max_repetition}
+use Rattle.pq_metadata.specs.Header.{DataHeader}
+use Rattle.pq_tree.specs.Physical.{Physical, int32}
+use Rattle.pq_tree.specs.Tree.{Leaf, max_definition, max_repetition}
 use Rattle.pq_files.specs.Levels.{HasLevels, IsBehindLength}
 use Rattle.pq_files.specs.Page.{Encoding, plain, encoding_numbered, IsSpelled}
 use Rattle.pq_files.specs.PageReasons.{HasPairs, GoesOn, S6, called_by}

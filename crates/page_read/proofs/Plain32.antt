@@ -5,7 +5,7 @@ use Rattle.std.specs.Int.{w32, cast_signed}
 use Rattle.std.proofs.lemmas.List.Elements.{All-cons, All-nil, All-append}
 use Rattle.shredding.specs.Shape.{Fits, IsInRange, signed}
 use Rattle.shredding.specs.Slot.{Value, truth, number, bytes}
-use Rattle.pq_container.specs.Physical.{int32}
+use Rattle.pq_tree.specs.Physical.{int32}
 use Rattle.pq_files.specs.Plain.{IsOne, InARow}
 use Rattle.pq_numbers.specs.Texts.{number_of, Begins}
 

@@ -6,7 +6,7 @@ use Rattle.columns_base.specs.declared.error.S.TheVariants.{S4, S5, S6}
 use Rattle.std.specs.Prelude.{IfOk, IfErr}
 use Rattle.shredding.specs.Slot.{number}
 use Rattle.page_read.specs.declared.pairs.LevelPairs.{LevelPairs}
-use Rattle.pq_container.specs.Reads.{ComesWhere}
+use Rattle.pq_tree.specs.Reads.{ComesWhere}
 use Rattle.page_read.specs.PlainPage.{IsPlainBody, LacksLevelPairs, BeginsInRow, LacksValues, RefusesBody}
 use Rattle.page_read.proofs.Bodies.{not_inside, not_lacking}
 

@@ -10,7 +10,7 @@ use Rattle.shredding.specs.Shred.{Triple, column, max_repetition, max_definition
 use Rattle.shredding.specs.Slot.{Value}
 use Rattle.shredding.specs.Triples.{value_if, left_if, triples_from, ArePairs}
 use Rattle.shredding.proofs.Exist.{rows_exist}
-use Rattle.pq_container.proofs.Injective.{cons_same}
+use Rattle.pq_metadata.proofs.Injective.{cons_same}
 use Rattle.pq_files.specs.ListColumn.{field, way}
 use Rattle.page_read.specs.Follows.{AreThresholds, GoOn, AreInOrder}
 use Rattle.page_read.specs.Rows.{HasRows}

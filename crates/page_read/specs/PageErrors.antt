@@ -1,7 +1,7 @@
 -- The errors of a plain page by the reasons of pages, for each leaf and header that the page may have.
 use Rattle.std.specs.Prelude.{◌↔◌, ◌⊎◌, ℕ, List, [], None}
-use Rattle.pq_container.specs.Header.{DataHeader, data_page}
-use Rattle.pq_container.specs.Tree.{Leaf}
+use Rattle.pq_metadata.specs.Header.{DataHeader, data_page}
+use Rattle.pq_tree.specs.Tree.{Leaf}
 use Rattle.pq_files.specs.Chunk.{RawPage}
 use Rattle.pq_files.specs.PageReasons.{S4, S5, S6}
 use Rattle.page_read.specs.PlainPage.{IsPlainPage, HasLevelPairs, LacksLevelPairs, BeginsInRow, LacksValues}

@@ -5,9 +5,9 @@ use Rattle.columns_base.specs.declared.error.Error.TheVariants.{OutOfSpec, Memor
 use Rattle.columns_base.specs.declared.error.S.TheVariants.{S4, S5, S6}
 use Rattle.shredding.specs.Slot.{Value}
 use Rattle.shredding.specs.Triples.{BeginsAtZero}
-use Rattle.pq_container.specs.Header.{DataHeader, data_page}
-use Rattle.pq_container.specs.Physical.{int32}
-use Rattle.pq_container.specs.Tree.{Leaf, max_definition, max_repetition}
+use Rattle.pq_metadata.specs.Header.{DataHeader, data_page}
+use Rattle.pq_tree.specs.Physical.{int32}
+use Rattle.pq_tree.specs.Tree.{Leaf, max_definition, max_repetition}
 use Rattle.pq_files.specs.Levels.{HasLevels, IsBehindLength}
 use Rattle.pq_files.specs.Page.{LevelsAreRuns}
 use Rattle.pq_files.specs.Plain.{IsPlain}

@@ -6,11 +6,11 @@ ghost use Rattle.shredding.specs.Shape.{IsInRange, signed};
 ghost use Rattle.shredding.specs.Triples.{ArePairs, BeginsAtZero};
 ghost use Rattle.shredding.specs.Shred.{Triple};
 ghost use Rattle.shredding.specs.Slot.{Value, number};
-ghost use Rattle.pq_container.specs.Header.{DataHeader, data_page};
-ghost use Rattle.pq_container.specs.Tree.{Leaf};
+ghost use Rattle.pq_metadata.specs.Header.{DataHeader, data_page};
+ghost use Rattle.pq_tree.specs.Tree.{Leaf};
 ghost use Rattle.pq_files.specs.Page.{IsPage};
 ghost use Rattle.page_read.specs.LevelPairs.{triples};
-ghost use Rattle.pq_container.specs.Reads.{ComesWhere};
+ghost use Rattle.pq_tree.specs.Reads.{ComesWhere};
 ghost use Rattle.page_read.specs.PlainPage.{IsPlainPage, IsPlainBody, RefusesBody, LacksLevelPairs, BeginsInRow, LacksValues};
 
 use crate::levels::read_levels;

@@ -4,7 +4,7 @@ ghost use Rattle.columns_base.specs.declared.error.Error.{Error};
 ghost use Rattle.columns_base.specs.declared.error.S.{S};
 ghost use Rattle.shredding.specs.Shape.{IsInRange, signed};
 ghost use Rattle.shredding.specs.Slot.{Value, number};
-ghost use Rattle.pq_container.specs.Physical.{int32};
+ghost use Rattle.pq_tree.specs.Physical.{int32};
 ghost use Rattle.pq_files.specs.Plain.{IsPlain};
 ghost use Rattle.pq_numbers.specs.Texts.{Begins};
 

@@ -5,9 +5,9 @@ use Rattle.std.proofs.lemmas.List.Sums.{sum_by-cons}
 use Rattle.shredding.specs.Slot.{Value}
 use Rattle.pq_thrift.specs.Grammar.{Spells}
 use Rattle.pq_thrift.specs.Written.{IsWritten}
-use Rattle.pq_container.specs.declared.version.Version.TheVariants.{V1}
-use Rattle.pq_container.specs.Physical.{Physical, int32}
-use Rattle.pq_container.specs.Tree.{Leaf, max_repetition, max_definition}
+use Rattle.pq_tree.specs.declared.version.Version.TheVariants.{V1}
+use Rattle.pq_tree.specs.Physical.{Physical, int32}
+use Rattle.pq_tree.specs.Tree.{Leaf, max_repetition, max_definition}
 use Rattle.pq_files.specs.Layout.{plain_size, plain_length}
 use Rattle.pq_files.specs.Levels.{IsBehindLength}
 use Rattle.pq_files.specs.Packed.{AreLevels, IsWrittenPage}

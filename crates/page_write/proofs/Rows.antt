@@ -2,7 +2,7 @@
 use Rattle.std.proofs.Common.{◌≡◌, ℕ, ℤ, ◌+◌, ◌<◌, List, [], ◌∷◌, ◌++◌, length, take, get_or, refl, sym, ap, ◌∙◌, append_assoc, arith}
 use Rattle.std.proofs.lemmas.List.{append-nil, map-append, take_more, length-append}
 use Rattle.shredding.specs.Slot.{Value, number}
-use Rattle.pq_container.specs.Physical.{int32}
+use Rattle.pq_tree.specs.Physical.{int32}
 use Rattle.pq_files.specs.Plain.{IsOne, InARow}
 use Rattle.page_write.specs.Appended.{AppendsOne, AppendsPlain, numbers}
 

@@ -1,7 +1,7 @@
 -- What a call appended, by the grammars of pages.
 use Rattle.std.specs.Prelude.{◌≡◌, ℕ, zero, suc, ℤ, ◌+◌, ◌*◌, List, ◌++◌, length, map}
 use Rattle.shredding.specs.Slot.{Value, number}
-use Rattle.pq_container.specs.Physical.{Physical}
+use Rattle.pq_tree.specs.Physical.{Physical}
 use Rattle.pq_files.specs.Levels.{IsBehindLength}
 use Rattle.pq_files.specs.Plain.{IsOne, IsPlain}
 use Rattle.pq_numbers.specs.Texts.{number_of}

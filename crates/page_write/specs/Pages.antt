@@ -1,9 +1,9 @@
 -- A page that is appended.
 use Rattle.std.specs.Prelude.{◌≡◌, ℕ, ◌^◌, ◌<◌, ◌≤◌, List, ◌++◌, length, None}
 use Rattle.shredding.specs.Shred.{Triple}
-use Rattle.pq_container.specs.declared.version.Version.TheVariants.{V1}
-use Rattle.pq_container.specs.Physical.{Physical, int32}
-use Rattle.pq_container.specs.Tree.{Leaf, max_repetition, max_definition}
+use Rattle.pq_tree.specs.declared.version.Version.TheVariants.{V1}
+use Rattle.pq_tree.specs.Physical.{Physical, int32}
+use Rattle.pq_tree.specs.Tree.{Leaf, max_repetition, max_definition}
 use Rattle.pq_files.specs.Layout.{OutPage, plain_length}
 use Rattle.pq_files.specs.Packed.{IsWrittenPage}
 use Rattle.pq_files.specs.Page.{plain, values_in}

@@ -2,7 +2,7 @@
 
 ghost use Rattle.std.specs.Prelude.{◌≡◌, ◌++◌, ℕ, List, length, OnOk, OnErr};
 ghost use Rattle.shredding.specs.Slot.{number};
-ghost use Rattle.pq_container.specs.Physical.{int32};
+ghost use Rattle.pq_tree.specs.Physical.{int32};
 ghost use Rattle.page_write.specs.Appended.{AppendsNumber, AppendsOne};
 
 use pq_numbers::{push_i32_le, push_u32_le};

@@ -1,7 +1,7 @@
 //! The plain spelling of values.
 
 ghost use Rattle.std.specs.Prelude.{◌≡◌, ◌++◌, ℕ, List, length, map, OnOk, OnErr};
-ghost use Rattle.pq_container.specs.Physical.{int32};
+ghost use Rattle.pq_tree.specs.Physical.{int32};
 ghost use Rattle.page_write.specs.Appended.{AppendsPlain, numbers};
 
 use crate::little_endian::push_i32;

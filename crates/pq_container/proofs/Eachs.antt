@@ -3,9 +3,9 @@ use Rattle.std.proofs.Common.{◌≡◌, ℕ, zero, suc, ◌+◌, ◌<◌, List,
 use Rattle.std.specs.Prelude.{Some}
 use Rattle.pq_thrift.specs.declared.value.Thrift.{Thrift}
 use Rattle.pq_thrift.specs.Value.{Value, truth, int8, int16, int32, int64, double, binary, list, set, map as map_value, struct, Fields, view, values_view}
-use Rattle.pq_container.specs.Ids.{Each}
-use Rattle.pq_container.specs.Kinds.{struct_in}
-use Rattle.pq_container.specs.Reads.{HasNone, Refuses}
+use Rattle.pq_metadata.specs.Ids.{Each}
+use Rattle.pq_metadata.specs.Kinds.{struct_in}
+use Rattle.pq_tree.specs.Reads.{HasNone, Refuses}
 use Rattle.columns_base.specs.declared.error.Error.{Error}
 
 each_more : {A B : Type 0} (R : Value → A → Type 0) (see : B → A) (xs : List Thrift) (i : ℕ) (x : Thrift) (bs : List B) (b : B) → i < length xs → x ≡ get_or xs i x → Each R (values_view (take i xs)) (map see bs) → R (view x) (see b) → Each R (values_view (take (suc i) xs)) (map see (bs ++ b ∷ []))

@@ -4,7 +4,7 @@ use Rattle.std.specs.Prelude.{Bool, true, false, MatchBool, ◌==◌}
 use Rattle.std.proofs.lemmas.Bool.Decides.{eqb_tells}
 use Rattle.pq_thrift.specs.declared.value.Thrift.{Thrift}
 use Rattle.pq_thrift.specs.Value.{Value, view, values_view}
-use Rattle.pq_container.specs.Encrypted.{AnyValue}
+use Rattle.pq_metadata.specs.Encrypted.{AnyValue}
 
 -- one that is, is one of the list
 pub any_at : (P : Value → Type 0) (xs : List Thrift) (i : ℕ) (x : Thrift) → i < length xs → x ≡ get_or xs i x → P (view x) → AnyValue P (values_view xs)

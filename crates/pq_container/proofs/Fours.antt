@@ -1,7 +1,7 @@
 -- Four bytes by their number.
 use Rattle.std.proofs.Common.{◌≡◌, ℕ, zero, suc, ◌+◌, ◌<◌, ◌≤◌, List, [], ◌∷◌, length, take, drop, slice_index_or, Fits, w8, arith, ◌-◌, refl, sym, ap, ◌∙◌, lit<}
 use Rattle.std.proofs.lemmas.List.{length-take-le, length-drop, take_all}
-use Rattle.pq_container.specs.Frame.{magic, EndsEncrypted}
+use Rattle.pq_metadata.specs.Frame.{magic, EndsEncrypted}
 use Rattle.pq_numbers.specs.Texts.{number_of}
 
 abbrev pub AreBytes : List ℕ → Type 0

@@ -14,13 +14,13 @@ use Rattle.pq_thrift.specs.Grammar.{Spells, depth}
 use Rattle.pq_thrift.specs.Outcome.{ReadsAs}
 use Rattle.pq_thrift.specs.Reading.{max_depth, thrift_at}
 use Rattle.pq_thrift.specs.Value.{Value, int32, struct, Fields, view}
-use Rattle.pq_container.specs.FlatFooter.{FlatFooter, SpellsFlatFooter, SpellsFlatRecord}
-use Rattle.pq_container.specs.FooterReads.{NestsTooDeep, RefusesFooter}
-use Rattle.pq_container.specs.Header.{Header, data_page, data_page_2, dictionary_page, PageHeader, HasHeader, SpellsHeader}
-use Rattle.pq_container.specs.HeaderText.{IsHeaderText, IsOfOtherType, IsOtherType, SpellsOtherType, TellsType, header_reason_of}
-use Rattle.pq_container.specs.Ids.{get}
-use Rattle.pq_container.specs.Reads.{HasNone, Refuses}
-use Rattle.pq_container.proofs.Injective.{i32_same}
+use Rattle.pq_metadata.specs.FlatFooter.{FlatFooter, SpellsFlatFooter, SpellsFlatRecord}
+use Rattle.pq_metadata.specs.FooterReads.{NestsTooDeep, RefusesFooter}
+use Rattle.pq_metadata.specs.Header.{Header, data_page, data_page_2, dictionary_page, PageHeader, HasHeader, SpellsHeader}
+use Rattle.pq_metadata.specs.HeaderText.{IsHeaderText, IsOfOtherType, IsOtherType, SpellsOtherType, TellsType, header_reason_of}
+use Rattle.pq_metadata.specs.Ids.{get}
+use Rattle.pq_tree.specs.Reads.{HasNone, Refuses}
+use Rattle.pq_metadata.proofs.Injective.{i32_same}
 
 -- what a call of `read_thrift` says of the bytes
 pub record Told (bytes : List ℕ) (r : Result (Thrift × ℕ) Error) : Type 0 where

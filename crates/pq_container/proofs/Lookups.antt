@@ -3,7 +3,7 @@ use Rattle.std.proofs.Common.{◌≡◌, ℕ, zero, suc, ℤ, ◌+◌, ◌<◌, 
 use Rattle.std.specs.Prelude.{Option, Some, None, option_map, slice_get, ◌-◌, if◌then◌else◌}
 use Rattle.pq_thrift.specs.declared.value.Thrift.{Thrift}
 use Rattle.pq_thrift.specs.Value.{Value, view, field_view, fields_view}
-use Rattle.pq_container.specs.Ids.{or_else, is_number, get, last_field}
+use Rattle.pq_metadata.specs.Ids.{or_else, is_number, get, last_field}
 
 or_else-if : {A : Type 0} (b : Bool) (s : A) (g a : Option A) → or_else (if b then Some s else g) a ≡ (if b then Some s else or_else g a)
 or_else-if true s g a = refl

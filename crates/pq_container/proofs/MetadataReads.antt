@@ -13,15 +13,15 @@ use Rattle.pq_thrift.specs.Nesting.{IsOutside}
 use Rattle.pq_thrift.specs.Reading.{max_depth}
 use Rattle.pq_thrift.specs.Value.{Value, struct, view}
 use Rattle.pq_thrift.proofs.OneReading.{same_reading}
-use Rattle.pq_container.specs.Encrypted.{SaysEncrypted}
-use Rattle.pq_container.specs.FlatFooter.{FlatFooter, SpellsFlatFooter, flat_form}
-use Rattle.pq_container.specs.Footer.{Footer, SpellsFooter}
-use Rattle.pq_container.specs.Forest.{AreTrees, RefusesTrees}
-use Rattle.pq_container.specs.Metadata.{IsFooterText, FooterIsEncrypted, NoFooter, RefusesMetadata}
-use Rattle.pq_container.specs.Reads.{HasNone, Refuses}
-use Rattle.pq_container.specs.Tree.{Trees}
-use Rattle.pq_container.proofs.Flat.{flat_same}
-use Rattle.pq_container.proofs.FlatOnce.{flat_once}
+use Rattle.pq_metadata.specs.Encrypted.{SaysEncrypted}
+use Rattle.pq_metadata.specs.FlatFooter.{FlatFooter, SpellsFlatFooter, flat_form}
+use Rattle.pq_metadata.specs.Footer.{Footer, SpellsFooter}
+use Rattle.pq_tree.specs.Forest.{AreTrees, RefusesTrees}
+use Rattle.pq_metadata.specs.Metadata.{IsFooterText, FooterIsEncrypted, NoFooter, RefusesMetadata}
+use Rattle.pq_tree.specs.Reads.{HasNone, Refuses}
+use Rattle.pq_tree.specs.Tree.{Trees}
+use Rattle.pq_metadata.proofs.Flat.{flat_same}
+use Rattle.pq_metadata.proofs.FlatOnce.{flat_once}
 use Rattle.pq_container.proofs.FromBytes.{Told, nothing_read, read_none, not_deep}
 
 to_flat : (v : Value) (f : Footer) → SpellsFooter v f → SpellsFlatFooter v (flat_form f)

@@ -6,19 +6,19 @@ use Rattle.columns_base.specs.declared.error.Error.{Error}
 use Rattle.pq_thrift.specs.declared.value.Thrift.{Thrift}
 use Rattle.pq_thrift.specs.Value.{Value, truth, int8, int16, int32, int64, double, binary, list, set, map as map_value, struct, Values, no_values, value, Fields, view, values_view}
 use Rattle.pq_container.specs.declared.chunks.ColumnNumbers.{ColumnNumbers}
-use Rattle.pq_container.specs.Elements.{RawElement, HasElement, IsNode, IsRoot, SpellsNode, SpellsRoot}
-use Rattle.pq_container.specs.FlatFooter.{FlatFooter, SpellsElements, SpellsSchema, HasFlatFooter, SpellsFlatFooter}
-use Rattle.pq_container.specs.Footer.{AreAll, ChunkMeta, GroupMeta, HasColumnMeta, HasChunk, SpellsChunk, HasGroup, SpellsGroup}
-use Rattle.pq_container.specs.Ids.{get, Each}
-use Rattle.pq_container.specs.Kinds.{list_in, struct_in, HasList}
+use Rattle.pq_metadata.specs.Elements.{RawElement, HasElement, IsNode, IsRoot, SpellsNode, SpellsRoot}
+use Rattle.pq_metadata.specs.FlatFooter.{FlatFooter, SpellsElements, SpellsSchema, HasFlatFooter, SpellsFlatFooter}
+use Rattle.pq_metadata.specs.Footer.{AreAll, ChunkMeta, GroupMeta, HasColumnMeta, HasChunk, SpellsChunk, HasGroup, SpellsGroup}
+use Rattle.pq_metadata.specs.Ids.{get, Each}
+use Rattle.pq_metadata.specs.Kinds.{list_in, struct_in, HasList}
 use Rattle.pq_container.specs.Raw.{SpellsRootAs}
 use Rattle.pq_container.specs.RawChunk.{HasNumbers, HasPlace}
-use Rattle.pq_container.specs.Reads.{HasNone, Refuses}
-use Rattle.pq_container.specs.Tree.{Element}
+use Rattle.pq_tree.specs.Reads.{HasNone, Refuses}
+use Rattle.pq_tree.specs.Tree.{Element}
 use Rattle.pq_container.proofs.Eachs.{struct_is}
-use Rattle.pq_container.proofs.FooterOnce.{raw_same}
-use Rattle.pq_container.proofs.Injective.{list_same, struct_same}
-use Rattle.pq_container.proofs.Refusals.{refuses_more}
+use Rattle.pq_metadata.proofs.FooterOnce.{raw_same}
+use Rattle.pq_metadata.proofs.Injective.{list_same, struct_same}
+use Rattle.pq_tree.proofs.Refusals.{refuses_more}
 
 -- ---- lists
 

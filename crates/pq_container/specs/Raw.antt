@@ -3,7 +3,7 @@ use Rattle.std.specs.Prelude.{ℕ, List, option_map}
 use Rattle.std.specs.Option.{option_copied}
 use Rattle.pq_thrift.specs.Value.{Value, fields_view}
 use Rattle.pq_container.specs.declared.elements.RawElement.{RawElement as Raw}
-use Rattle.pq_container.specs.Elements.{RawElement, SpellsRoot}
+use Rattle.pq_metadata.specs.Elements.{RawElement, SpellsRoot}
 
 abbrev pub raw_view : Raw → RawElement
 raw_view r =

@@ -2,8 +2,8 @@
 use Rattle.std.specs.Prelude.{◌≡◌, ℕ, ℤ, List, Option, Some, None, IfSome, IsUtf8}
 use Rattle.pq_thrift.specs.Value.{int32, int64, binary, struct, Fields}
 use Rattle.pq_container.specs.declared.chunks.ColumnNumbers.{ColumnNumbers}
-use Rattle.pq_container.specs.Footer.{AreAll}
-use Rattle.pq_container.specs.Ids.{get, Holds}
+use Rattle.pq_metadata.specs.Footer.{AreAll}
+use Rattle.pq_metadata.specs.Ids.{get, Holds}
 
 -- the metadata but for its statistics
 pub record HasNumbers (fs : Fields) (c : ColumnNumbers) : Type 0 where

@@ -3,18 +3,18 @@ ghost use Rattle.std.specs.Prelude.{◌≡◌, ℕ, ℤ, pos, IfOk, OnErr, Some,
 ghost use Rattle.std.specs.Option.{option_copied};
 ghost use Rattle.std.specs.Result.{result_ok};
 ghost use Rattle.pq_thrift.specs.Value.{Value, view, fields_view, field_view};
-ghost use Rattle.pq_container.specs.Elements.{IsNatural, IsPhysical, number_of_repetition, converted_numbered, converted_of, natural_of, truth_of, unit_numbered, unit_in, unit_of_field, unit_of, logical_decimal, logical_time, integer_of, width_of, logical_integer, logical_numbered, is_member, logical_field, logical_last, logical_of};
-ghost use Rattle.pq_container.specs.Ids.{get, last_field};
-ghost use Rattle.pq_container.specs.Reads.{HasNone};
-ghost use Rattle.pq_container.specs.Types.{Logical};
-ghost use Rattle.pq_container.specs.Views.{repetition_view, physical_view, unit_view, integer_view, converted_view, logical_view};
+ghost use Rattle.pq_metadata.specs.Elements.{IsNatural, IsPhysical, number_of_repetition, converted_numbered, converted_of, natural_of, truth_of, unit_numbered, unit_in, unit_of_field, unit_of, logical_decimal, logical_time, integer_of, width_of, logical_integer, logical_numbered, is_member, logical_field, logical_last, logical_of};
+ghost use Rattle.pq_metadata.specs.Ids.{get, last_field};
+ghost use Rattle.pq_tree.specs.Reads.{HasNone};
+ghost use Rattle.pq_tree.specs.Types.{Logical};
+ghost use Rattle.pq_tree.specs.Views.{repetition_view, physical_view, unit_view, integer_view, converted_view, logical_view};
 
 use crate::fields::{last_member, last_with};
 use crate::kinds::{as_i8, as_i32, as_struct, as_truth};
 use crate::misfit::Misfit;
-use crate::types::{ConvertedType, IntegerType, LogicalType, Repetition, TimeUnit};
 use columns_base::PhysicalType;
 use pq_thrift::Thrift;
+use pq_tree::{ConvertedType, IntegerType, LogicalType, Repetition, TimeUnit};
 
 /// A number from 0, which counts as 0 where it is absent.
 pub fn natural_from(number: Option<i32>) -> Result<usize, Misfit>

@@ -4,12 +4,12 @@ ghost use Rattle.std.specs.Option.{option_copied};
 ghost use Rattle.columns_base.specs.declared.error.Error.TheVariants.{OutOfSpec};
 ghost use Rattle.columns_base.specs.declared.error.S.TheVariants.{S1};
 ghost use Rattle.pq_thrift.specs.Value.{view, values_view, fields_view};
-ghost use Rattle.pq_container.specs.Described.{IsDescribed, GroupsAreDescribed};
-ghost use Rattle.pq_container.specs.Footer.{SpellsChunk, SpellsGroup};
-ghost use Rattle.pq_container.specs.Ids.{Each};
+ghost use Rattle.pq_tree.specs.Described.{IsDescribed, GroupsAreDescribed};
+ghost use Rattle.pq_metadata.specs.Footer.{SpellsChunk, SpellsGroup};
+ghost use Rattle.pq_metadata.specs.Ids.{Each};
 ghost use Rattle.pq_container.specs.RawChunk.{HasNumbers, HasPlace};
-ghost use Rattle.pq_container.specs.Reads.{HasNone, Refuses};
-ghost use Rattle.pq_container.specs.Views.{chunk_view, group_view};
+ghost use Rattle.pq_tree.specs.Reads.{HasNone, Refuses};
+ghost use Rattle.pq_tree.specs.Views.{chunk_view, group_view};
 
 use crate::fields::{
     check_absent, last_with, needed_i32, needed_i64, needed_list, needed_struct, optional_i16,
@@ -19,9 +19,9 @@ use crate::kinds::as_struct;
 use crate::misfit::Misfit;
 use crate::statistics::{check_binaries, check_numbers, statistics_from};
 use crate::texts::owned_text;
-use crate::types::{ColumnChunkMetaData, RowGroupMetaData};
 use columns_base::{Error, S};
 use pq_thrift::Thrift;
+use pq_tree::{ColumnChunkMetaData, RowGroupMetaData};
 use std::alloc::Global;
 
 /// The numbers of a column's metadata.

@@ -3,11 +3,11 @@ ghost use Rattle.std.specs.Prelude.{◌≡◌, ℕ, List, IfOk, IfErr, OnErr, st
 ghost use Rattle.columns_base.specs.declared.error.Error.TheVariants.{OutOfSpec};
 ghost use Rattle.columns_base.specs.declared.error.S.TheVariants.{S1};
 ghost use Rattle.pq_thrift.specs.Value.{view, values_view, fields_view};
-ghost use Rattle.pq_container.specs.Elements.{HasElement, IsNode, IsRoot, SpellsNode, SpellsRoot};
-ghost use Rattle.pq_container.specs.Ids.{Each};
+ghost use Rattle.pq_metadata.specs.Elements.{HasElement, IsNode, IsRoot, SpellsNode, SpellsRoot};
+ghost use Rattle.pq_metadata.specs.Ids.{Each};
 ghost use Rattle.pq_container.specs.Raw.{raw_view, SpellsRootAs};
-ghost use Rattle.pq_container.specs.Reads.{HasNone, Refuses};
-ghost use Rattle.pq_container.specs.Views.{element_view};
+ghost use Rattle.pq_tree.specs.Reads.{HasNone, Refuses};
+ghost use Rattle.pq_tree.specs.Views.{element_view};
 
 use crate::annotations::{
     converted_from, logical_from, natural_from, physical_from, repetition_from,
@@ -15,9 +15,9 @@ use crate::annotations::{
 use crate::fields::{needed_text, optional_i32, optional_struct};
 use crate::kinds::as_struct;
 use crate::misfit::Misfit;
-use crate::types::{FieldInfo, SchemaElement};
 use columns_base::{Error, S};
 use pq_thrift::Thrift;
+use pq_tree::{FieldInfo, SchemaElement};
 use std::alloc::Global;
 
 /// The fields of a `SchemaElement`, each of the kind that the standard states.

@@ -2,7 +2,7 @@
 ghost use Rattle.std.specs.Prelude.{◌≡◌, ◌⊎◌, IsTrue, MatchBool, option_map};
 ghost use Rattle.std.specs.Option.{option_copied};
 ghost use Rattle.pq_thrift.specs.Value.{view, values_view, fields_view};
-ghost use Rattle.pq_container.specs.Encrypted.{AnyValue, Any, HasId, IsEncryptedChunk, HasEncryptedChunk, SaysEncrypted};
+ghost use Rattle.pq_metadata.specs.Encrypted.{AnyValue, Any, HasId, IsEncryptedChunk, HasEncryptedChunk, SaysEncrypted};
 
 use crate::fields::last_with;
 use crate::kinds::{as_list, as_struct};

@@ -2,9 +2,9 @@
 ghost use Rattle.std.specs.Prelude.{◌≡◌, ◌≢◌, ℕ, List, IfOk, IfSome, OnErr, Some, option_map, IsUtf8, OnOk};
 ghost use Rattle.std.specs.Option.{option_copied};
 ghost use Rattle.pq_thrift.specs.Value.{int16, int32, int64, binary, list, struct, view, values_view, field_view, fields_view};
-ghost use Rattle.pq_container.specs.Ids.{get, is_number, last_field, Holds};
-ghost use Rattle.pq_container.specs.Reads.{HasNone};
-ghost use Rattle.pq_container.specs.Kinds.{HasList, HoldsText, HasText};
+ghost use Rattle.pq_metadata.specs.Ids.{get, is_number, last_field, Holds};
+ghost use Rattle.pq_tree.specs.Reads.{HasNone};
+ghost use Rattle.pq_metadata.specs.Kinds.{HasList, HoldsText, HasText};
 
 use crate::kinds::{as_binary, as_i16, as_i32, as_i64, as_list, as_struct};
 use crate::misfit::Misfit;

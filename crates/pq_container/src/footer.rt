@@ -3,21 +3,21 @@ ghost use Rattle.std.specs.Prelude.{◌≡◌, ℕ, List, [], IfOk, IfErr, strin
 ghost use Rattle.columns_base.specs.declared.error.Error.TheVariants.{OutOfSpec};
 ghost use Rattle.columns_base.specs.declared.error.S.TheVariants.{S1};
 ghost use Rattle.pq_thrift.specs.Value.{view, values_view};
-ghost use Rattle.pq_container.specs.Described.{GroupsAreDescribed};
-ghost use Rattle.pq_container.specs.FlatFooter.{SpellsElements, SpellsSchema, SpellsFlatFooter, SpellsFlatRecord};
-ghost use Rattle.pq_container.specs.FooterReads.{RefusesFooter};
-ghost use Rattle.pq_container.specs.Reads.{Refuses};
+ghost use Rattle.pq_tree.specs.Described.{GroupsAreDescribed};
+ghost use Rattle.pq_metadata.specs.FlatFooter.{SpellsElements, SpellsSchema, SpellsFlatFooter, SpellsFlatRecord};
+ghost use Rattle.pq_metadata.specs.FooterReads.{RefusesFooter};
+ghost use Rattle.pq_tree.specs.Reads.{Refuses};
 ghost use Rattle.pq_numbers.specs.Texts.{Begins};
-ghost use Rattle.pq_container.specs.Views.{element_view, flat_view};
+ghost use Rattle.pq_tree.specs.Views.{element_view, flat_view};
 
 use crate::chunks::groups_from;
 use crate::elements::{elements_from, root_from};
 use crate::fields::{check_absent, last_with, needed_list, optional_i32, optional_i64};
 use crate::keys::keys_from;
 use crate::kinds::as_struct;
-use crate::types::{FlatFooter, SchemaElement};
 use columns_base::{Error, S};
 use pq_thrift::{Thrift, read_thrift};
+use pq_tree::{FlatFooter, SchemaElement};
 use std::alloc::Global;
 
 /// The root's name, the number of its children, and the nodes behind it.

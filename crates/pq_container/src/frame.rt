@@ -1,6 +1,6 @@
 //! The frame of a file, as a reader tells it.
 ghost use Rattle.std.specs.Prelude.{◌≡◌, ◌+◌, ◌≤◌, length, take, drop, MatchBool, MatchOption};
-ghost use Rattle.pq_container.specs.Frame.{HasFrame, EndsEncrypted, footer_length};
+ghost use Rattle.pq_metadata.specs.Frame.{HasFrame, EndsEncrypted, footer_length};
 ghost use Rattle.pq_numbers.specs.Texts.{number_of};
 
 /// `PAR1`, as a number whose lowest byte stands first.

@@ -1,26 +1,26 @@
 //! A page's header, from its Thrift struct.
 ghost use Rattle.std.specs.Prelude.{◌≡◌, ◌⊎◌, ℕ, pos, ◌≤◌, ◌≤ℤ◌, IfOk, IfErr, OnErr, Some, length, take};
 ghost use Rattle.pq_thrift.specs.Value.{int32, view, fields_view};
-ghost use Rattle.pq_container.specs.Header.{HasDataHeader, HasDataHeader2, HasDictionaryHeader, HasHeader, SpellsHeader};
+ghost use Rattle.pq_metadata.specs.Header.{HasDataHeader, HasDataHeader2, HasDictionaryHeader, HasHeader, SpellsHeader};
 ghost use Rattle.columns_base.specs.declared.error.Error.TheVariants.{Memory, NotYetImplemented, OutOfSpec};
 ghost use Rattle.columns_base.specs.declared.error.N.TheVariants.{N4};
 ghost use Rattle.columns_base.specs.declared.error.S.TheVariants.{S3};
-ghost use Rattle.pq_container.specs.HeaderText.{IsHeaderText, IsOfOtherType, TellsType, header_reason_of};
-ghost use Rattle.pq_container.specs.Ids.{get};
+ghost use Rattle.pq_metadata.specs.HeaderText.{IsHeaderText, IsOfOtherType, TellsType, header_reason_of};
+ghost use Rattle.pq_metadata.specs.Ids.{get};
 ghost use Rattle.pq_numbers.specs.Texts.{Begins};
-ghost use Rattle.pq_container.specs.Reads.{ComesWhere, HasNone};
-ghost use Rattle.pq_container.specs.Views.{natural_part, v1_view, v2_view, dictionary_view, typed_view, page_header_view};
-ghost use Rattle.pq_container.specs.Counted.{IsCountedV1, IsCountedV2, IsCounted};
+ghost use Rattle.pq_tree.specs.Reads.{ComesWhere, HasNone};
+ghost use Rattle.pq_tree.specs.Views.{natural_part, v1_view, v2_view, dictionary_view, typed_view, page_header_view};
+ghost use Rattle.pq_tree.specs.Counted.{IsCountedV1, IsCountedV2, IsCounted};
 
 use crate::fields::{needed_i32, needed_struct, optional_i32};
 use crate::kinds::as_struct;
 use crate::misfit::Misfit;
-use crate::types::{
+use columns_base::{Error, N, S};
+use pq_thrift::{Thrift, read_thrift};
+use pq_tree::{
     DataPageHeader, DataPageHeaderV1, DataPageHeaderV2, DictionaryPageHeader, PageHeader,
     TypedPageHeader,
 };
-use columns_base::{Error, N, S};
-use pq_thrift::{Thrift, read_thrift};
 use std::alloc::Global;
 
 /// A needed number that is not negative.

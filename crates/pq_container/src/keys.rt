@@ -4,17 +4,17 @@ ghost use Rattle.std.specs.Option.{option_copied};
 ghost use Rattle.columns_base.specs.declared.error.Error.TheVariants.{OutOfSpec};
 ghost use Rattle.columns_base.specs.declared.error.S.TheVariants.{S1};
 ghost use Rattle.pq_thrift.specs.Value.{view, values_view};
-ghost use Rattle.pq_container.specs.Footer.{SpellsKey, HasKeys};
-ghost use Rattle.pq_container.specs.Ids.{Each};
-ghost use Rattle.pq_container.specs.Reads.{Refuses};
-ghost use Rattle.pq_container.specs.Views.{key_view};
+ghost use Rattle.pq_metadata.specs.Footer.{SpellsKey, HasKeys};
+ghost use Rattle.pq_metadata.specs.Ids.{Each};
+ghost use Rattle.pq_tree.specs.Reads.{Refuses};
+ghost use Rattle.pq_tree.specs.Views.{key_view};
 
 use crate::fields::{needed_text, optional_text};
 use crate::kinds::{as_list, as_struct};
 use crate::texts::owned_text;
-use crate::types::KeyValue;
 use columns_base::{Error, S};
 use pq_thrift::Thrift;
+use pq_tree::KeyValue;
 use std::alloc::Global;
 
 /// The pair that the struct spells. `OutOfSpec(S1)` where it is no `KeyValue`.

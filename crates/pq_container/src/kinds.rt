@@ -2,7 +2,7 @@
 ghost use Rattle.std.specs.Prelude.{◌≡◌, option_map};
 ghost use Rattle.std.specs.Option.{option_copied};
 ghost use Rattle.pq_thrift.specs.Value.{view, values_view, fields_view};
-ghost use Rattle.pq_container.specs.Kinds.{truth_in, int8_in, int16_in, int32_in, int64_in, binary_in, list_in, struct_in};
+ghost use Rattle.pq_metadata.specs.Kinds.{truth_in, int8_in, int16_in, int32_in, int64_in, binary_in, list_in, struct_in};
 
 use pq_thrift::Thrift;
 

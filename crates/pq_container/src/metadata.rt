@@ -1,25 +1,22 @@
 //! The whole footer of a file.
 ghost use Rattle.std.specs.Prelude.{◌≡◌, ◌<◌, ◌≤◌, ℕ, List, IfOk, IfErr, IfSome, OnOk, length, map};
-ghost use Rattle.pq_container.specs.Columns.{columns_in};
-ghost use Rattle.pq_container.specs.Described.{GroupsAreDescribed};
-ghost use Rattle.pq_container.specs.FlatFooter.{flat_form};
-ghost use Rattle.pq_container.specs.Forest.{RefusesTrees};
-ghost use Rattle.pq_container.specs.Frame.{HasFrame, EndsEncrypted, footer_of};
-ghost use Rattle.pq_container.specs.Metadata.{IsFooterText, RefusesMetadata, RefusesFile};
-ghost use Rattle.pq_container.specs.Tree.{schema_nesting};
-ghost use Rattle.pq_container.specs.TreeViews.{pairs_view, metadata_view};
-ghost use Rattle.pq_container.specs.Views.{flat_view, key_view};
+ghost use Rattle.pq_tree.specs.Columns.{columns_in};
+ghost use Rattle.pq_tree.specs.Described.{GroupsAreDescribed};
+ghost use Rattle.pq_metadata.specs.FlatFooter.{flat_form};
+ghost use Rattle.pq_tree.specs.Forest.{RefusesTrees};
+ghost use Rattle.pq_metadata.specs.Frame.{HasFrame, EndsEncrypted, footer_of};
+ghost use Rattle.pq_metadata.specs.Metadata.{IsFooterText, RefusesMetadata, RefusesFile};
+ghost use Rattle.pq_tree.specs.Tree.{schema_nesting};
+ghost use Rattle.pq_tree.specs.TreeViews.{pairs_view, metadata_view};
+ghost use Rattle.pq_tree.specs.Views.{flat_view, key_view};
 ghost use Rattle.pq_numbers.specs.Texts.{Begins};
 
-use crate::describe::describe_groups;
 use crate::encryption::says_encrypted;
 use crate::footer::footer_from;
 use crate::frame::{ends_encrypted, read_frame};
-use crate::schema::SchemaDescriptor;
-use crate::trees::read_trees;
-use crate::types::{FileMetaData, FlatFooter, KeyValue};
 use columns_base::{Error, N, S};
 use pq_thrift::read_thrift;
+use pq_tree::{FileMetaData, FlatFooter, KeyValue, SchemaDescriptor, describe_groups, read_trees};
 use std::alloc::Global;
 
 fn some_pairs(pairs: Vec<KeyValue>) -> Option<Vec<KeyValue>>

@@ -4,17 +4,17 @@ ghost use Rattle.std.specs.Option.{option_copied};
 ghost use Rattle.columns_base.specs.declared.error.Error.TheVariants.{OutOfSpec, Memory};
 ghost use Rattle.columns_base.specs.declared.error.S.TheVariants.{S1};
 ghost use Rattle.pq_thrift.specs.Value.{int32, binary, view, values_view, fields_view};
-ghost use Rattle.pq_container.specs.Footer.{AreAll, HasStatistics, SaysStatistics};
-ghost use Rattle.pq_container.specs.Ids.{Each, Holds};
-ghost use Rattle.pq_container.specs.Reads.{HasNone, Refuses};
-ghost use Rattle.pq_container.specs.Views.{bytes_view, statistics_view};
+ghost use Rattle.pq_metadata.specs.Footer.{AreAll, HasStatistics, SaysStatistics};
+ghost use Rattle.pq_metadata.specs.Ids.{Each, Holds};
+ghost use Rattle.pq_tree.specs.Reads.{HasNone, Refuses};
+ghost use Rattle.pq_tree.specs.Views.{bytes_view, statistics_view};
 
 use crate::fields::{optional_binary, optional_i64};
 use crate::kinds::{as_binary, as_i32, as_list, as_struct};
 use crate::misfit::Misfit;
-use crate::types::Statistics;
 use columns_base::{Error, S};
 use pq_thrift::Thrift;
+use pq_tree::Statistics;
 use std::alloc::Global;
 
 fn check_i32(value: &Thrift) -> Result<(), Misfit>

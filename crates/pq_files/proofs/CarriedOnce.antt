@@ -4,17 +4,17 @@ use Rattle.std.proofs.lemmas.List.{append_assoc, length-append}
 use Rattle.std.specs.List.{AllZip}
 use Rattle.pq_thrift.specs.Value.{Value as Thrift}
 use Rattle.pq_thrift.proofs.OneReading.{same_reading}
-use Rattle.pq_container.specs.Metadata.{IsFooterText}
+use Rattle.pq_metadata.specs.Metadata.{IsFooterText}
 use Rattle.pq_files.specs.Carried.{IsChunkOf, AreChunks, IsGroup, GroupPages, HoldsPages, Group, group_in, Carried}
 use Rattle.pq_files.specs.Chunk.{Chunk, IsChunk}
-use Rattle.pq_container.specs.Frame.{magic, IsFramed}
-use Rattle.pq_container.specs.Footer.{ChunkMeta, GroupMeta, Key, Footer, SpellsFooter}
+use Rattle.pq_metadata.specs.Frame.{magic, IsFramed}
+use Rattle.pq_metadata.specs.Footer.{ChunkMeta, GroupMeta, Key, Footer, SpellsFooter}
 use Rattle.pq_numbers.specs.Texts.{Begins, number_of}
-use Rattle.pq_container.specs.Tree.{Leaf, Schema, columns_of}
+use Rattle.pq_tree.specs.Tree.{Leaf, Schema, columns_of}
 use Rattle.pq_files.specs.Once.{FilesAreUnique}
 use Rattle.pq_files.proofs.ChunkOnce.{chunk_same}
-use Rattle.pq_container.proofs.FooterOnce.{footer_same}
-use Rattle.pq_container.proofs.Injective.{pos_same}
+use Rattle.pq_metadata.proofs.FooterOnce.{footer_same}
+use Rattle.pq_metadata.proofs.Injective.{pos_same}
 use Rattle.pq_files.proofs.Unique.{append_same}
 
 -- ---- the frame

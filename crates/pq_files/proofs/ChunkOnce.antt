@@ -3,8 +3,8 @@ use Rattle.std.proofs.Common.{◌≡◌, ℕ, ◌<◌, List, [], ◌∷◌, ◌+
 use Rattle.std.specs.List.{AllZip}
 use Rattle.shredding.specs.Slot.{Value}
 use Rattle.pq_files.specs.Chunk.{RawPage, IsPageText, IsData, IsDictionary, Pages, here, page, HasPages, Page, Chunk, AreEntriesOf, HasEntries, IsPageIn, IsChunk, count_in}
-use Rattle.pq_container.specs.Header.{Header, data_page, data_page_2, dictionary_page}
-use Rattle.pq_container.specs.Tree.{Leaf}
+use Rattle.pq_metadata.specs.Header.{Header, data_page, data_page_2, dictionary_page}
+use Rattle.pq_tree.specs.Tree.{Leaf}
 use Rattle.pq_files.proofs.HeaderOnce.{page_text_same}
 use Rattle.pq_files.proofs.PageOnce.{page_same}
 use Rattle.pq_files.proofs.PlainOnce.{plain_same}

@@ -9,12 +9,12 @@ use Rattle.pq_thrift.specs.declared.kind.Kind.TheVariants.{Struct}
 use Rattle.pq_thrift.specs.Nesting.{NestsPast}
 use Rattle.pq_thrift.proofs.Deep.{too_deep}
 use Rattle.pq_thrift.proofs.OneReading.{same_reading}
-use Rattle.pq_container.specs.Encrypted.{SaysEncrypted}
-use Rattle.pq_container.specs.Footer.{Footer, SpellsFooter}
-use Rattle.pq_container.specs.Frame.{HasFrame, footer_of}
-use Rattle.pq_container.specs.Metadata.{IsFooterText, FooterIsDeep}
+use Rattle.pq_metadata.specs.Encrypted.{SaysEncrypted}
+use Rattle.pq_metadata.specs.Footer.{Footer, SpellsFooter}
+use Rattle.pq_metadata.specs.Frame.{HasFrame, footer_of}
+use Rattle.pq_metadata.specs.Metadata.{IsFooterText, FooterIsDeep}
 use Rattle.pq_files.specs.Reasons.{S1}
-use Rattle.pq_container.specs.Tree.{schema_nesting}
+use Rattle.pq_tree.specs.Tree.{schema_nesting}
 use Rattle.pq_files.specs.NearMiss.{cut_file}
 use Rattle.pq_numbers.specs.Texts.{Begins}
 

@@ -13,7 +13,7 @@ use Rattle.pq_numbers.proofs.Digits.{length-digits, unpacked-append}
 use Rattle.pq_numbers.proofs.Numbers.{number_again}
 use Rattle.pq_runs.specs.Delta.{Miniblocks, whole, last, Blocks, block, sums, IsSums, IsDelta}
 use Rattle.shredding.specs.Slot.{Value, number, bytes}
-use Rattle.pq_container.proofs.Injective.{cons_same, pos_same}
+use Rattle.pq_metadata.proofs.Injective.{cons_same, pos_same}
 use Rattle.pq_files.specs.Delta.{AreDeltas, AreDeltaLengths}
 use Rattle.pq_files.proofs.Unique.{append_same}
 

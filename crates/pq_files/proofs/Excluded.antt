@@ -9,12 +9,12 @@ use Rattle.std.proofs.lemmas.List.Elements.{All-from_recursion}
 use Rattle.pq_numbers.specs.Texts.{Begins}
 use Rattle.shredding.specs.Shred.{Triple}
 use Rattle.shredding.specs.Slot.{Value}
-use Rattle.pq_container.specs.Footer.{ChunkMeta, GroupMeta, Key, Footer}
-use Rattle.pq_container.specs.Frame.{IsFramed}
-use Rattle.pq_container.specs.Header.{Header, data_page, data_page_2, dictionary_page}
-use Rattle.pq_container.specs.Tree.{Leaf, Schema, columns_of, max_definition, max_repetition}
-use Rattle.pq_container.proofs.Injective.{pos_same}
-use Rattle.pq_container.specs.Metadata.{IsFooterText}
+use Rattle.pq_metadata.specs.Footer.{ChunkMeta, GroupMeta, Key, Footer}
+use Rattle.pq_metadata.specs.Frame.{IsFramed}
+use Rattle.pq_metadata.specs.Header.{Header, data_page, data_page_2, dictionary_page}
+use Rattle.pq_tree.specs.Tree.{Leaf, Schema, columns_of, max_definition, max_repetition}
+use Rattle.pq_metadata.proofs.Injective.{pos_same}
+use Rattle.pq_metadata.specs.Metadata.{IsFooterText}
 use Rattle.pq_files.specs.Carried.{IsChunkOf, AreChunks, IsGroup, GroupPages, Group, Carried}
 use Rattle.pq_files.specs.Chunk.{Chunk, RawPage, IsDictionary, count_in}
 use Rattle.pq_files.specs.Excluded.{Excludes, IsNoPage, ReasonsExclude}

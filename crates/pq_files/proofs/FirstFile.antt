@@ -15,11 +15,11 @@ use Rattle.pq_thrift.proofs.Takes.{struct_takes}
 use Rattle.shredding.specs.Shred.{shred}
 use Rattle.pq_numbers.specs.Bits.{IsWidth, unpacked}
 use Rattle.pq_runs.specs.Runs.{Runs, last_groups}
-use Rattle.pq_container.specs.Tree.{columns_of}
-use Rattle.pq_container.specs.Header.{Header, data_page, SpellsHeader}
-use Rattle.pq_container.specs.Footer.{Footer, ChunkMeta, GroupMeta, HasFooter}
+use Rattle.pq_tree.specs.Tree.{columns_of}
+use Rattle.pq_metadata.specs.Header.{Header, data_page, SpellsHeader}
+use Rattle.pq_metadata.specs.Footer.{Footer, ChunkMeta, GroupMeta, HasFooter}
 use Rattle.pq_files.specs.Levels.{HasLevels}
-use Rattle.pq_container.specs.Elements.{RawElement}
+use Rattle.pq_metadata.specs.Elements.{RawElement}
 use Rattle.pq_files.specs.Page.{IsPage, plain, rows_in}
 use Rattle.pq_files.specs.Chunk.{Chunk, RawPage, here, page, IsData, IsPageText, IsChunk, triples_of}
 use Rattle.pq_files.specs.Carried.{HoldsPages, GroupPages, IsGroup, IsChunkOf}

@@ -9,11 +9,11 @@ use Rattle.std.proofs.lemmas.List.Sums.{sum_by-cons}
 use Rattle.pq_thrift.specs.Spelling.{short, spell, Fits}
 use Rattle.pq_thrift.specs.Value.{Value, int16, int32, int64, binary, Fields, no_fields, values_of}
 use Rattle.pq_thrift.proofs.Lengths.{varint_of_32, head_most, most, most_values, most_fields, spell_short}
-use Rattle.pq_container.specs.Elements.{number_of_repetition}
-use Rattle.pq_container.specs.Footer.{ChunkStatistics, Key}
-use Rattle.pq_container.specs.Physical.{Physical}
-use Rattle.pq_container.specs.Tree.{Tree, leaf, group, Trees, no_trees, tree, Leaf, leaves, leaves_of, under, columns_of, Element, preorder, preorder_of}
-use Rattle.pq_container.specs.Types.{TimeUnit, Converted, Logical, Info}
+use Rattle.pq_metadata.specs.Elements.{number_of_repetition}
+use Rattle.pq_metadata.specs.Footer.{ChunkStatistics, Key}
+use Rattle.pq_tree.specs.Physical.{Physical}
+use Rattle.pq_tree.specs.Tree.{Tree, leaf, group, Trees, no_trees, tree, Leaf, leaves, leaves_of, under, columns_of, Element, preorder, preorder_of}
+use Rattle.pq_tree.specs.Types.{TimeUnit, Converted, Logical, Info}
 use Rattle.pq_files.specs.FooterRecord.{ColumnChunk, RowGroup, FileMetaData}
 use Rattle.pq_files.specs.Room.{bytes_of, node_room, schema_key, are_same, key_room, bounds_room, name_room, chunk_room, group_room, footer_room, IsBrief, max_size}
 use Rattle.pq_files.specs.Written.{at, at_some, i32, one, empty, number_of_converted, logical_value, length_of, scale_of, precision_of, annotations, repetition_value, element_of, element_value, key_value, keys_value, statistics_value, chunk_value, group_value, tree_root, orders_value, footer_value}

@@ -3,11 +3,11 @@ use Rattle.std.proofs.Common.{ℕ, ◌≤◌, List, [], ◌∷◌, map, Option, 
 use Rattle.std.proofs.Math.Nat.{max-le}
 use Rattle.pq_thrift.specs.Grammar.{depth, values_depth, fields_depth}
 use Rattle.pq_thrift.specs.Value.{Value, int16, int32, int64, binary, Fields, no_fields, values_of}
-use Rattle.pq_container.specs.Elements.{number_of_repetition}
-use Rattle.pq_container.specs.Footer.{ChunkStatistics, Key}
-use Rattle.pq_container.specs.Physical.{Physical}
-use Rattle.pq_container.specs.Tree.{Leaf, preorder_of, columns_of}
-use Rattle.pq_container.specs.Types.{Converted, Logical, Info}
+use Rattle.pq_metadata.specs.Elements.{number_of_repetition}
+use Rattle.pq_metadata.specs.Footer.{ChunkStatistics, Key}
+use Rattle.pq_tree.specs.Physical.{Physical}
+use Rattle.pq_tree.specs.Tree.{Leaf, preorder_of, columns_of}
+use Rattle.pq_tree.specs.Types.{Converted, Logical, Info}
 use Rattle.pq_files.specs.FooterRecord.{ColumnMetaData, ColumnChunk, RowGroup, FileMetaData}
 use Rattle.pq_files.specs.Written.{at, at_some, i32, one, empty, number_of_converted, logical_value, length_of, scale_of, precision_of, annotations, element_of, element_value, key_value, keys_value, statistics_value, column_value, chunk_value, group_value, orders_value, footer_value}
 

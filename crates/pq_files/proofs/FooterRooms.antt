@@ -4,8 +4,8 @@ use Rattle.std.specs.Prelude.{is_some}
 use Rattle.std.specs.List.{sum_by}
 use Rattle.std.proofs.lemmas.List.Elements.{All-nil, All-cons}
 use Rattle.std.proofs.lemmas.List.Sums.{sum_by-cons}
-use Rattle.pq_container.specs.declared.version.Version.{Version}
-use Rattle.pq_container.specs.Tree.{Leaf, columns_of}
+use Rattle.pq_tree.specs.declared.version.Version.{Version}
+use Rattle.pq_tree.specs.Tree.{Leaf, columns_of}
 use Rattle.pq_files.specs.FooterRecord.{ColumnChunk, RowGroup}
 use Rattle.pq_files.specs.FooterRoom.{RoomsArePlanned}
 use Rattle.pq_files.specs.Layout.{OutChunk, OutGroup}
@@ -64,8 +64,8 @@ groups_few version ls (g ∷ gs) i start text (r ∷ row_groups) a =
     All-cons AreFew r row_groups (subst AreFew (sym a.5) (chunks_few version ls g.chunks start a.0 a.2 a.4)) (groups_few version ls gs (suc i) (start + length a.0) a.1 row_groups a.6)
 
 pub rooms_are_planned : RoomsArePlanned
-rooms_are_planned bytes tree keys version groups w =
-    let groups_are = groups_room version (columns_of tree) groups 0 4 w.pages w.row_groups w.are in (
+rooms_are_planned tree keys version groups pages row_groups are =
+    let groups_are = groups_room version (columns_of tree) groups 0 4 pages row_groups are in (
       omega (arith, groups_are),
-      record { author = omega arith; encodings = groups_few version (columns_of tree) groups 0 4 w.pages w.row_groups w.are },
+      record { author = omega arith; encodings = groups_few version (columns_of tree) groups 0 4 pages row_groups are },
     )

@@ -2,9 +2,9 @@
 use Rattle.std.proofs.Common.{◌≡◌, ℕ, ℤ, List, [], ◌∷◌, map, All, Option, Some, None, refl}
 use Rattle.std.specs.Prelude.{option_map, IfSome, IsUtf8}
 use Rattle.pq_thrift.specs.Value.{Value, int16, int32, int64, binary, list, struct, Fields, no_fields, values_of}
-use Rattle.pq_container.specs.Footer.{ChunkStatistics, ChunkMeta, Key, HasStatistics, HasColumnMeta, SpellsChunk, HasGroup, SpellsGroup, SpellsKey, HasKeys, SpellsTree, HasFooter, SpellsFooter}
-use Rattle.pq_container.specs.Ids.{Each}
-use Rattle.pq_container.specs.Tree.{Schema}
+use Rattle.pq_metadata.specs.Footer.{ChunkStatistics, ChunkMeta, Key, HasStatistics, HasColumnMeta, SpellsChunk, HasGroup, SpellsGroup, SpellsKey, HasKeys, SpellsTree, HasFooter, SpellsFooter}
+use Rattle.pq_metadata.specs.Ids.{Each}
+use Rattle.pq_tree.specs.Tree.{Schema}
 use Rattle.pq_files.specs.FooterRecord.{ColumnMetaData, ColumnChunk, RowGroup, FileMetaData, chunk_meta, group_meta}
 use Rattle.pq_files.specs.Packed.{IsKeyText}
 use Rattle.pq_files.specs.Written.{at, at_some, structs, statistics_value, chunk_value, group_value, key_value, keys_value, elements_of, orders_value, footer_value}

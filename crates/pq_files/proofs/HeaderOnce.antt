@@ -3,8 +3,8 @@ use Rattle.std.proofs.Common.{◌≡◌, ℕ, List, ◌++◌, length, sym, ap, s
 use Rattle.std.proofs.lemmas.List.{append_assoc}
 use Rattle.pq_thrift.specs.Value.{Value}
 use Rattle.pq_thrift.proofs.OneReading.{same_reading}
-use Rattle.pq_container.specs.Header.{SpellsHeader}
-use Rattle.pq_container.proofs.HeaderOnce.{spelled_header_same}
+use Rattle.pq_metadata.specs.Header.{SpellsHeader}
+use Rattle.pq_metadata.proofs.HeaderOnce.{spelled_header_same}
 use Rattle.pq_files.specs.Chunk.{RawPage, IsPageText}
 use Rattle.pq_files.proofs.Unique.{append_same}
 

@@ -8,7 +8,7 @@ use Rattle.pq_files.specs.Indices.{IsIndices, IsIndexed}
 use Rattle.pq_runs.specs.Runs.{Runs}
 use Rattle.pq_numbers.specs.Texts.{Begins}
 use Rattle.pq_runs.proofs.Complete.{unique}
-use Rattle.pq_container.proofs.Injective.{cons_same}
+use Rattle.pq_metadata.proofs.Injective.{cons_same}
 
 -- ---- entries
 

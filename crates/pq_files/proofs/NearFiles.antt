@@ -13,15 +13,15 @@ use Rattle.pq_thrift.specs.Value.{Value as Thrift, int32, int64, binary, list, s
 use Rattle.pq_thrift.proofs.OneReading.{same_reading}
 use Rattle.shredding.specs.Shred.{shred}
 use Rattle.shredding.specs.Slot.{Value}
-use Rattle.pq_container.specs.declared.version.Version.{Version}
-use Rattle.pq_container.specs.Footer.{GroupMeta, Key}
-use Rattle.pq_container.specs.Frame.{magic, IsFramed, footer_place, footer_of}
-use Rattle.pq_container.specs.Header.{Header, data_page, data_page_2, dictionary_page}
-use Rattle.pq_container.specs.Ids.{get}
-use Rattle.pq_container.specs.Tree.{Schema, columns_of}
-use Rattle.pq_container.proofs.Framed.{has_frame, is_framed}
-use Rattle.pq_container.proofs.Injective.{pos_same}
-use Rattle.pq_container.specs.Metadata.{IsFooterText}
+use Rattle.pq_tree.specs.declared.version.Version.{Version}
+use Rattle.pq_metadata.specs.Footer.{GroupMeta, Key}
+use Rattle.pq_metadata.specs.Frame.{magic, IsFramed, footer_place, footer_of}
+use Rattle.pq_metadata.specs.Header.{Header, data_page, data_page_2, dictionary_page}
+use Rattle.pq_metadata.specs.Ids.{get}
+use Rattle.pq_tree.specs.Tree.{Schema, columns_of}
+use Rattle.pq_metadata.proofs.Framed.{has_frame, is_framed}
+use Rattle.pq_metadata.proofs.Injective.{pos_same}
+use Rattle.pq_metadata.specs.Metadata.{IsFooterText}
 use Rattle.pq_files.specs.Carried.{IsChunkOf, AreChunks, IsGroup, GroupPages, Group, Carried, IsNotCarried}
 use Rattle.pq_files.specs.Chunk.{RawPage, IsPageText, IsData, IsDictionary, Pages, here, page, HasPages, Page, Chunk, IsPageIn, HasEntries, IsChunk, triples_of, count_in}
 use Rattle.pq_files.specs.FirstFile.{head, body, footer, file, file_of, schema, the_leaf}

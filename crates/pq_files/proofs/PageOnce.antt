@@ -5,13 +5,13 @@ use Rattle.std.proofs.lemmas.List.{length-map}
 use Rattle.std.proofs.lemmas.Option.{same_Some}
 use Rattle.shredding.specs.Slot.{Value}
 use Rattle.shredding.specs.Shred.{Triple}
-use Rattle.pq_container.specs.Header.{Header, data_page, data_page_2, dictionary_page}
+use Rattle.pq_metadata.specs.Header.{Header, data_page, data_page_2, dictionary_page}
 use Rattle.pq_files.specs.Indices.{IsIndexed}
 use Rattle.pq_files.specs.Page.{IsPage, IsCounted, HasEncoding, Encoding, plain, dictionary, delta, delta_length, IsSpelled}
 use Rattle.pq_numbers.specs.Texts.{Begins}
-use Rattle.pq_container.specs.Tree.{Leaf, max_definition, max_repetition}
+use Rattle.pq_tree.specs.Tree.{Leaf, max_definition, max_repetition}
 use Rattle.pq_files.specs.Delta.{AreDeltas}
-use Rattle.pq_container.specs.Physical.{int32, int64}
+use Rattle.pq_tree.specs.Physical.{int32, int64}
 use Rattle.std.specs.Int.{w32, w64}
 use Rattle.pq_files.proofs.DeltasOnce.{deltas_same, lengths_same}
 use Rattle.pq_files.proofs.IndicesOnce.{indexed_same}

@@ -5,7 +5,7 @@ use Rattle.std.specs.Prelude.{◌==◌}
 use Rattle.std.specs.Int.{w32, w64, cast_signed}
 use Rattle.shredding.specs.Slot.{Value, truth, number, bytes}
 use Rattle.pq_numbers.specs.Bits.{bytes_for, unpacked}
-use Rattle.pq_container.specs.Physical.{Physical, boolean, int32, int64, int96, float, double, byte_array, fixed}
+use Rattle.pq_tree.specs.Physical.{Physical, boolean, int32, int64, int96, float, double, byte_array, fixed}
 use Rattle.pq_files.specs.Plain.{IsPrefixed, IsOne, InARow, AreBits, IsPlain}
 use Rattle.pq_numbers.specs.Texts.{number_of, Begins}
 use Rattle.pq_files.proofs.Unique.{append_same}

@@ -7,8 +7,8 @@ use Rattle.std.proofs.Math.Nat.{pow-le-pow_right, pow-suc, mul-le-mul_left, mul_
 use Rattle.shredding.specs.Shape.{LeafType, truths, text, binary, signed, unsigned, fixed_bytes, decimal, months, days}
 use Rattle.shredding.specs.Shred.{Triple}
 use Rattle.shredding.specs.Slot.{Value, truth, number, bytes}
-use Rattle.pq_container.specs.Physical.{Physical, boolean, int32, int64, byte_array, fixed}
-use Rattle.pq_container.proofs.Injective.{pos_same}
+use Rattle.pq_tree.specs.Physical.{Physical, boolean, int32, int64, byte_array, fixed}
+use Rattle.pq_metadata.proofs.Injective.{pos_same}
 use Rattle.pq_files.specs.Once.{HasBytes, StoredValuesAreUnique}
 use Rattle.pq_files.specs.Stored.{big_endian, signed_big_endian, IsStored, IsStoredOption, AreStored}
 use Rattle.pq_files.proofs.Unique.{Every, every}

@@ -5,7 +5,7 @@ use Rattle.std.specs.List.{cons_option}
 use Rattle.std.proofs.lemmas.List.Sums.{sum_by-cons}
 use Rattle.shredding.specs.Slot.{Value}
 use Rattle.shredding.specs.Shred.{Triple}
-use Rattle.pq_container.proofs.Injective.{cons_same}
+use Rattle.pq_metadata.proofs.Injective.{cons_same}
 use Rattle.pq_files.proofs.Unique.{Every}
 
 not_both : (b : Bool) → b ≡ true → b ≡ false → ⊥

@@ -1,13 +1,13 @@
 -- A page has one reading: sections and levels.
 use Rattle.std.proofs.Common.{◌≡◌, ℕ, zero, suc, List, [], ◌∷◌, ◌++◌, length, take, drop, All, refl, sym, ap, subst, ◌∙◌, arith}
 use Rattle.std.proofs.lemmas.List.{take_at, drop_at}
-use Rattle.pq_container.specs.Header.{Header, data_page, data_page_2, dictionary_page}
+use Rattle.pq_metadata.specs.Header.{Header, data_page, data_page_2, dictionary_page}
 use Rattle.pq_files.specs.Levels.{HasLevels, IsBehindLength}
 use Rattle.pq_numbers.specs.Bits.{IsWidth}
 use Rattle.pq_files.specs.Page.{Sections, IsSplit, IsSplit1, IsSplit2}
 use Rattle.pq_runs.specs.Runs.{Runs}
 use Rattle.pq_numbers.specs.Texts.{Begins}
-use Rattle.pq_container.specs.Tree.{Leaf, max_definition, max_repetition}
+use Rattle.pq_tree.specs.Tree.{Leaf, max_definition, max_repetition}
 use Rattle.pq_runs.proofs.Complete.{unique}
 use Rattle.pq_files.proofs.Sections.{behind_length}
 

@@ -17,8 +17,8 @@ use Rattle.shredding.specs.Share.{ColumnsAgree}
 use Rattle.shredding.specs.Shred.{Triple, shred}
 use Rattle.pq_numbers.specs.Texts.{Begins}
 use Rattle.pq_runs.specs.Runs.{no_bits, last_copies}
-use Rattle.pq_container.specs.Physical.{int32, byte_array, fixed}
-use Rattle.pq_container.proofs.Injective.{pos_same}
+use Rattle.pq_tree.specs.Physical.{int32, byte_array, fixed}
+use Rattle.pq_metadata.proofs.Injective.{pos_same}
 use Rattle.pq_files.specs.FirstFile.{schema, the_leaf, triples}
 use Rattle.pq_files.specs.Indices.{IsIndexed}
 use Rattle.pq_files.specs.Levels.{HasLevels}

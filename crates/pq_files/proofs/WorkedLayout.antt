@@ -17,8 +17,8 @@ use Rattle.pq_runs.specs.Runs.{no_bits}
 use Rattle.shredding.specs.Shred.{Triple, column, shred}
 use Rattle.shredding.specs.Shape.{text, signed}
 use Rattle.shredding.specs.Slot.{Value, truth, number, bytes}
-use Rattle.pq_container.specs.Header.{dictionary_page}
-use Rattle.pq_container.specs.Physical.{byte_array, int32}
+use Rattle.pq_metadata.specs.Header.{dictionary_page}
+use Rattle.pq_tree.specs.Physical.{byte_array, int32}
 use Rattle.pq_files.specs.FirstFile.{way, rows, triples}
 use Rattle.pq_files.specs.Layout.{IsLaid}
 use Rattle.pq_files.specs.Chunk.{RawPage, here, page, IsPageText, IsChunk}

@@ -12,8 +12,8 @@ use Rattle.pq_thrift.proofs.OneReading.{same_reading}
 use Rattle.shredding.specs.Shape.{signed}
 use Rattle.shredding.specs.Shred.{Triple, shred}
 use Rattle.shredding.specs.Slot.{number}
-use Rattle.pq_container.specs.Physical.{int32}
-use Rattle.pq_container.proofs.Injective.{cons_same, pos_same}
+use Rattle.pq_tree.specs.Physical.{int32}
+use Rattle.pq_metadata.proofs.Injective.{cons_same, pos_same}
 use Rattle.pq_files.specs.Reasons.{S2, N1, N3}
 use Rattle.std.proofs.lemmas.Int.{ints}
 use Rattle.pq_files.specs.Chunk.{RawPage, IsPageText, here, page, count_in}

@@ -12,11 +12,11 @@ use Rattle.pq_thrift.specs.Spelling.{list_head, field_head}
 use Rattle.pq_thrift.specs.Written.{IsWritten}
 use Rattle.pq_thrift.specs.Value.{int16, int32, int64, binary, list, struct, no_values, value, Fields, no_fields, field}
 use Rattle.shredding.specs.Shred.{shred}
-use Rattle.pq_container.specs.declared.version.Version.TheVariants.{V1}
-use Rattle.pq_container.specs.Footer.{SpellsTree}
-use Rattle.pq_container.specs.Physical.{int32 as p_int32}
-use Rattle.pq_container.specs.Tree.{Leaf}
-use Rattle.pq_container.specs.Types.{optional, repeated}
+use Rattle.pq_tree.specs.declared.version.Version.TheVariants.{V1}
+use Rattle.pq_metadata.specs.Footer.{SpellsTree}
+use Rattle.pq_tree.specs.Physical.{int32 as p_int32}
+use Rattle.pq_tree.specs.Tree.{Leaf}
+use Rattle.pq_tree.specs.Types.{optional, repeated}
 use Rattle.pq_files.specs.FirstFile.{head, body, node, triples}
 use Rattle.pq_files.specs.WrittenExample.{footer, file, out_groups, schema, list_node, out_page, out_chunk, IsPacked}
 use Rattle.pq_runs.specs.WrittenRuns.{last_groups}

@@ -6,10 +6,10 @@ use Rattle.std.proofs.lemmas.List.{length-append, take_at, drop_at}
 use Rattle.std.proofs.lemmas.List.Elements.{All-from_recursion}
 use Rattle.pq_numbers.specs.Texts.{IsAt}
 use Rattle.shredding.specs.Slot.{Value}
-use Rattle.pq_container.specs.declared.version.Version.{Version}
-use Rattle.pq_container.specs.Footer.{Key}
-use Rattle.pq_container.specs.Frame.{magic}
-use Rattle.pq_container.specs.Tree.{Leaf, Schema, columns_of}
+use Rattle.pq_tree.specs.declared.version.Version.{Version}
+use Rattle.pq_metadata.specs.Footer.{Key}
+use Rattle.pq_metadata.specs.Frame.{magic}
+use Rattle.pq_tree.specs.Tree.{Leaf, Schema, columns_of}
 use Rattle.pq_files.specs.Carried.{start_of, IsChunkOf, AreChunks as AreRead, IsGroup, GroupPages, column_in, group_in}
 use Rattle.pq_files.specs.Chunk.{Chunk, triples_of}
 use Rattle.pq_files.specs.Layout.{OutChunk, OutGroup}

@@ -9,10 +9,10 @@ use Rattle.pq_thrift.specs.Grammar.{AreFields}
 use Rattle.pq_thrift.specs.Value.{Value as Thrift, struct, Fields, no_fields, field}
 use Rattle.shredding.specs.Slot.{Value}
 use Rattle.shredding.specs.Shred.{Triple}
-use Rattle.pq_container.specs.declared.version.Version.{Version}
-use Rattle.pq_container.specs.declared.version.Version.TheVariants.{V1, V2}
-use Rattle.pq_container.specs.Header.{Header, dictionary_page}
-use Rattle.pq_container.specs.Tree.{Leaf}
+use Rattle.pq_tree.specs.declared.version.Version.{Version}
+use Rattle.pq_tree.specs.declared.version.Version.TheVariants.{V1, V2}
+use Rattle.pq_metadata.specs.Header.{Header, dictionary_page}
+use Rattle.pq_tree.specs.Tree.{Leaf}
 use Rattle.pq_files.specs.Chunk.{RawPage, IsPageText, IsData, count_in, Pages, here, page, StartsWith, Page, Chunk, HasEntries, IsPageIn, IsChunk, triples_of}
 use Rattle.pq_files.specs.Layout.{OutPage, OutChunk}
 use Rattle.pq_files.specs.Levels.{HasLevels}

@@ -2,9 +2,9 @@
 use Rattle.std.proofs.Common.{◌≡◌, ℕ, ◌≤◌, pos, Option, Some, None, refl, arith}
 use Rattle.std.specs.Prelude.{option_map}
 use Rattle.pq_thrift.specs.Grammar.{depth}
-use Rattle.pq_container.specs.declared.version.Version.{Version}
-use Rattle.pq_container.specs.declared.version.Version.TheVariants.{V1, V2}
-use Rattle.pq_container.specs.Header.{dictionary_page, SpellsHeader}
+use Rattle.pq_tree.specs.declared.version.Version.{Version}
+use Rattle.pq_tree.specs.declared.version.Version.TheVariants.{V1, V2}
+use Rattle.pq_metadata.specs.Header.{dictionary_page, SpellsHeader}
 use Rattle.pq_files.specs.Layout.{OutPage}
 use Rattle.pq_files.specs.Packed.{header_of, header_value}
 use Rattle.pq_files.specs.Statistics.{Statistics}

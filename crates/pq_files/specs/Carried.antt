@@ -4,13 +4,13 @@ use Rattle.std.specs.List.{AllZip}
 use Rattle.shredding.specs.Slot.{Value}
 use Rattle.shredding.specs.Shred.{Triple}
 use Rattle.pq_files.specs.Chunk.{Chunk, IsChunk, triples_of}
-use Rattle.pq_container.specs.Frame.{IsFramed}
-use Rattle.pq_container.specs.Footer.{ChunkMeta, GroupMeta, Key}
-use Rattle.pq_container.specs.Metadata.{IsFooterText}
+use Rattle.pq_metadata.specs.Frame.{IsFramed}
+use Rattle.pq_metadata.specs.Footer.{ChunkMeta, GroupMeta, Key}
+use Rattle.pq_metadata.specs.Metadata.{IsFooterText}
 use Rattle.pq_files.specs.Page.{rows_in}
-use Rattle.pq_container.specs.Physical.{number_of_physical}
+use Rattle.pq_tree.specs.Physical.{number_of_physical}
 use Rattle.pq_numbers.specs.Texts.{Begins, IsAt}
-use Rattle.pq_container.specs.Tree.{Schema, Leaf, columns_of}
+use Rattle.pq_tree.specs.Tree.{Schema, Leaf, columns_of}
 
 -- ---- chunks
 

@@ -5,11 +5,11 @@ use Rattle.pq_thrift.specs.Grammar.{Spells, depth}
 use Rattle.pq_thrift.specs.Value.{Value as Thrift}
 use Rattle.shredding.specs.Slot.{Value}
 use Rattle.shredding.specs.Shred.{Triple}
-use Rattle.pq_container.specs.Header.{Header, data_page, data_page_2, dictionary_page, SpellsHeader}
+use Rattle.pq_metadata.specs.Header.{Header, data_page, data_page_2, dictionary_page, SpellsHeader}
 use Rattle.pq_files.specs.Page.{IsPage}
 use Rattle.pq_files.specs.Plain.{IsPlain}
 use Rattle.pq_numbers.specs.Texts.{Begins}
-use Rattle.pq_container.specs.Tree.{Leaf}
+use Rattle.pq_tree.specs.Tree.{Leaf}
 
 -- ---- pages by their headers
 

@@ -3,10 +3,10 @@ use Rattle.std.specs.Prelude.{ℕ, List, Option}
 use Rattle.pq_numbers.specs.Texts.{Begins}
 use Rattle.shredding.specs.Shred.{Triple}
 use Rattle.shredding.specs.Slot.{Value}
-use Rattle.pq_container.specs.Footer.{Footer}
-use Rattle.pq_container.specs.Frame.{IsFramed}
-use Rattle.pq_container.specs.Tree.{Leaf}
-use Rattle.pq_container.specs.Metadata.{IsFooterText}
+use Rattle.pq_metadata.specs.Footer.{Footer}
+use Rattle.pq_metadata.specs.Frame.{IsFramed}
+use Rattle.pq_tree.specs.Tree.{Leaf}
+use Rattle.pq_metadata.specs.Metadata.{IsFooterText}
 use Rattle.pq_files.specs.Carried.{IsNotCarried}
 use Rattle.pq_files.specs.Chunk.{RawPage}
 use Rattle.pq_files.specs.Page.{IsPage}

@@ -4,10 +4,10 @@ use Rattle.shredding.specs.Shape.{Shape, list, leaf as leaf_of, signed, Way, in_
 use Rattle.shredding.specs.Shred.{Triple, column}
 use Rattle.shredding.specs.Slot.{number, Slot, null, value, items, slots_of}
 use Rattle.pq_files.specs.Carried.{Carried, Group}
-use Rattle.pq_container.specs.Frame.{magic}
-use Rattle.pq_container.specs.Physical.{int32}
-use Rattle.pq_container.specs.Tree.{Schema, Leaf, leaf, group, no_trees, tree}
-use Rattle.pq_container.specs.Types.{Repetition, optional, repeated, Converted, Info}
+use Rattle.pq_metadata.specs.Frame.{magic}
+use Rattle.pq_tree.specs.Physical.{int32}
+use Rattle.pq_tree.specs.Tree.{Schema, Leaf, leaf, group, no_trees, tree}
+use Rattle.pq_tree.specs.Types.{Repetition, optional, repeated, Converted, Info}
 
 -- the page's header: version 1, 21 bytes, five pairs, plain, levels in runs
 abbrev pub head : List ℕ

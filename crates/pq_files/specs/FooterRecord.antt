@@ -1,7 +1,7 @@
 -- What a footer states (Parquet format, parquet.thrift: FileMetaData, RowGroup, ColumnChunk, ColumnMetaData), under the names that the standard gives. Sizes are in bytes, and places are counted from the start of the file.
 use Rattle.std.specs.Prelude.{ℕ, ℤ, List, map, Option, None}
-use Rattle.pq_container.specs.Footer.{ChunkStatistics, ChunkMeta, GroupMeta, Key}
-use Rattle.pq_container.specs.Tree.{Schema}
+use Rattle.pq_metadata.specs.Footer.{ChunkStatistics, ChunkMeta, GroupMeta, Key}
+use Rattle.pq_tree.specs.Tree.{Schema}
 
 pub record ColumnMetaData : Type 0 where
   pub type : ℤ

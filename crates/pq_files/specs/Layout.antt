@@ -6,9 +6,9 @@ use Rattle.shredding.specs.Slot.{Value, truth, number, bytes, Slot}
 use Rattle.shredding.specs.Shape.{LeafType, nothing, Way}
 use Rattle.shredding.specs.Shred.{Triple, column}
 use Rattle.pq_numbers.specs.Bits.{bytes_for}
-use Rattle.pq_container.specs.declared.version.Version.{Version}
+use Rattle.pq_tree.specs.declared.version.Version.{Version}
 use Rattle.pq_files.specs.Page.{Encoding, plain, dictionary, delta, delta_length, values_in}
-use Rattle.pq_container.specs.Physical.{Physical, boolean, int32, int64, byte_array, fixed}
+use Rattle.pq_tree.specs.Physical.{Physical, boolean, int32, int64, byte_array, fixed}
 use Rattle.pq_files.specs.Statistics.{Statistics, HasStatistics}
 use Rattle.pq_files.specs.Stored.{IsStored, AreStored}
 

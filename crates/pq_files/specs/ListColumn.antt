@@ -3,11 +3,11 @@ use Rattle.std.specs.Prelude.{◌≡◌, ℕ, ◌≤◌, ℤ, pos, List, [], ◌
 use Rattle.shredding.specs.Shape.{Shape, list, leaf as leaf_of, signed, IsOf, Way, in_list, at_leaf}
 use Rattle.shredding.specs.Shred.{Triple, column}
 use Rattle.shredding.specs.Slot.{Slot}
-use Rattle.pq_container.specs.declared.version.Version.TheVariants.{V1}
-use Rattle.pq_container.specs.Header.{data_page, DataHeader}
-use Rattle.pq_container.specs.Physical.{int32}
-use Rattle.pq_container.specs.Tree.{Schema, Tree, leaf, group, Trees, no_trees, tree}
-use Rattle.pq_container.specs.Types.{Repetition, optional, repeated, Converted, Logical, Info}
+use Rattle.pq_tree.specs.declared.version.Version.TheVariants.{V1}
+use Rattle.pq_metadata.specs.Header.{data_page, DataHeader}
+use Rattle.pq_tree.specs.Physical.{int32}
+use Rattle.pq_tree.specs.Tree.{Schema, Tree, leaf, group, Trees, no_trees, tree}
+use Rattle.pq_tree.specs.Types.{Repetition, optional, repeated, Converted, Logical, Info}
 use Rattle.pq_files.specs.Carried.{HoldsPages, GroupPages}
 use Rattle.pq_files.specs.Layout.{OutGroup}
 use Rattle.pq_files.specs.Packed.{Packed}

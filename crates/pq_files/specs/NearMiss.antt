@@ -2,10 +2,10 @@
 use Rattle.std.specs.Prelude.{ℕ, pos, Option, Some, None, List, [], ◌∷◌, ◌++◌, take, drop}
 use Rattle.shredding.specs.Shred.{Triple}
 use Rattle.shredding.specs.Slot.{Value}
-use Rattle.pq_container.specs.declared.version.Version.{Version}
-use Rattle.pq_container.specs.Footer.{Key}
-use Rattle.pq_container.specs.Header.{Header, data_page}
-use Rattle.pq_container.specs.Tree.{Schema, Leaf}
+use Rattle.pq_tree.specs.declared.version.Version.{Version}
+use Rattle.pq_metadata.specs.Footer.{Key}
+use Rattle.pq_metadata.specs.Header.{Header, data_page}
+use Rattle.pq_tree.specs.Tree.{Schema, Leaf}
 use Rattle.pq_files.specs.Carried.{IsNotCarried}
 use Rattle.pq_files.specs.FirstFile.{head, body, footer, file, file_of, the_leaf}
 use Rattle.pq_files.specs.Layout.{OutPage, OutGroup}

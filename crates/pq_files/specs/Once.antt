@@ -3,10 +3,10 @@ use Rattle.std.specs.Prelude.{◌≡◌, ℕ, ◌<◌, List, All, Option}
 use Rattle.shredding.specs.Shape.{LeafType}
 use Rattle.shredding.specs.Shred.{Triple}
 use Rattle.shredding.specs.Slot.{Value, bytes}
-use Rattle.pq_container.specs.Footer.{Key}
-use Rattle.pq_container.specs.Header.{Header}
-use Rattle.pq_container.specs.Physical.{Physical}
-use Rattle.pq_container.specs.Tree.{Leaf, Schema}
+use Rattle.pq_metadata.specs.Footer.{Key}
+use Rattle.pq_metadata.specs.Header.{Header}
+use Rattle.pq_tree.specs.Physical.{Physical}
+use Rattle.pq_tree.specs.Tree.{Leaf, Schema}
 use Rattle.pq_files.specs.Carried.{GroupPages, HoldsPages, Group, Carried}
 use Rattle.pq_files.specs.Page.{IsPage}
 use Rattle.pq_files.specs.Stored.{IsStored, AreStored}

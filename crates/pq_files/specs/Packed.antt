@@ -6,12 +6,12 @@ use Rattle.pq_thrift.specs.Value.{Value as Thrift}
 use Rattle.pq_thrift.specs.Written.{IsWritten}
 use Rattle.shredding.specs.Shred.{Triple}
 use Rattle.shredding.specs.Slot.{Value}
-use Rattle.pq_container.specs.declared.version.Version.{Version}
-use Rattle.pq_container.specs.declared.version.Version.TheVariants.{V1, V2}
-use Rattle.pq_container.specs.Footer.{Key, SpellsTree}
-use Rattle.pq_container.specs.Frame.{magic}
-use Rattle.pq_container.specs.Header.{Header, data_page, data_page_2}
-use Rattle.pq_container.specs.Tree.{Schema, Leaf, columns_of}
+use Rattle.pq_tree.specs.declared.version.Version.{Version}
+use Rattle.pq_tree.specs.declared.version.Version.TheVariants.{V1, V2}
+use Rattle.pq_metadata.specs.Footer.{Key, SpellsTree}
+use Rattle.pq_metadata.specs.Frame.{magic}
+use Rattle.pq_metadata.specs.Header.{Header, data_page, data_page_2}
+use Rattle.pq_tree.specs.Tree.{Schema, Leaf, columns_of}
 use Rattle.pq_files.specs.Carried.{Carried, Group, Column}
 use Rattle.pq_files.specs.FooterRecord.{ColumnChunk, RowGroup}
 use Rattle.pq_files.specs.Layout.{OutPage, OutChunk, OutGroup}

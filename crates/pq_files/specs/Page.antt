@@ -5,13 +5,13 @@ use Rattle.shredding.specs.Slot.{Value}
 use Rattle.shredding.specs.Laws.{BeginsRow}
 use Rattle.shredding.specs.Shred.{Triple}
 use Rattle.pq_files.specs.Delta.{AreDeltas, AreDeltaLengths}
-use Rattle.pq_container.specs.Header.{Header, data_page, data_page_2, dictionary_page}
+use Rattle.pq_metadata.specs.Header.{Header, data_page, data_page_2, dictionary_page}
 use Rattle.pq_files.specs.Indices.{IsIndexed}
 use Rattle.pq_files.specs.Levels.{HasLevels, IsBehindLength}
-use Rattle.pq_container.specs.Physical.{boolean, int32, int64, byte_array}
+use Rattle.pq_tree.specs.Physical.{boolean, int32, int64, byte_array}
 use Rattle.pq_files.specs.Plain.{IsPlain}
 use Rattle.pq_numbers.specs.Texts.{Begins}
-use Rattle.pq_container.specs.Tree.{Leaf, max_definition, max_repetition}
+use Rattle.pq_tree.specs.Tree.{Leaf, max_definition, max_repetition}
 
 -- ---- encodings
 

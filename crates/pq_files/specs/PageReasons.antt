@@ -7,10 +7,10 @@ use Rattle.pq_numbers.specs.Texts.{Begins}
 use Rattle.shredding.specs.Shape.{LeafType}
 use Rattle.shredding.specs.Shred.{Triple}
 use Rattle.shredding.specs.Slot.{Value}
-use Rattle.pq_container.specs.Header.{Header, data_page, data_page_2, dictionary_page}
-use Rattle.pq_container.specs.HeaderText.{IsOfOtherType}
-use Rattle.pq_container.specs.Physical.{Physical, boolean, int32 as p_int32, int64, byte_array}
-use Rattle.pq_container.specs.Tree.{Leaf, max_definition, max_repetition}
+use Rattle.pq_metadata.specs.Header.{Header, data_page, data_page_2, dictionary_page}
+use Rattle.pq_metadata.specs.HeaderText.{IsOfOtherType}
+use Rattle.pq_tree.specs.Physical.{Physical, boolean, int32 as p_int32, int64, byte_array}
+use Rattle.pq_tree.specs.Tree.{Leaf, max_definition, max_repetition}
 use Rattle.pq_files.specs.Chunk.{RawPage, IsPageText, IsData, IsDictionary, StartsWith, Pages, count_in, AreEntriesOf}
 use Rattle.pq_files.specs.Levels.{HasLevels}
 use Rattle.pq_files.specs.Page.{Encoding, plain, dictionary, delta, delta_length, Sections, IsSplit, HasEncoding, IsSpelled, LevelsAreRuns}

@@ -3,7 +3,7 @@ use Rattle.std.specs.Prelude.{◌≡◌, ℕ, List, [], ◌∷◌, ◌++◌, len
 use Rattle.std.specs.Int.{w32, w64, cast_signed}
 use Rattle.shredding.specs.Slot.{Value, truth, number, bytes}
 use Rattle.pq_numbers.specs.Bits.{bytes_for, unpacked}
-use Rattle.pq_container.specs.Physical.{Physical, boolean, int32, int64, byte_array, fixed}
+use Rattle.pq_tree.specs.Physical.{Physical, boolean, int32, int64, byte_array, fixed}
 use Rattle.pq_numbers.specs.Texts.{number_of}
 
 -- four bytes with the length, and the bytes

@@ -5,8 +5,8 @@ use Rattle.pq_numbers.specs.Texts.{Begins}
 use Rattle.pq_numbers.specs.Varint.{IsNumber}
 use Rattle.pq_runs.specs.Delta.{IsDelta}
 use Rattle.shredding.specs.Slot.{Value, number, bytes}
-use Rattle.pq_container.specs.Physical.{int32, int64}
-use Rattle.pq_container.specs.Tree.{Leaf}
+use Rattle.pq_tree.specs.Physical.{int32, int64}
+use Rattle.pq_tree.specs.Tree.{Leaf}
 use Rattle.pq_files.specs.Indices.{IsIndexed}
 use Rattle.pq_files.specs.Page.{Encoding, plain, dictionary, delta, delta_length}
 use Rattle.pq_files.specs.Plain.{IsPlain}

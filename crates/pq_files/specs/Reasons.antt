@@ -1,11 +1,11 @@
 -- Why a file is refused, as far as its footer tells: S1, N2 and N7 of the frame and the footer, S2, N1 and N3 of groups and chunks.
 -- S8, N5, N6 and the reasons A speak of Arrow types and are not stated here.
 use Rattle.std.specs.Prelude.{◌≡◌, ◌≢◌, ◌⊎◌, ℕ, ◌+◌, ◌<◌, ℤ, pos, ◌<ℤ◌, List, [], ◌∷◌, length, Some, None}
-use Rattle.pq_container.specs.Footer.{ChunkMeta, GroupMeta, Footer}
-use Rattle.pq_container.specs.Frame.{footer_of, HasFrame, EndsEncrypted}
-use Rattle.pq_container.specs.Metadata.{FooterIsDeep, FooterIsEncrypted, NoFooter}
-use Rattle.pq_container.specs.Physical.{number_of_physical}
-use Rattle.pq_container.specs.Tree.{Leaf, columns_of}
+use Rattle.pq_metadata.specs.Footer.{ChunkMeta, GroupMeta, Footer}
+use Rattle.pq_metadata.specs.Frame.{footer_of, HasFrame, EndsEncrypted}
+use Rattle.pq_metadata.specs.Metadata.{FooterIsDeep, FooterIsEncrypted, NoFooter}
+use Rattle.pq_tree.specs.Physical.{number_of_physical}
+use Rattle.pq_tree.specs.Tree.{Leaf, columns_of}
 use Rattle.pq_files.specs.Carried.{start_of}
 
 -- ---- the frame and the footer (Parquet format, "File format" and "Metadata")

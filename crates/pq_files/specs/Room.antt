@@ -1,14 +1,14 @@
 -- How many bytes a page or a footer may take: bounds that a writer keeps, so that the 32-bit sizes of the Parquet format (parquet.thrift: PageHeader; "File format": footer length) hold them.
 use Rattle.std.specs.Prelude.{◌⊎◌, ℕ, ◌+◌, ◌-◌, ◌*◌, ◌/◌, ◌^◌, ◌<◌, ◌≤◌, All, List, [], ◌∷◌, length, map, sum_by, Bool, true, false, cond, nat_eq, ◌&&◌, codes, Option, Some, None}
-use Rattle.pq_container.specs.declared.version.Version.TheVariants.{V1}
-use Rattle.pq_container.specs.Footer.{ChunkStatistics, Key}
+use Rattle.pq_tree.specs.declared.version.Version.TheVariants.{V1}
+use Rattle.pq_metadata.specs.Footer.{ChunkStatistics, Key}
 use Rattle.pq_files.specs.FooterRecord.{ColumnChunk, RowGroup, FileMetaData}
 use Rattle.shredding.specs.Slot.{Value}
 use Rattle.pq_files.specs.Layout.{OutPage, OutChunk, OutGroup, plain_length}
 use Rattle.pq_files.specs.Page.{values_in}
 use Rattle.pq_files.specs.Reasons.{AnyOf, AnyZip}
 use Rattle.pq_files.specs.Written.{Place, chunk_record, group_record, footer_record}
-use Rattle.pq_container.specs.Tree.{Schema, Leaf, Element, preorder_of, columns_of}
+use Rattle.pq_tree.specs.Tree.{Schema, Leaf, Element, preorder_of, columns_of}
 
 -- a page of so many pairs or entries, whose values have so many plain bytes
 abbrev pub room : ℕ → ℕ → ℕ

@@ -5,8 +5,8 @@ use Rattle.shredding.specs.Shape.{LeafType, Way}
 use Rattle.shredding.specs.Share.{ColumnsAgree}
 use Rattle.shredding.specs.Shred.{Triple}
 use Rattle.shredding.specs.Slot.{Value}
-use Rattle.pq_container.specs.Header.{Header, data_page_2}
-use Rattle.pq_container.specs.Tree.{Leaf, max_definition}
+use Rattle.pq_metadata.specs.Header.{Header, data_page_2}
+use Rattle.pq_tree.specs.Tree.{Leaf, max_definition}
 use Rattle.pq_files.specs.Chunk.{RawPage, HasEntries, count_in}
 use Rattle.pq_files.specs.Page.{Encoding, dictionary, HasEncoding, rows_in, values_in}
 use Rattle.shredding.specs.Laws.{BeginsRow}

@@ -3,7 +3,7 @@ use Rattle.std.specs.Prelude.{◌≡◌, ℕ, ◌<◌, ◌≤ℤ◌, List, [], �
 use Rattle.shredding.specs.Slot.{Value, truth, number, bytes}
 use Rattle.shredding.specs.Shape.{LeafType, nothing, months, days}
 use Rattle.shredding.specs.Shred.{Triple}
-use Rattle.pq_container.specs.Physical.{Physical, boolean, byte_array}
+use Rattle.pq_tree.specs.Physical.{Physical, boolean, byte_array}
 use Rattle.pq_files.specs.Plain.{IsOne}
 use Rattle.pq_files.specs.Stored.{IsStored}
 

@@ -5,7 +5,7 @@ use Rattle.std.specs.List.{AllZip}
 use Rattle.shredding.specs.Slot.{Value, truth, number, bytes}
 use Rattle.shredding.specs.Shape.{LeafType, truths, text, binary, signed, unsigned, fixed_bytes, decimal, months, days, Fits}
 use Rattle.shredding.specs.Shred.{Triple}
-use Rattle.pq_container.specs.Physical.{Physical, boolean, int32, int64, byte_array, fixed}
+use Rattle.pq_tree.specs.Physical.{Physical, boolean, int32, int64, byte_array, fixed}
 
 -- highest byte first, in two's complement
 abbrev pub big_endian : List ℕ → ℕ

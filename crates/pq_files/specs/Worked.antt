@@ -6,8 +6,8 @@ use Rattle.shredding.specs.Share.{ColumnsAgree}
 use Rattle.shredding.specs.Shred.{Triple}
 use Rattle.shredding.specs.Slot.{Value, truth, number, bytes}
 use Rattle.pq_numbers.specs.Texts.{Begins}
-use Rattle.pq_container.specs.Header.{Header, data_page_2}
-use Rattle.pq_container.specs.Physical.{boolean, int32, int64, byte_array, fixed}
+use Rattle.pq_metadata.specs.Header.{Header, data_page_2}
+use Rattle.pq_tree.specs.Physical.{boolean, int32, int64, byte_array, fixed}
 use Rattle.pq_files.specs.Carried.{start_of}
 use Rattle.pq_files.specs.FirstFile.{schema, the_leaf, triples}
 use Rattle.pq_files.specs.Indices.{IsIndexed}

@@ -4,11 +4,11 @@ use Rattle.pq_thrift.specs.Grammar.{Spells}
 use Rattle.shredding.specs.Shape.{text, signed}
 use Rattle.shredding.specs.Shred.{Triple}
 use Rattle.shredding.specs.Slot.{Value, number, bytes}
-use Rattle.pq_container.specs.declared.version.Version.TheVariants.{V1}
-use Rattle.pq_container.specs.Header.{Header, data_page}
-use Rattle.pq_container.specs.Physical.{int32, byte_array}
-use Rattle.pq_container.specs.Tree.{Leaf}
-use Rattle.pq_container.specs.Types.{required}
+use Rattle.pq_tree.specs.declared.version.Version.TheVariants.{V1}
+use Rattle.pq_metadata.specs.Header.{Header, data_page}
+use Rattle.pq_tree.specs.Physical.{int32, byte_array}
+use Rattle.pq_tree.specs.Tree.{Leaf}
+use Rattle.pq_tree.specs.Types.{required}
 use Rattle.pq_files.specs.Chunk.{Chunk, IsChunk}
 use Rattle.pq_files.specs.FirstFile.{way, rows}
 use Rattle.pq_files.specs.Layout.{Options, Target, IsLaid}

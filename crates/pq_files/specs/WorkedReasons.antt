@@ -2,8 +2,8 @@
 use Rattle.std.specs.Prelude.{ℕ, ℤ, pos, negsuc, Option, Some, None, List, [], ◌∷◌, ◌++◌, take, drop}
 use Rattle.shredding.specs.Shape.{signed}
 use Rattle.shredding.specs.Slot.{Value, number}
-use Rattle.pq_container.specs.Footer.{ChunkMeta, Footer}
-use Rattle.pq_container.specs.Header.{data_page, dictionary_page}
+use Rattle.pq_metadata.specs.Footer.{ChunkMeta, Footer}
+use Rattle.pq_metadata.specs.Header.{data_page, dictionary_page}
 use Rattle.pq_files.specs.Chunk.{RawPage}
 use Rattle.pq_files.specs.FirstFile.{head, body, schema, the_leaf}
 use Rattle.pq_files.specs.NearMiss.{header, cut_levels}

@@ -1,17 +1,17 @@
 -- The Thrift values of pages and footers (Parquet format, parquet.thrift): exactly these ids, each once and ascending. Behind them stands what a packed file's footer states.
 use Rattle.std.specs.Prelude.{ℕ, ℤ, ◌+◌, nat_le, pos, List, [], ◌∷◌, length, map as list_map, sum_by, Bool, true, false, cond, Option, Some, None, codes, option_map, count_by, is_none, is_some}
 use Rattle.pq_thrift.specs.Value.{Value, truth, int8, int16, int32, int64, binary, list, struct, Values, Fields, no_fields, field, values_of}
-use Rattle.pq_container.specs.declared.version.Version.{Version}
-use Rattle.pq_container.specs.declared.version.Version.TheVariants.{V1, V2}
-use Rattle.pq_container.specs.Elements.{number_of_repetition}
-use Rattle.pq_container.specs.Footer.{ChunkStatistics, Key}
+use Rattle.pq_tree.specs.declared.version.Version.{Version}
+use Rattle.pq_tree.specs.declared.version.Version.TheVariants.{V1, V2}
+use Rattle.pq_metadata.specs.Elements.{number_of_repetition}
+use Rattle.pq_metadata.specs.Footer.{ChunkStatistics, Key}
 use Rattle.pq_files.specs.FooterRecord.{ColumnMetaData, ColumnChunk, RowGroup, FileMetaData}
 use Rattle.pq_files.specs.Layout.{OutPage, OutChunk, OutGroup}
 use Rattle.pq_files.specs.Page.{Encoding, plain, dictionary, delta, delta_length, rows_in}
-use Rattle.pq_container.specs.Physical.{Physical, number_of_physical}
+use Rattle.pq_tree.specs.Physical.{Physical, number_of_physical}
 use Rattle.pq_files.specs.Statistics.{Statistics}
-use Rattle.pq_container.specs.Tree.{Schema, Leaf, Element, count_trees, preorder_of, columns_of}
-use Rattle.pq_container.specs.Types.{TimeUnit, Converted, Logical, Info}
+use Rattle.pq_tree.specs.Tree.{Schema, Leaf, Element, count_trees, preorder_of, columns_of}
+use Rattle.pq_tree.specs.Types.{TimeUnit, Converted, Logical, Info}
 
 -- ---- fields
 

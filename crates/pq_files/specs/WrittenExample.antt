@@ -1,14 +1,14 @@
 -- The file that is written for the first file, in version 1, without statistics and without a key.
 use Rattle.std.specs.Prelude.{ℕ, Some, None, List, [], ◌∷◌, ◌++◌, length, ◌≡◌}
-use Rattle.pq_container.specs.declared.version.Version.TheVariants.{V1}
+use Rattle.pq_tree.specs.declared.version.Version.TheVariants.{V1}
 use Rattle.pq_files.specs.Layout.{OutPage, OutChunk, OutGroup}
 use Rattle.pq_files.specs.Packed.{Packed}
 use Rattle.pq_files.specs.Page.{plain}
-use Rattle.pq_container.specs.Frame.{magic}
-use Rattle.pq_container.specs.Physical.{int32}
+use Rattle.pq_metadata.specs.Frame.{magic}
+use Rattle.pq_tree.specs.Physical.{int32}
 use Rattle.pq_files.specs.FirstFile.{head, body, node, triples}
-use Rattle.pq_container.specs.Tree.{Schema, leaf, group, no_trees, tree}
-use Rattle.pq_container.specs.Types.{optional, repeated, Converted, Logical, Info}
+use Rattle.pq_tree.specs.Tree.{Schema, leaf, group, no_trees, tree}
+use Rattle.pq_tree.specs.Types.{optional, repeated, Converted, Logical, Info}
 
 abbrev pub footer : List ℕ
 footer =

@@ -3,8 +3,8 @@ use Rattle.std.specs.Prelude.{◌≡◌, ◌≢◌, ◌⊎◌, ℕ, ◌^◌, ◌
 use Rattle.std.specs.List.{AllZip}
 use Rattle.std.specs.Int.{Width, w32, w64}
 use Rattle.shredding.specs.Slot.{Value, number, bytes}
-use Rattle.pq_container.specs.Physical.{boolean, int32, int64, byte_array}
-use Rattle.pq_container.specs.Tree.{Leaf}
+use Rattle.pq_tree.specs.Physical.{boolean, int32, int64, byte_array}
+use Rattle.pq_tree.specs.Tree.{Leaf}
 use Rattle.pq_runs.specs.Packing.{IsLeastWidth}
 use Rattle.pq_runs.specs.WrittenDelta.{IsWrittenDelta}
 use Rattle.pq_runs.specs.WrittenRuns.{WrittenRuns}

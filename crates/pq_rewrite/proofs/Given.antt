@@ -4,7 +4,7 @@ use Rattle.shredding.specs.Shred.{Triple, column}
 use Rattle.shredding.specs.Triples.{triples_from}
 use Rattle.shredding.proofs.Counts.{counted}
 use Rattle.page_write.specs.Appended.{numbers}
-use Rattle.pq_container.specs.declared.version.Version.TheVariants.{V1}
+use Rattle.pq_tree.specs.declared.version.Version.TheVariants.{V1}
 use Rattle.pq_files.specs.ListColumn.{way, groups_out as groups_of}
 use Rattle.pq_files.specs.Packed.{Packed}
 use Rattle.pq_files.specs.Page.{rows_in}

@@ -5,7 +5,7 @@ use Rattle.columns_base.specs.declared.error.Error.{Error}
 use Rattle.columns_base.specs.declared.error.Error.TheVariants.{ReadFault, WriteFault, InputLimit, OutOfSpec, NotYetImplemented, InvalidArgumentError, Overflow, Memory}
 use Rattle.columns_base.specs.declared.error.Limit.TheVariants.{Bytes, Pairs}
 use Rattle.columns_base.specs.declared.error.A.TheVariants.{A1, A8}
-use Rattle.pq_rewrite.specs.Reading.{GaveAll}
+use Rattle.pq_io.specs.Reading.{GaveAll}
 use Rattle.pq_rewrite.specs.Answer.{Meaning, Ends, Rewrote, IsOfInput, KeptUnlessWritten}
 
 -- what stands between reading and writing refused the input

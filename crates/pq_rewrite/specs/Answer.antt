@@ -1,15 +1,15 @@
 -- What an answer says of the source and the sink.
 use Rattle.std.specs.Prelude.{◌≡◌, ◌⊎◌, ℕ, List, Option, Result, Ok, Err, ⊤}
 use Rattle.std.specs.Io.KnownBytes.{Appends, Keeps}
-use Rattle.row_file.specs.Causes.{Rose}
-use Rattle.row_file.specs.Ends.{AppendsFront}
+use Rattle.pq_io.specs.Causes.{Rose}
+use Rattle.pq_io.specs.Ends.{AppendsFront}
 use Rattle.columns_base.specs.declared.error.Error.{Error}
 use Rattle.columns_base.specs.declared.error.Error.TheVariants.{ReadFault, WriteFault, InputLimit, OutOfSpec, NotYetImplemented, InvalidArgumentError, Overflow, Memory}
 use Rattle.columns_base.specs.declared.error.Limit.TheVariants.{Bytes, Pairs}
 use Rattle.columns_base.specs.declared.error.A.TheVariants.{A1, A8}
 use Rattle.pq_rewrite.specs.declared.report.Report.{Report}
 use Rattle.pq_rewrite.specs.Notes.{line, status as answer_status}
-use Rattle.pq_rewrite.specs.Reading.{GaveAll, GavePast}
+use Rattle.pq_io.specs.Reading.{GaveAll, GavePast}
 
 -- a refusal that the input's bytes decide
 abbrev pub IsOfInput : Error → Type 0

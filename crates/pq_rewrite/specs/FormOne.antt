@@ -1,7 +1,7 @@
 -- What the program reads and writes in its first form: files of one list column.
 use Rattle.std.specs.Prelude.{◌≡◌, ◌<◌, ℕ, List, length}
 use Rattle.shredding.specs.Slot.{Slot}
-use Rattle.pq_container.specs.Frame.{HasFrame}
+use Rattle.pq_metadata.specs.Frame.{HasFrame}
 use Rattle.pq_files.specs.ListColumn.{Names, IsListColumn, HoldsListColumn, IsAnswer}
 use Rattle.pq_rewrite.specs.declared.report.Report.{Report}
 

@@ -1,10 +1,8 @@
-pub mod Plain
-pub mod Memory
-pub mod Reading
 pub mod Line
 pub mod Notes
 pub mod Answer
-pub use Rattle.row_file.specs.Causes
-pub use Rattle.row_file.specs.Ends
+pub use Rattle.pq_io.specs.Causes
+pub use Rattle.pq_io.specs.Ends
+pub use Rattle.pq_io.specs.Reading
 pub mod Run
 pub mod FormOne

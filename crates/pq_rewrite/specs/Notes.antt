@@ -1,8 +1,8 @@
 -- The lines that a call puts on its notes, and the status that it ends with.
 use Rattle.std.specs.Prelude.{◌⊎◌, ◌++◌, List, ℕ, Option, Result, Ok, Err, codes, decimal}
 use Rattle.std.specs.Io.KnownBytes.{Appends}
-use Rattle.row_file.specs.Causes.{Rose}
-use Rattle.row_file.specs.Ends.{AppendsFront}
+use Rattle.pq_io.specs.Causes.{Rose}
+use Rattle.pq_io.specs.Ends.{AppendsFront}
 use Rattle.columns_base.specs.Reasons.{error_text}
 use Rattle.columns_base.specs.declared.error.Error.{Error}
 use Rattle.columns_base.specs.declared.error.Error.TheVariants.{ReadFault, WriteFault, InputLimit, OutOfSpec, NotYetImplemented, InvalidArgumentError, Overflow, Memory}

@@ -1,14 +1,14 @@
 -- What a run says of its source, its sink and its notes, for any form of file that it reads.
 use Rattle.std.specs.Prelude.{◌≡◌, ◌++◌, ℕ, List, Option, IfSome, codes, ◌==◌, if◌then◌else◌}
 use Rattle.std.specs.Io.KnownBytes.{Appends}
-use Rattle.row_file.specs.Ends.{AppendsFront}
+use Rattle.pq_io.specs.Ends.{AppendsFront}
 use Rattle.columns_base.specs.declared.error.Error.{Error}
 use Rattle.columns_base.specs.declared.error.Error.TheVariants.{ReadFault, WriteFault, InputLimit, OutOfSpec, NotYetImplemented, InvalidArgumentError, Overflow, Memory}
 use Rattle.columns_base.specs.declared.error.S.TheVariants.{S1}
 use Rattle.columns_base.specs.declared.error.N.TheVariants.{N5}
 use Rattle.pq_rewrite.specs.declared.report.Report.{Report}
 use Rattle.pq_rewrite.specs.Notes.{report_text}
-use Rattle.pq_rewrite.specs.Reading.{GaveAll}
+use Rattle.pq_io.specs.Reading.{GaveAll}
 
 -- The bytes that the source held, where it tells them, are so.
 abbrev pub Held : Option (List ℕ) → (List ℕ → Type 0) → Type 0

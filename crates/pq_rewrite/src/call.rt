@@ -1,16 +1,15 @@
 //! The top call.
 ghost use Rattle.std.specs.Prelude.{◌≡◌, ◌≤◌, ◌<◌, ◌↔◌, ◌⊎◌, ◌++◌, [], Some, length, codes};
 ghost use Rattle.std.specs.Io.KnownBytes.{Keeps};
-ghost use Rattle.row_file.specs.Causes.{Rose};
+ghost use Rattle.pq_io.specs.Causes.{Rose};
 ghost use Rattle.pq_rewrite.specs.FormOne.{byte_limit, IsGiven, IsOutOfFrame, IsOfNoForm, IsTooLong};
 ghost use Rattle.pq_rewrite.specs.Notes.{Told};
-ghost use Rattle.pq_rewrite.specs.Reading.{GaveSome, GavePast};
+ghost use Rattle.pq_io.specs.Reading.{GaveSome, GavePast};
 ghost use Rattle.pq_rewrite.specs.Run.{Converts, ConvertsInPart, GaveSuch, Held, words_of};
 
-use crate::Source;
 use crate::frame::run_with;
 use crate::list_column::ListColumn;
-use row_file::Sink;
+use pq_io::{Sink, Source};
 use std::alloc::Global;
 
 /// The most bytes that the input may have.

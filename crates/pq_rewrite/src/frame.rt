@@ -2,15 +2,14 @@
 ghost use Rattle.std.specs.Prelude.{◌≡◌, ◌≤◌, ◌<◌, ◌↔◌, length};
 ghost use Rattle.pq_rewrite.specs.Notes.{bad_words, Told};
 ghost use Rattle.pq_rewrite.specs.FormOne.{byte_limit as largest_input};
-ghost use Rattle.pq_rewrite.specs.Reading.{GaveSome};
+ghost use Rattle.pq_io.specs.Reading.{GaveSome};
 ghost use Rattle.pq_rewrite.specs.Answer.{Rewrote, Answered, KeptUnlessWritten, meaning, ends};
 
+use crate::Report;
 use crate::conversion::Conversion;
 use crate::notes::{status_of, tell_answer, tell_bad_words};
-use crate::read::read_all;
-use crate::{Report, Source};
 use columns_base::Result;
-use row_file::{Sink, push_all};
+use pq_io::{Sink, Source, push_all, read_all};
 use std::alloc::Global;
 
 /// Reads the source whole, converts it, and only then writes.

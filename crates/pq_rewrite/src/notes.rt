@@ -6,7 +6,7 @@ ghost use Rattle.pq_rewrite.specs.Line.{line_bytes};
 use crate::Report;
 use crate::line::Line;
 use columns_base::{Error, Result};
-use row_file::{Sink, push_all};
+use pq_io::{Sink, push_all};
 
 #[tactic(auto, using(crate::proofs::Numbers::length_decimal), unfolding(crate::specs::Notes::report_text))]
 fn put_report(line: &mut Line, report: &Report)

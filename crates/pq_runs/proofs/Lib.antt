@@ -3,7 +3,6 @@ pub mod Decoding
 pub mod DeltaComplete
 pub mod DeltaParts
 pub mod DeltaSound
-pub mod DeltaSteps
 pub mod Examples
 pub mod Fields
 pub mod Filled

@@ -5,9 +5,6 @@
 mod bits;
 mod block;
 mod decoder;
-pub mod delta_bitpacked;
-mod delta_block;
-mod delta_encode;
 mod encode;
 mod group;
 mod hybrid;
@@ -19,7 +16,6 @@ mod run;
 mod runs;
 mod settle;
 mod state;
-mod waiting;
 mod whole;
 mod wide;
 mod writer;
@@ -32,4 +28,5 @@ pub use laws::{
 };
 pub use plain::bitpacked_encode;
 pub use whole::decode;
+pub use wide::push_packed_wide;
 pub use writer::RunWriter;

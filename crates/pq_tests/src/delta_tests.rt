@@ -1,5 +1,5 @@
 use columns_base::Result;
-use pq_runs::delta_bitpacked::{encode, encode_i32};
+use pq_deltas::delta_bitpacked::{encode, encode_i32};
 use std::alloc::Global;
 
 fn push_wide(out: &mut Vec<u8>, values: &[i64]) -> Result<()> {

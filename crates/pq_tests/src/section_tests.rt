@@ -1,7 +1,7 @@
 use columns_core::{Bitmap, OffsetsBuffer};
 use level_sections::{write_def_levels, write_rep_and_def};
 use levels::{ListNested, Nested, is_well_formed, max_def_level, max_rep_level};
-use pq_container::Version;
+use pq_tree::Version;
 use std::alloc::Global;
 use std::test::Fail;
 

@@ -4,7 +4,7 @@ use Rattle.std.proofs.lemmas.List.Sums.{sum_by-cons}
 use Rattle.shredding.specs.Shred.{Triple}
 use Rattle.pq_thrift.specs.declared.kind.Kind.TheVariants as kinds
 use Rattle.pq_thrift.specs.Grammar.{Spells}
-use Rattle.pq_container.specs.declared.version.Version.TheVariants.{V1}
+use Rattle.pq_tree.specs.declared.version.Version.TheVariants.{V1}
 use Rattle.pq_files.specs.FooterRecord.{FileMetaData}
 use Rattle.pq_files.specs.Layout.{OutPage, OutGroup}
 use Rattle.pq_files.specs.Page.{rows_in}

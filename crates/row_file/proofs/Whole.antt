@@ -9,10 +9,10 @@ use Rattle.shredding.specs.Shred.{Triple}
 use Rattle.pq_numbers.specs.Texts.{number_of}
 use Rattle.pq_thrift.specs.Written.{IsWritten}
 use Rattle.pq_thrift.specs.Value.{struct, no_fields, field as field_of}
-use Rattle.pq_container.specs.declared.version.Version.TheVariants.{V1}
-use Rattle.pq_container.specs.Elements.{RawElement}
-use Rattle.pq_container.specs.Footer.{SpellsTree}
-use Rattle.pq_container.specs.Frame.{magic}
+use Rattle.pq_tree.specs.declared.version.Version.TheVariants.{V1}
+use Rattle.pq_metadata.specs.Elements.{RawElement}
+use Rattle.pq_metadata.specs.Footer.{SpellsTree}
+use Rattle.pq_metadata.specs.Frame.{magic}
 use Rattle.pq_files.specs.FooterRecord.{FileMetaData}
 use Rattle.pq_files.specs.Layout.{OutPage, OutChunk}
 use Rattle.pq_files.specs.Packed.{IsWrittenPage, IsWrittenChunk, IsWrittenFile, IsKeyText, triples_out}

@@ -1,6 +1,4 @@
-pub mod Causes
-pub mod Ends
 pub mod FooterFields
 pub mod ListColumn
-pub mod Memory
-pub mod Plain
+pub use Rattle.pq_io.specs.Causes
+pub use Rattle.pq_io.specs.Ends

@@ -1,9 +1,9 @@
 -- A file of one list column of optional numbers (Parquet format, LogicalTypes, "Lists").
 use Rattle.std.specs.Prelude.{ℕ, List, [], ◌∷◌, Some, None}
 use Rattle.shredding.specs.Shred.{Triple}
-use Rattle.pq_container.specs.Physical.{int32}
-use Rattle.pq_container.specs.Tree.{Schema, Leaf, Element}
-use Rattle.pq_container.specs.Types.{optional, repeated, Converted, Logical, Info}
+use Rattle.pq_tree.specs.Physical.{int32}
+use Rattle.pq_tree.specs.Tree.{Schema, Leaf, Element}
+use Rattle.pq_tree.specs.Types.{optional, repeated, Converted, Logical, Info}
 use Rattle.pq_files.specs.Layout.{OutChunk, OutGroup}
 use Rattle.pq_files.specs.ListColumn.{node, root_name, list_name, tree_of, groups_out as groups_of}
 use Rattle.pq_files.specs.Page.{rows_in}

@@ -1,7 +1,7 @@
 //! A file of one list column.
 
 ghost use Rattle.std.specs.Prelude.{◌≡◌, ◌*◌, ◌<◌, ◌≤◌, ◌^◌, [], length, count_by, nat_eq, IfOk, IfErr};
-ghost use Rattle.pq_container.specs.declared.version.Version.TheVariants.{V1};
+ghost use Rattle.pq_tree.specs.declared.version.Version.TheVariants.{V1};
 ghost use Rattle.pq_files.specs.Packed.{Packed};
 ghost use Rattle.pq_files.specs.Room.{room};
 ghost use Rattle.page_write.specs.Appended.{numbers};

@@ -1,7 +1,7 @@
 -- Equal beginnings.
 use Rattle.std.proofs.Common.{◌≡◌, Bool, true, false, ◌&&◌, Option, Some, None, refl, sym, ap, ◌∙◌, true≢false}
 use Rattle.std.specs.Prelude.{if◌then◌else◌}
-use Rattle.pq_container.specs.Types.{Repetition, required, optional, repeated}
+use Rattle.pq_tree.specs.Types.{Repetition, required, optional, repeated}
 use Rattle.schema_fit.specs.Skeleton.{Bone, Bones, no_bones, bone, one, under_optional, under_repeated, and_then, under, same_bone, same_bones}
 use Rattle.schema_fit.specs.Walk.{has_bones, behind, Eats}
 

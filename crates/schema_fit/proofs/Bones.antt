@@ -2,8 +2,8 @@
 use Rattle.std.proofs.Common.{◌≡◌, ℕ, Bool, ◌||◌, refl, ap, ◌∙◌}
 use Rattle.columns_core.specs.Meta.{Meta}
 use Rattle.columns_core.specs.Tree.{TypeTree, FieldTree, field, FieldTrees, more_fields}
-use Rattle.pq_container.specs.Tree.{Tree, leaf, group, Trees, tree}
-use Rattle.pq_container.specs.Types.{Repetition, required, optional, repeated}
+use Rattle.pq_tree.specs.Tree.{Tree, leaf, group, Trees, tree}
+use Rattle.pq_tree.specs.Types.{Repetition, required, optional, repeated}
 use Rattle.std.specs.Prelude.{List}
 use Rattle.schema_fit.specs.Places.{repetition_at}
 use Rattle.schema_fit.specs.Skeleton.{Bone, Bones, no_bones, bone, and_then, under, repetition_of, tree_bones, trees_bones, type_bones, field_bones, fields_bones}

@@ -8,7 +8,7 @@ use Rattle.columns_core.specs.View.{type_view, field_view, fields_view, type_ste
 use Rattle.columns_core.specs.declared.types.DataType.{the_lemmas}
 use Rattle.columns_core.specs.declared.types.DataType.TheVariants as D
 use Rattle.columns_core.specs.declared.types.Field.{Field, out-Field, fold_out-Field}
-use Rattle.pq_container.specs.Types.{required, optional}
+use Rattle.pq_tree.specs.Types.{required, optional}
 use Rattle.schema_fit.specs.declared.place.Found.{Found}
 use Rattle.schema_fit.specs.Places.{found_bone, Steps}
 use Rattle.schema_fit.specs.Skeleton.{Bone, Bones, bone, and_then, under, repetition_of, StoredLeaf, type_bones, field_bones, fields_bones, same_bones}

@@ -1,9 +1,9 @@
 -- What is left behind a place.
 use Rattle.std.proofs.Common.{◌≡◌, ℕ, zero, suc, ◌≤◌, ◌<◌, ◌+◌, List, [], ◌∷◌, length, get_or, drop, replicate, refl, sym, ap, ◌∙◌, arith}
-use Rattle.pq_container.specs.declared.types.ParquetType.{ParquetType}
-use Rattle.pq_container.specs.Tree.{Tree, leaf, group, Trees, no_trees, tree, nesting, nesting_of}
-use Rattle.pq_container.specs.TreeViews.{tree_view, trees_view}
-use Rattle.pq_container.specs.Types.{Repetition, required, optional, repeated}
+use Rattle.pq_tree.specs.declared.types.ParquetType.{ParquetType}
+use Rattle.pq_tree.specs.Tree.{Tree, leaf, group, Trees, no_trees, tree, nesting, nesting_of}
+use Rattle.pq_tree.specs.TreeViews.{tree_view, trees_view}
+use Rattle.pq_tree.specs.Types.{Repetition, required, optional, repeated}
 use Rattle.schema_fit.specs.Skeleton.{Bone, Bones, no_bones, bone, and_then, under, StoredLeaf, tree_bones, trees_bones}
 use Rattle.schema_fit.specs.Walk.{inner_bones, leaf_bones, next_at, beneath, once, rest_under, rest_of, rest_in, rest_inside}
 

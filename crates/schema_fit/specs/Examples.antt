@@ -4,11 +4,11 @@ use Rattle.columns_core.specs.declared.types.TimeUnit.TheVariants.{Second, Micro
 use Rattle.columns_core.specs.declared.types.IntegerType.TheVariants.{Int8}
 use Rattle.columns_core.specs.Tree.{TypeTree, t_null, t_int32, t_uint32, t_uint64, t_float64, t_timestamp, t_time32, t_utf8, t_fixed_size_binary, t_list, t_struct, t_dictionary, t_decimal, t_extension, FieldTree, field}
 use Rattle.columns_core.specs.View.{fields_of}
-use Rattle.pq_container.specs.Physical.{Physical, int32, int64, double, byte_array, fixed}
-use Rattle.pq_container.specs.Tree.{Tree, leaf, group}
-use Rattle.pq_container.specs.TreeViews.{trees_of}
-use Rattle.pq_container.specs.Types.{Info, Repetition, required, optional, repeated, Logical, Converted}
-use Rattle.pq_container.specs.Types.TimeUnit.{millis, micros}
+use Rattle.pq_tree.specs.Physical.{Physical, int32, int64, double, byte_array, fixed}
+use Rattle.pq_tree.specs.Tree.{Tree, leaf, group}
+use Rattle.pq_tree.specs.TreeViews.{trees_of}
+use Rattle.pq_tree.specs.Types.{Info, Repetition, required, optional, repeated, Logical, Converted}
+use Rattle.pq_tree.specs.Types.TimeUnit.{millis, micros}
 use Rattle.schema_fit.specs.Fits.{agrees_with, fits_to}
 use Rattle.schema_fit.specs.RowExamples.{IsPageTable}
 

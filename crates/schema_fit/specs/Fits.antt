@@ -2,7 +2,7 @@
 use Rattle.std.specs.Prelude.{Bool}
 use Rattle.columns_core.specs.Shapes.{base}
 use Rattle.columns_core.specs.Tree.{TypeTree, t_list, t_large_list, t_struct, t_map, FieldTree, field}
-use Rattle.pq_container.specs.Tree.{Tree}
+use Rattle.pq_tree.specs.Tree.{Tree}
 use Rattle.schema_fit.specs.declared.page_table.Asked.{Asked}
 use Rattle.schema_fit.specs.declared.page_table.Asked.TheVariants as A
 use Rattle.schema_fit.specs.PageTable.{go_together}

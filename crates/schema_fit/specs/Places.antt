@@ -1,10 +1,10 @@
 -- What is found at a place in a tree.
 use Rattle.std.specs.Prelude.{◌≡◌, ℕ, Option, MatchOption}
-use Rattle.pq_container.specs.declared.types.PrimitiveType.{PrimitiveType}
-use Rattle.pq_container.specs.Tree.{Tree, leaf, group, nesting}
-use Rattle.pq_container.specs.Types.{Repetition}
-use Rattle.pq_container.specs.TreeViews.{tree_view, info_view}
-use Rattle.pq_container.specs.Views.{physical_view}
+use Rattle.pq_tree.specs.declared.types.PrimitiveType.{PrimitiveType}
+use Rattle.pq_tree.specs.Tree.{Tree, leaf, group, nesting}
+use Rattle.pq_tree.specs.Types.{Repetition}
+use Rattle.pq_tree.specs.TreeViews.{tree_view, info_view}
+use Rattle.pq_tree.specs.Views.{physical_view}
 use Rattle.schema_fit.specs.declared.place.Found.{Found}
 use Rattle.schema_fit.specs.declared.place.Found.TheVariants.{Leaf, Optional, Repeated}
 use Rattle.schema_fit.specs.Skeleton.{Bone, Bones, no_bones, bone, one, under_optional, under_repeated, StoredLeaf}

@@ -4,8 +4,8 @@ use Rattle.columns_core.specs.declared.types.TimeUnit.TheVariants.{Second, Milli
 use Rattle.columns_core.specs.declared.types.IntervalUnit.TheVariants.{YearMonth, DayTime, MonthDayNano}
 use Rattle.columns_core.specs.declared.types.IntegerType.TheVariants.{Int8}
 use Rattle.columns_core.specs.Tree.{TypeTree, t_null, t_boolean, t_int8, t_int16, t_int32, t_int64, t_uint8, t_uint16, t_uint32, t_uint64, t_float16, t_float32, t_float64, t_timestamp, t_date32, t_date64, t_time32, t_time64, t_duration, t_interval, t_binary, t_fixed_size_binary, t_large_binary, t_utf8, t_large_utf8, t_struct, no_fields, t_dictionary, t_decimal, t_decimal256}
-use Rattle.pq_container.specs.Physical.{Physical, boolean, int32, int64, int96, float, double, byte_array, fixed}
-use Rattle.pq_container.specs.Types.{optional}
+use Rattle.pq_tree.specs.Physical.{Physical, boolean, int32, int64, int96, float, double, byte_array, fixed}
+use Rattle.pq_tree.specs.Types.{optional}
 use Rattle.schema_fit.specs.declared.page_table.Asked.{Asked}
 use Rattle.schema_fit.specs.declared.page_table.Asked.TheVariants as A
 use Rattle.schema_fit.specs.PageTable.{go_together}

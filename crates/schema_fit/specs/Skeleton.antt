@@ -1,9 +1,9 @@
 -- What a field and a tree have in common where they fit: which nodes may be missing, which may stand any number of times, and where the leaves are (Dremel paper, "Nested columnar storage").
 use Rattle.std.specs.Prelude.{Bool, true, false, ◌&&◌}
 use Rattle.columns_core.specs.Tree.{TypeTree, t_list, t_large_list, t_struct, t_map, t_extension, FieldTree, field, FieldTrees, no_fields, more_fields}
-use Rattle.pq_container.specs.Physical.{Physical}
-use Rattle.pq_container.specs.Tree.{Tree, leaf, group, Trees, no_trees, tree}
-use Rattle.pq_container.specs.Types.{Info, Repetition, required, optional, repeated}
+use Rattle.pq_tree.specs.Physical.{Physical}
+use Rattle.pq_tree.specs.Tree.{Tree, leaf, group, Trees, no_trees, tree}
+use Rattle.pq_tree.specs.Types.{Info, Repetition, required, optional, repeated}
 
 -- a list of trees: leaves, and what stands under an optional or under a repeated node
 mutual

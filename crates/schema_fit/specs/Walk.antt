@@ -1,8 +1,8 @@
 -- How field and tree are walked side by side: what is left of a tree behind a place, and what is left once leaves were found equal.
 use Rattle.std.specs.Prelude.{◌≡◌, ℕ, zero, suc, Bool, true, false, Option, Some, None, List, [], ◌∷◌, MatchBool, if◌then◌else◌}
 use Rattle.columns_core.specs.Tree.{TypeTree}
-use Rattle.pq_container.specs.Tree.{Tree, leaf, group, Trees, no_trees, tree}
-use Rattle.pq_container.specs.Types.{Repetition, required, optional, repeated}
+use Rattle.pq_tree.specs.Tree.{Tree, leaf, group, Trees, no_trees, tree}
+use Rattle.pq_tree.specs.Types.{Repetition, required, optional, repeated}
 use Rattle.schema_fit.specs.Skeleton.{Bone, Bones, no_bones, bone, one, and_then, under, StoredLeaf, ArrowLeaf, trees_bones, same_bone}
 
 abbrev pub has_bones : {A : Type 0} → Bones A → Bool

@@ -2,14 +2,14 @@
 ghost use Rattle.std.specs.Prelude.{◌≡◌, ◌≤◌};
 ghost use Rattle.columns_core.specs.Measures.{field_nesting};
 ghost use Rattle.columns_core.specs.View.{type_view, field_view};
-ghost use Rattle.pq_container.specs.Tree.{nesting};
-ghost use Rattle.pq_container.specs.TreeViews.{tree_view};
+ghost use Rattle.pq_tree.specs.Tree.{nesting};
+ghost use Rattle.pq_tree.specs.TreeViews.{tree_view};
 ghost use Rattle.schema_fit.specs.Fits.{asked_of, agrees_with, fits_to};
 
 use crate::page_table::Asked;
 use crate::walk::is_same;
 use columns_core::{DataType, Field};
-use pq_container::ParquetType;
+use pq_tree::ParquetType;
 
 /// What is asked of the leaves of a column of the type: it is flat where the type is that of a leaf.
 fn asked_for(data_type: &DataType) -> Asked

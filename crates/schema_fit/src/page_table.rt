@@ -1,13 +1,13 @@
 //! How the values of an Arrow type are stored.
 ghost use Rattle.std.specs.Prelude.{◌≡◌, option_map};
 ghost use Rattle.columns_core.specs.View.{type_view};
-ghost use Rattle.pq_container.specs.Views.{physical_view, unit_view, logical_view, converted_view};
+ghost use Rattle.pq_tree.specs.Views.{physical_view, unit_view, logical_view, converted_view};
 ghost use Rattle.schema_fit.specs.PageTable.{allows, anywhere, only_flat, is_stored_length, value_row, entry_row, row_of, unit_of, annotated_unit, value_unit, type_unit, is_same, no_other_unit, is_allowed, go_together};
 ghost use Rattle.schema_fit.specs.Places.{leaf_view};
 
 use columns_base::PhysicalType;
 use columns_core::{DataType, IntervalUnit, TimeUnit};
-use pq_container::{ConvertedType, LogicalType, PrimitiveType, TimeUnit as ParquetTimeUnit};
+use pq_tree::{ConvertedType, LogicalType, PrimitiveType, TimeUnit as ParquetTimeUnit};
 
 /// The physical types in which values may be stored (Parquet format, `Type`).
 #[derive(Clone, Copy, Debug, PartialEq, Eq)]

@@ -1,14 +1,14 @@
 //! A walk over those parts of a tree that are left once required nodes are spliced out. It takes no memory: a place
 //! has a number for each level, which counts the children that were passed, or says of a node whether it was given.
 ghost use Rattle.std.specs.Prelude.{◌≡◌, ◌≤◌, ◌<◌, ◌+◌, ◌-◌, ◌^◌, length, replicate, IfSome};
-ghost use Rattle.pq_container.specs.Tree.{nesting, nesting_of};
-ghost use Rattle.pq_container.specs.TreeViews.{tree_view, trees_view};
-ghost use Rattle.pq_container.specs.Views.{repetition_view};
+ghost use Rattle.pq_tree.specs.Tree.{nesting, nesting_of};
+ghost use Rattle.pq_tree.specs.TreeViews.{tree_view, trees_view};
+ghost use Rattle.pq_tree.specs.Views.{repetition_view};
 ghost use Rattle.schema_fit.specs.Places.{found_bone, found_nesting, repetition_at, Steps};
 ghost use Rattle.schema_fit.specs.Skeleton.{trees_bones, bone, no_bones};
 ghost use Rattle.schema_fit.specs.Walk.{has_bones, inner_bones, next_at, beneath, once, rest_of, rest_in, rest_inside, rest_from};
 
-use pq_container::{ParquetType, PrimitiveType, Repetition};
+use pq_tree::{ParquetType, PrimitiveType, Repetition};
 
 /// A part of a tree without its required nodes.
 #[derive(Clone, Copy)]

@@ -1,9 +1,9 @@
 //! Field and tree side by side.
 ghost use Rattle.std.specs.Prelude.{◌≡◌, ◌≤◌, Bool, length};
 ghost use Rattle.columns_core.specs.View.{type_view, field_view, fields_view};
-ghost use Rattle.pq_container.specs.Tree.{nesting};
-ghost use Rattle.pq_container.specs.TreeViews.{tree_view};
-ghost use Rattle.pq_container.specs.Types.{repeated};
+ghost use Rattle.pq_tree.specs.Tree.{nesting};
+ghost use Rattle.pq_tree.specs.TreeViews.{tree_view};
+ghost use Rattle.pq_tree.specs.Types.{repeated};
 ghost use Rattle.schema_fit.specs.Fits.{compared};
 ghost use Rattle.schema_fit.specs.PageTable.{go_together};
 ghost use Rattle.schema_fit.specs.Skeleton.{type_bones, field_bones, fields_bones, same_bones, under};
@@ -12,7 +12,7 @@ ghost use Rattle.schema_fit.specs.Walk.{has_bones, inner_bones, rest_from, leaf_
 use crate::page_table::{Asked, goes_together};
 use crate::place::{Found, Source, next};
 use columns_core::{DataType, Field};
-use pq_container::ParquetType;
+use pq_tree::ParquetType;
 
 /// The greatest nesting of a tree.
 const MAX_NESTING: usize = 128;

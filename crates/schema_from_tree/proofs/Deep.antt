@@ -5,11 +5,11 @@ use Rattle.std.specs.Option.{option_or, option_and_then}
 use Rattle.columns_core.specs.Measures.{nesting, fields_nesting}
 use Rattle.columns_core.specs.Tree.{TypeTree, t_list, t_map, t_struct, FieldTree, field}
 use Rattle.columns_core.specs.View.{fields_of}
-use Rattle.pq_container.specs.Physical.{Physical, boolean, int32, int64, int96, float, double, byte_array, fixed}
-use Rattle.pq_container.specs.Tree as T
-use Rattle.pq_container.specs.Tree.{Tree, leaf, group, Trees, no_trees, tree, repeats}
-use Rattle.pq_container.specs.Types.{Info, TimeUnit, Repetition, required, optional, repeated, Logical, Converted}
-use Rattle.pq_container.specs.Types.TimeUnit.{millis, micros, nanos}
+use Rattle.pq_tree.specs.Physical.{Physical, boolean, int32, int64, int96, float, double, byte_array, fixed}
+use Rattle.pq_tree.specs.Tree as T
+use Rattle.pq_tree.specs.Tree.{Tree, leaf, group, Trees, no_trees, tree, repeats}
+use Rattle.pq_tree.specs.Types.{Info, TimeUnit, Repetition, required, optional, repeated, Logical, Converted}
+use Rattle.pq_tree.specs.Types.TimeUnit.{millis, micros, nanos}
 use Rattle.schema_from_tree.specs.declared.groups.Rule.{Rule}
 use Rattle.schema_from_tree.specs.declared.groups.Rule.TheVariants.{ByList, ByMap, ByStruct}
 use Rattle.schema_from_tree.specs.Depth.{depth, depth_of, NestAsTrees}

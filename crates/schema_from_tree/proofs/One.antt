@@ -2,14 +2,14 @@
 use Rattle.std.proofs.Common.{◌≡◌, ℕ, ◌≤◌, false, List, [], ◌∷◌, length, refl, sym, ◌∙◌, ap, arith, rules, Option}
 use Rattle.std.specs.Prelude.{Vec, codes, bytes_eq, ◌&&◌, not, if◌then◌else◌}
 use Rattle.std.specs.Global.{Global}
-use Rattle.pq_container.specs.declared.types.ConvertedType.{ConvertedType}
-use Rattle.pq_container.specs.declared.types.LogicalType.{LogicalType}
-use Rattle.pq_container.specs.declared.types.FieldInfo.{FieldInfo}
-use Rattle.pq_container.specs.declared.types.ParquetType.{ParquetType, the_lemmas}
-use Rattle.pq_container.specs.declared.types.ParquetType.TheVariants.{GroupType}
-use Rattle.pq_container.specs.Tree.{Trees, tree, group}
-use Rattle.pq_container.specs.Types.{Info}
-use Rattle.pq_container.specs.TreeViews.{tree_view, trees_view, info_view}
+use Rattle.pq_tree.specs.declared.types.ConvertedType.{ConvertedType}
+use Rattle.pq_tree.specs.declared.types.LogicalType.{LogicalType}
+use Rattle.pq_tree.specs.declared.types.FieldInfo.{FieldInfo}
+use Rattle.pq_tree.specs.declared.types.ParquetType.{ParquetType, the_lemmas}
+use Rattle.pq_tree.specs.declared.types.ParquetType.TheVariants.{GroupType}
+use Rattle.pq_tree.specs.Tree.{Trees, tree, group}
+use Rattle.pq_tree.specs.Types.{Info}
+use Rattle.pq_tree.specs.TreeViews.{tree_view, trees_view, info_view}
 use Rattle.schema_from_tree.specs.FromTree.{has_one, names_an_item, first_info, item_info, item_of, first_of, struct_with, arrow_fields}
 
 has_more : (fs : List ParquetType) → 2 ≤ length fs → has_one (trees_view fs) ≡ false

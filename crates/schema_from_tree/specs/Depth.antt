@@ -2,8 +2,8 @@
 use Rattle.std.specs.Prelude.{◌≡◌, ◌≤◌, ℕ, ◌+◌, ◌*◌, max, IfSome}
 use Rattle.columns_core.specs.Measures.{nesting, fields_nesting}
 use Rattle.columns_core.specs.View.{fields_of}
-use Rattle.pq_container.specs.Tree as T
-use Rattle.pq_container.specs.Tree.{Tree, leaf, group, Trees, no_trees, tree, repeats}
+use Rattle.pq_tree.specs.Tree as T
+use Rattle.pq_tree.specs.Tree.{Tree, leaf, group, Trees, no_trees, tree, repeats}
 use Rattle.schema_from_tree.specs.FromTree.{type_of, arrow_fields}
 
 -- The nodes on the deepest way, of which a repeated one counts twice: it stands for a list, and for what is in the list.

@@ -5,11 +5,11 @@ use Rattle.columns_core.specs.declared.types.IntervalUnit.TheVariants.{DayTime}
 use Rattle.columns_core.specs.Tree.{TypeTree, t_int8, t_int32, t_int64, t_uint32, t_uint64, t_timestamp, t_date32, t_time32, t_time64, t_interval, t_binary, t_fixed_size_binary, t_utf8, t_decimal, t_list, t_map, t_struct, FieldTree, field}
 use Rattle.columns_core.specs.Measures.{nesting}
 use Rattle.columns_core.specs.View.{fields_of}
-use Rattle.pq_container.specs.Physical.{Physical, int32, int64, int96, byte_array, fixed}
-use Rattle.pq_container.specs.Tree.{Tree, leaf, group, no_trees, tree}
-use Rattle.pq_container.specs.TreeViews.{trees_of}
-use Rattle.pq_container.specs.Types.{Info, Repetition, required, optional, repeated, Logical, Converted}
-use Rattle.pq_container.specs.Types.TimeUnit.{millis, micros, nanos}
+use Rattle.pq_tree.specs.Physical.{Physical, int32, int64, int96, byte_array, fixed}
+use Rattle.pq_tree.specs.Tree.{Tree, leaf, group, no_trees, tree}
+use Rattle.pq_tree.specs.TreeViews.{trees_of}
+use Rattle.pq_tree.specs.Types.{Info, Repetition, required, optional, repeated, Logical, Converted}
+use Rattle.pq_tree.specs.Types.TimeUnit.{millis, micros, nanos}
 use Rattle.schema_from_tree.specs.Depth.{depth}
 use Rattle.schema_from_tree.specs.Leaves.{leaf_type}
 use Rattle.schema_from_tree.specs.FromTree.{type_of, arrow_fields}

@@ -2,8 +2,8 @@
 use Rattle.std.specs.Prelude.{ℕ, List, [], ◌∷◌, ◌++◌, Bool, true, false, Option, Some, None, option_map, codes, bytes_eq, ◌&&◌, ◌||◌, not, if◌then◌else◌}
 use Rattle.columns_core.specs.Tree.{TypeTree, t_list, t_map, t_struct, FieldTree, field}
 use Rattle.columns_core.specs.View.{fields_of}
-use Rattle.pq_container.specs.Tree.{Tree, leaf, group, Trees, no_trees, tree}
-use Rattle.pq_container.specs.Types.{Info, Repetition, required, optional, repeated, Logical, Converted}
+use Rattle.pq_tree.specs.Tree.{Tree, leaf, group, Trees, no_trees, tree}
+use Rattle.pq_tree.specs.Types.{Info, Repetition, required, optional, repeated, Logical, Converted}
 use Rattle.schema_from_tree.specs.declared.groups.Rule.{Rule}
 use Rattle.schema_from_tree.specs.declared.groups.Rule.TheVariants.{ByList, ByMap, ByStruct}
 use Rattle.schema_from_tree.specs.Leaves.{leaf_type}

@@ -5,9 +5,9 @@ use Rattle.columns_core.specs.declared.types.TimeUnit.{TimeUnit as Unit}
 use Rattle.columns_core.specs.declared.types.TimeUnit.TheVariants.{Millisecond, Microsecond, Nanosecond}
 use Rattle.columns_core.specs.declared.types.IntervalUnit.TheVariants.{DayTime}
 use Rattle.columns_core.specs.Tree.{TypeTree, t_boolean, t_int8, t_int16, t_int32, t_int64, t_uint8, t_uint16, t_uint32, t_uint64, t_float32, t_float64, t_timestamp, t_date32, t_time32, t_time64, t_interval, t_binary, t_fixed_size_binary, t_utf8, t_decimal}
-use Rattle.pq_container.specs.Physical.{Physical, boolean, int32, int64, int96, float, double, byte_array, fixed}
-use Rattle.pq_container.specs.Types.{Info, TimeUnit, Logical, Converted}
-use Rattle.pq_container.specs.Types.TimeUnit.{millis, micros, nanos}
+use Rattle.pq_tree.specs.Physical.{Physical, boolean, int32, int64, int96, float, double, byte_array, fixed}
+use Rattle.pq_tree.specs.Types.{Info, TimeUnit, Logical, Converted}
+use Rattle.pq_tree.specs.Types.TimeUnit.{millis, micros, nanos}
 
 -- ---- INT32
 

@@ -1,9 +1,9 @@
 //! By which rule a group goes.
 ghost use Rattle.std.specs.Prelude.{◌≡◌, option_map};
-ghost use Rattle.pq_container.specs.Views.{logical_view, converted_view};
+ghost use Rattle.pq_tree.specs.Views.{logical_view, converted_view};
 ghost use Rattle.schema_from_tree.specs.FromTree.{rule_of};
 
-use pq_container::{ConvertedType, LogicalType};
+use pq_tree::{ConvertedType, LogicalType};
 
 /// The rules of groups that are not repeated (Parquet format, LogicalTypes, "Nested Types").
 #[derive(Clone, Copy, Debug, PartialEq, Eq)]

@@ -1,14 +1,14 @@
 //! What a node says of itself.
 ghost use Rattle.std.specs.Prelude.{◌≡◌, string_bytes};
 ghost use Rattle.columns_core.specs.View.{type_view, field_view};
-ghost use Rattle.pq_container.specs.TreeViews.{tree_view};
-ghost use Rattle.pq_container.specs.Views.{repetition_view};
+ghost use Rattle.pq_tree.specs.TreeViews.{tree_view};
+ghost use Rattle.pq_tree.specs.Views.{repetition_view};
 ghost use Rattle.schema_from_tree.specs.Answers.{Gives};
 ghost use Rattle.schema_from_tree.specs.FromTree.{is_nullable_of, info_of, item_info, names_an_item, field_named};
 
 use columns_base::Result;
 use columns_core::{DataType, Field, Metadata};
-use pq_container::{FieldInfo, ParquetType, Repetition};
+use pq_tree::{FieldInfo, ParquetType, Repetition};
 use std::alloc::Global;
 
 /// Whether a node may be missing under its parent: it is optional or repeated (Parquet format, `FieldRepetitionType`).

@@ -2,14 +2,14 @@
 ghost use Rattle.std.specs.Prelude.{◌≡◌, option_map, string_bytes};
 ghost use Rattle.std.specs.Option.{option_and_then};
 ghost use Rattle.columns_core.specs.View.{type_view};
-ghost use Rattle.pq_container.specs.Views.{unit_view, physical_view, logical_view, converted_view};
-ghost use Rattle.pq_container.specs.TreeViews.{info_view};
+ghost use Rattle.pq_tree.specs.Views.{unit_view, physical_view, logical_view, converted_view};
+ghost use Rattle.pq_tree.specs.TreeViews.{info_view};
 ghost use Rattle.schema_from_tree.specs.Answers.{Gives};
 ghost use Rattle.schema_from_tree.specs.Leaves.{leaf_type, logical_32, converted_32, logical_64, converted_64, logical_bytes, converted_bytes, fixed_of, unit_of, zone_of};
 
 use columns_base::{PhysicalType, Result};
 use columns_core::{DataType, IntervalUnit, TimeUnit};
-use pq_container::{
+use pq_tree::{
     ConvertedType, IntegerType, LogicalType, PrimitiveType, TimeUnit as ParquetTimeUnit,
 };
 use std::alloc::Global;

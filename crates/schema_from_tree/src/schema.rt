@@ -3,9 +3,9 @@ ghost use Rattle.std.specs.Prelude.{◌≡◌, ◌≤◌, IfOk, IfErr, map, opti
 ghost use Rattle.columns_base.specs.declared.error.Error.TheVariants.{Memory};
 ghost use Rattle.columns_core.specs.View.{type_view, field_view};
 ghost use Rattle.columns_core.specs.Tree.{t_list};
-ghost use Rattle.pq_container.specs.Tree.{nesting, nesting_of};
-ghost use Rattle.pq_container.specs.TreeViews.{tree_view, trees_view};
-ghost use Rattle.pq_container.specs.Views.{repetition_view};
+ghost use Rattle.pq_tree.specs.Tree.{nesting, nesting_of};
+ghost use Rattle.pq_tree.specs.TreeViews.{tree_view, trees_view};
+ghost use Rattle.pq_tree.specs.Views.{repetition_view};
 ghost use Rattle.schema_from_tree.specs.Answers.{Gives};
 ghost use Rattle.schema_from_tree.specs.FromTree.{field_as, field_named, info_of, type_of, list_of, item_of, map_of, struct_with, arrow_fields};
 
@@ -14,7 +14,7 @@ use crate::info::{field_as_node, info_of_item, info_of_node, is_item_name};
 use crate::leaves::type_of_leaf;
 use columns_base::Result;
 use columns_core::{DataType, Field};
-use pq_container::{FieldInfo, ParquetType, Repetition};
+use pq_tree::{FieldInfo, ParquetType, Repetition};
 use std::alloc::Global;
 
 /// The Arrow fields of the nodes, in order, without those of groups that hold no column (Parquet format, LogicalTypes).

@@ -9,7 +9,7 @@ use Rattle.std.specs.declared.cmp.Ordering.TheVariants.{Less, Equal, Greater}
 use Rattle.columns_core.specs.Meta.{Meta, text_at, with_text}
 use Rattle.columns_core.specs.Measures.{fields_nesting}
 use Rattle.columns_core.specs.View.{SchemaTree}
-use Rattle.pq_container.specs.Footer.{Key}
+use Rattle.pq_tree.specs.Footers.{Key}
 use Rattle.schema_codec.specs.Ranges.{IsSchema, max_nesting, max_length}
 use Rattle.schema_key.specs.Inferred.{with_value, with_pairs, gathered}
 use Rattle.schema_key.specs.Key.{schema_key, message, value_of, schema_entry, unframed, schema_in}

@@ -6,7 +6,7 @@ use Rattle.std.specs.Ordering.{nat_cmp, match_ordering, is_eq}
 use Rattle.std.specs.declared.cmp.Ordering.{Ordering}
 use Rattle.std.specs.declared.cmp.Ordering.TheVariants.{Less, Equal, Greater}
 use Rattle.columns_core.specs.Meta.{Meta, text_at, with_text}
-use Rattle.pq_container.specs.Footer.{Key}
+use Rattle.pq_tree.specs.Footers.{Key}
 use Rattle.schema_key.specs.Inferred.{with_value, with_pairs}
 use Rattle.schema_key.specs.Laws.{is_same, last_text, or_earlier, TheLastCounts}
 use Rattle.schema_key.proofs.Again.{text_at-with_text}

@@ -2,7 +2,7 @@
 use Rattle.std.specs.Prelude.{◌≡◌, ℕ, List, [], ◌∷◌, Option, Some, None}
 use Rattle.columns_core.specs.Tree.{no_fields}
 use Rattle.columns_core.specs.View.{SchemaTree}
-use Rattle.pq_container.specs.Footer.{Key}
+use Rattle.pq_tree.specs.Footers.{Key}
 use Rattle.schema_key.specs.declared.infer.KeyRule.TheVariants.{Use, Ignore}
 use Rattle.schema_key.specs.Inferred.{gathered, counting, inferred}
 use Rattle.schema_key.specs.Key.{schema_key, message, unframed}

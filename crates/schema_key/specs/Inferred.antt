@@ -3,7 +3,7 @@ use Rattle.std.specs.Prelude.{ℕ, List, [], ◌∷◌, Option, Some, None}
 use Rattle.columns_core.specs.Meta.{Meta, text_at, with_text, without_key}
 use Rattle.columns_core.specs.Tree.{FieldTrees}
 use Rattle.columns_core.specs.View.{SchemaTree}
-use Rattle.pq_container.specs.Footer.{Key}
+use Rattle.pq_tree.specs.Footers.{Key}
 use Rattle.schema_key.specs.declared.infer.KeyRule.{KeyRule}
 use Rattle.schema_key.specs.declared.infer.KeyRule.TheVariants.{Use, Ignore}
 use Rattle.schema_key.specs.Key.{schema_key, schema_under}

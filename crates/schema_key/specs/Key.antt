@@ -6,9 +6,9 @@ use Rattle.std.specs.Global.{Global}
 use Rattle.base64.specs.Engines.{standard}
 use Rattle.base64.specs.GeneralPurpose.{encode_of, decode_of}
 use Rattle.columns_core.specs.View.{SchemaTree}
-use Rattle.pq_container.specs.Footer.{Key}
-use Rattle.pq_container.specs.Views.{key_view}
-use Rattle.pq_container.specs.declared.types.KeyValue.{KeyValue}
+use Rattle.pq_tree.specs.Footers.{Key}
+use Rattle.pq_tree.specs.Views.{key_view}
+use Rattle.pq_tree.specs.declared.types.KeyValue.{KeyValue}
 
 -- `ARROW:schema`
 abbrev pub schema_key : List ℕ

@@ -6,7 +6,7 @@ use Rattle.columns_core.specs.Meta.{text_at}
 use Rattle.columns_core.specs.Measures.{fields_nesting}
 use Rattle.columns_core.specs.Tree.{FieldTrees}
 use Rattle.columns_core.specs.View.{SchemaTree}
-use Rattle.pq_container.specs.Footer.{Key}
+use Rattle.pq_tree.specs.Footers.{Key}
 use Rattle.schema_codec.specs.Ranges.{IsSchema, max_nesting, max_length}
 use Rattle.schema_key.specs.declared.infer.KeyRule.TheVariants.{Use}
 use Rattle.schema_key.specs.Inferred.{gathered, inferred}

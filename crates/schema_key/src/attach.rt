@@ -4,7 +4,7 @@ ghost use Rattle.std.specs.Prelude.{◌≡◌, ◌≤◌, ◌<◌, ◌⊎◌, �
 ghost use Rattle.columns_base.specs.declared.error.Error.TheVariants.{Memory, Overflow};
 ghost use Rattle.columns_base.specs.declared.error.V.TheVariants.{V3};
 ghost use Rattle.columns_core.specs.View.{schema_view};
-ghost use Rattle.pq_container.specs.Views.{key_view};
+ghost use Rattle.pq_tree.specs.Views.{key_view};
 ghost use Rattle.schema_codec.specs.Ranges.{max_length};
 ghost use Rattle.schema_key.specs.Key.{message, value_of, schema_entry, keys_in};
 ghost use Rattle.schema_key.specs.Laws.{IsDecodable};
@@ -12,7 +12,7 @@ ghost use Rattle.schema_key.specs.Laws.{IsDecodable};
 use base64::engine::general_purpose::STANDARD;
 use columns_base::{Error, Result, V};
 use columns_core::Schema;
-use pq_container::KeyValue;
+use pq_tree::KeyValue;
 use schema_codec::{CodecFault, SchemaCodec};
 use std::alloc::Global;
 

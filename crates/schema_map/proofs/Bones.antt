@@ -1,7 +1,7 @@
 -- Skeletons under a node and one after another.
 use Rattle.std.proofs.Common.{◌≡◌, Bool, true, refl, sym, ap, subst, true≢false}
 use Rattle.std.proofs.lemmas.Bool.{and_parts, and_from}
-use Rattle.pq_container.specs.Types.{Repetition, required, optional, repeated}
+use Rattle.pq_tree.specs.Types.{Repetition, required, optional, repeated}
 use Rattle.schema_fit.specs.Skeleton.{Bone, Bones, no_bones, bone, one, under_optional, under_repeated, and_then, under, same_bone, same_bones}
 use Rattle.schema_map.specs.Rows.{all_bone, all_bones}
 

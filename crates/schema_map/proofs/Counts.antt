@@ -7,8 +7,8 @@ use Rattle.std.proofs.lemmas.Bool.{or_from}
 use Rattle.columns_core.specs.Measures as M
 use Rattle.columns_core.specs.Shapes.{base}
 use Rattle.columns_core.specs.Tree.{TypeTree, t_list, t_fixed_size_list, t_large_list, t_struct, t_union, t_map, t_dictionary, t_extension, FieldTree, field, FieldTrees, no_fields, more_fields}
-use Rattle.pq_container.specs.Tree as T
-use Rattle.pq_container.specs.Types.{Info}
+use Rattle.pq_tree.specs.Tree as T
+use Rattle.pq_tree.specs.Types.{Info}
 use Rattle.schema_fit.specs.PageTable.{entry_row}
 use Rattle.schema_map.specs.Counts.{IsInTable, LeavesAreCounted}
 use Rattle.schema_to_tree.specs.Conditions.{some_type, some_field, some_fields, is_unwritten}

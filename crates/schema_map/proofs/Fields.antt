@@ -4,8 +4,8 @@ use Rattle.std.proofs.lemmas.Bool.{and_parts}
 use Rattle.columns_core.specs.Tree.{TypeTree, t_list, t_large_list, t_struct, t_map, t_dictionary, t_extension, FieldTree, field, FieldTrees, no_fields, more_fields}
 use Rattle.columns_core.specs.Measures.{fields_nesting}
 use Rattle.columns_core.specs.Shapes.{base}
-use Rattle.pq_container.specs.Tree.{Tree, Schema, nesting, nesting_of}
-use Rattle.pq_container.specs.Types.{Info, optional, required, repeated}
+use Rattle.pq_tree.specs.Tree.{Tree, Schema, nesting, nesting_of}
+use Rattle.pq_tree.specs.Types.{Info, optional, required, repeated}
 use Rattle.schema_fit.specs.declared.page_table.Asked.{Asked}
 use Rattle.schema_fit.specs.declared.page_table.Asked.TheVariants as A
 use Rattle.schema_fit.specs.declared.page_table.Row.{Row}

@@ -6,8 +6,8 @@ use Rattle.columns_core.specs.declared.types.TimeUnit.TheVariants.{Second, Milli
 use Rattle.columns_core.specs.declared.types.IntervalUnit.TheVariants.{YearMonth, DayTime}
 use Rattle.columns_core.specs.Shapes.{base}
 use Rattle.columns_core.specs.Tree.{TypeTree, t_null, t_boolean, t_uint64, t_timestamp, t_time32, t_time64, t_interval, t_fixed_size_binary, t_list, t_fixed_size_list, t_large_list, t_struct, t_map, t_dictionary, t_decimal, t_extension}
-use Rattle.pq_container.specs.Physical.{Physical, int32, int64, fixed}
-use Rattle.pq_container.specs.Types.{Info}
+use Rattle.pq_tree.specs.Physical.{Physical, int32, int64, fixed}
+use Rattle.pq_tree.specs.Types.{Info}
 use Rattle.schema_fit.specs.declared.page_table.Stored.TheVariants as S
 use Rattle.schema_fit.specs.declared.page_table.Row.{Row}
 use Rattle.schema_fit.specs.declared.page_table.Asked.{Asked}

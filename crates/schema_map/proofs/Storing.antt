@@ -11,7 +11,7 @@ use Rattle.columns_core.specs.declared.types.TimeUnit.TheVariants.{Second, Milli
 use Rattle.columns_core.specs.declared.types.IntervalUnit.TheVariants.{YearMonth, DayTime, MonthDayNano}
 use Rattle.columns_core.specs.Shapes.{leaf_type, base}
 use Rattle.columns_core.specs.Tree.{TypeTree, t_null, t_boolean, t_int8, t_int16, t_int32, t_int64, t_uint8, t_uint16, t_uint32, t_uint64, t_timestamp, t_date32, t_date64, t_time32, t_time64, t_duration, t_interval, t_binary, t_fixed_size_binary, t_large_binary, t_utf8, t_large_utf8, t_dictionary, t_decimal, t_extension}
-use Rattle.pq_container.specs.Physical.{Physical, boolean, int32, int64, byte_array, fixed}
+use Rattle.pq_tree.specs.Physical.{Physical, boolean, int32, int64, byte_array, fixed}
 use Rattle.pq_files.specs.Stored.{IsStored, signed_big_endian}
 use Rattle.schema_fit.specs.declared.page_table.Row.{Row}
 use Rattle.schema_fit.specs.declared.page_table.Stored.TheVariants as S

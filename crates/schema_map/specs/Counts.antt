@@ -3,7 +3,7 @@ use Rattle.std.specs.Prelude.{◌≡◌, ◌≤◌, ◌-◌, ◌^◌, ℕ, true,
 use Rattle.columns_core.specs.Measures.{field_leaves}
 use Rattle.columns_core.specs.Shapes.{base}
 use Rattle.columns_core.specs.Tree.{TypeTree, FieldTree}
-use Rattle.pq_container.specs.Tree.{Tree, leaves}
+use Rattle.pq_tree.specs.Tree.{Tree, leaves}
 use Rattle.schema_fit.specs.PageTable.{row_of}
 use Rattle.schema_to_tree.specs.Conditions.{IsWritten}
 use Rattle.schema_to_tree.specs.Leaves.{field_leaf_types, field_meets, is_union}

@@ -2,7 +2,7 @@
 use Rattle.std.specs.Prelude.{◌≡◌, ◌≤◌, ◌↔◌, true}
 use Rattle.columns_core.specs.Measures.{field_nesting}
 use Rattle.columns_core.specs.Tree.{FieldTree, FieldTrees, no_fields, more_fields}
-use Rattle.pq_container.specs.Tree.{Tree, Trees, no_trees, tree, Schema, nesting}
+use Rattle.pq_tree.specs.Tree.{Tree, Trees, no_trees, tree, Schema, nesting}
 use Rattle.schema_fit.specs.Fits.{agrees_with, fits_to}
 use Rattle.schema_map.specs.Rows.{HasRows}
 use Rattle.schema_to_tree.specs.Conditions.{AreWritten, IsWritten}

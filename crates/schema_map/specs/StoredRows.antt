@@ -4,7 +4,7 @@ use Rattle.shredding.specs.Shape.{LeafType}
 use Rattle.shredding.specs.Slot.{Value}
 use Rattle.columns_core.specs.Shapes.{leaf_type}
 use Rattle.columns_core.specs.Tree.{TypeTree, t_null}
-use Rattle.pq_container.specs.Physical.{Physical}
+use Rattle.pq_tree.specs.Physical.{Physical}
 use Rattle.pq_files.specs.Stored.{IsStored}
 use Rattle.schema_fit.specs.declared.page_table.Row.{Row}
 use Rattle.schema_fit.specs.PageTable.{allows, row_of}

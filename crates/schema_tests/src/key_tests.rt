@@ -1,6 +1,6 @@
 //! The worked value both ways, and which pair counts.
 use columns_core::{DataType, Error, Field, Metadata, N, PhysicalType, Schema};
-use pq_container::{
+use pq_tree::{
     FieldInfo, FileMetaData, KeyValue, ParquetType, PrimitiveType, Repetition, SchemaDescriptor,
 };
 use schema_codec::PlainCodec;

@@ -4,7 +4,7 @@ ghost use Rattle.columns_core.specs.Measures.{field_nesting};
 ghost use Rattle.columns_core.specs.View.{field_view};
 
 use columns_core::{DataType, Field, Metadata, Schema};
-use pq_container::{FieldInfo, ParquetType, Repetition};
+use pq_tree::{FieldInfo, ParquetType, Repetition};
 use schema_fit::{agrees, fits};
 use schema_from_tree::{parquet_to_arrow_schema, to_data_type};
 use schema_to_tree::{n_columns, to_parquet_schema, to_parquet_type, transverse};

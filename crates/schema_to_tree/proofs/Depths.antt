@@ -1,8 +1,8 @@
 -- The depth that is told from a type is that of its tree.
 use Rattle.std.proofs.Common.{◌≡◌, ℕ, suc, ◌+◌, max, refl, arith}
 use Rattle.columns_core.specs.Tree.{TypeTree, t_list, t_fixed_size_list, t_large_list, t_struct, t_map, t_dictionary, t_extension, FieldTree, field, FieldTrees, no_fields, more_fields}
-use Rattle.pq_container.specs.Types.{Info}
-use Rattle.pq_container.specs.Tree.{nesting, nesting_of}
+use Rattle.pq_tree.specs.Types.{Info}
+use Rattle.pq_tree.specs.Tree.{nesting, nesting_of}
 use Rattle.schema_to_tree.specs.Depth.{tree_depth, field_tree_depth, fields_tree_depth}
 use Rattle.schema_to_tree.specs.Table.{type_tree, tree_of, trees_of}
 

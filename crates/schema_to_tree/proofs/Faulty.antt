@@ -10,7 +10,7 @@ use Rattle.columns_base.specs.declared.error.A.TheVariants.{A4, A5, A6}
 use Rattle.schema_to_tree.specs.Conditions.{is_empty_struct, is_decimal, is_bad_decimal, is_bad_time64, is_unwritten, some_type, some_field, some_fields, most, IsWritten, AreWritten, RefusesField, RefusesSchema}
 use Rattle.schema_to_tree.specs.Faults.{leaf_fault, fault, field_fault, fields_fault, first_of_two, unwritten, Gives}
 use Rattle.columns_core.specs.Measures.{field_nesting, fields_nesting}
-use Rattle.pq_container.specs.Tree.{nesting, schema_nesting}
+use Rattle.pq_tree.specs.Tree.{nesting, schema_nesting}
 use Rattle.schema_to_tree.specs.Table.{tree_of, schema_of}
 
 -- which types are looked through

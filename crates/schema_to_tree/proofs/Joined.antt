@@ -8,12 +8,12 @@ use Rattle.columns_core.specs.declared.types.DataType.{DataType, the_lemmas}
 use Rattle.columns_core.specs.declared.types.DataType as D
 use Rattle.columns_core.specs.declared.types.Field.{Field, fold_out-Field}
 use Rattle.columns_base.specs.declared.error.Error.{Error}
-use Rattle.pq_container.specs.Types.{Info}
+use Rattle.pq_tree.specs.Types.{Info}
 use Rattle.schema_to_tree.specs.Table.{list_over, map_over, type_tree, tree_of, trees_of, leaf_of, stored_as, is_compound}
 use Rattle.schema_to_tree.specs.Faults.{leaf_fault, fault, field_fault, fields_fault, first_of_two, Gives}
-use Rattle.pq_container.specs.Tree.{Trees, no_trees, tree}
-use Rattle.pq_container.specs.TreeViews.{tree_view, trees_view}
-use Rattle.pq_container.specs.declared.types.ParquetType.{ParquetType}
+use Rattle.pq_tree.specs.Tree.{Trees, no_trees, tree}
+use Rattle.pq_tree.specs.TreeViews.{tree_view, trees_view}
+use Rattle.pq_tree.specs.declared.types.ParquetType.{ParquetType}
 
 -- the trees made so far, and those still to come
 abbrev pub join : Trees → Trees → Trees

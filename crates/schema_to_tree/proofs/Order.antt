@@ -4,7 +4,7 @@ use Rattle.std.proofs.Math.Bool.{and-false}
 use Rattle.std.proofs.lemmas.Bool.{lt-leb, le-leb}
 use Rattle.columns_core.specs.Measures.{field_nesting, fields_nesting}
 use Rattle.columns_core.specs.Tree.{FieldTree, FieldTrees}
-use Rattle.pq_container.specs.Tree.{nesting, schema_nesting}
+use Rattle.pq_tree.specs.Tree.{nesting, schema_nesting}
 use Rattle.columns_base.specs.declared.error.Error.{Error}
 use Rattle.columns_base.specs.declared.error.Error.TheVariants.{NotYetImplemented, InvalidArgumentError}
 use Rattle.columns_base.specs.declared.error.N.TheVariants.{N7}

@@ -4,10 +4,10 @@ use Rattle.columns_core.specs.Tree.{FieldTrees}
 use Rattle.columns_base.specs.declared.error.Error.{Error}
 use Rattle.columns_base.specs.declared.error.Error.TheVariants.{Memory, NotYetImplemented}
 use Rattle.columns_base.specs.declared.error.N.TheVariants.{N7}
-use Rattle.pq_container.specs.Tree.{nesting_of}
-use Rattle.pq_container.specs.TreeViews.{trees_view, schema_view}
-use Rattle.pq_container.specs.declared.types.ParquetType.{ParquetType}
-use Rattle.pq_container.specs.declared.schema.SchemaDescriptor.{SchemaDescriptor}
+use Rattle.pq_tree.specs.Tree.{nesting_of}
+use Rattle.pq_tree.specs.TreeViews.{trees_view, schema_view}
+use Rattle.pq_tree.specs.declared.types.ParquetType.{ParquetType}
+use Rattle.pq_tree.specs.declared.schema.SchemaDescriptor.{SchemaDescriptor}
 use Rattle.schema_to_tree.specs.Table.{trees_of, schema_of}
 use Rattle.schema_to_tree.specs.Conditions.{is_bad_time64, some_fields, AreWritten, RefusesSchema}
 use Rattle.schema_to_tree.specs.Faults.{fields_fault}

@@ -7,7 +7,7 @@ use Rattle.columns_base.specs.declared.error.Error.{Error}
 use Rattle.columns_base.specs.declared.error.Error.TheVariants.{NotYetImplemented, InvalidArgumentError, Memory}
 use Rattle.columns_base.specs.declared.error.N.TheVariants.{N5, N7}
 use Rattle.columns_base.specs.declared.error.A.TheVariants.{A4, A5, A6}
-use Rattle.pq_container.specs.Tree.{nesting, schema_nesting}
+use Rattle.pq_tree.specs.Tree.{nesting, schema_nesting}
 use Rattle.schema_to_tree.specs.Table.{tree_of, schema_of}
 
 -- ---- types that are refused

@@ -2,8 +2,8 @@
 use Rattle.std.specs.Prelude.{Bool, true, false, leb}
 use Rattle.columns_core.specs.Tree.{TypeTree, t_null, t_int8, t_int16, t_int32, t_int64, t_uint8, t_uint16, t_uint32, t_uint64, t_timestamp, t_date32, t_date64, t_time32, t_time64, t_duration, t_binary, t_large_binary, t_utf8, t_large_utf8, t_dictionary, t_decimal}
 use Rattle.columns_core.specs.Shapes.{base}
-use Rattle.pq_container.specs.declared.types.Encoding.{Encoding}
-use Rattle.pq_container.specs.declared.types.Encoding.TheVariants.{Plain, PlainDictionary, RleDictionary, DeltaBinaryPacked, DeltaLengthByteArray}
+use Rattle.pq_tree.specs.declared.types.Encoding.{Encoding}
+use Rattle.pq_tree.specs.declared.types.Encoding.TheVariants.{Plain, PlainDictionary, RleDictionary, DeltaBinaryPacked, DeltaLengthByteArray}
 
 -- numbers that are stored as numbers of 32 or 64 bits
 abbrev pub is_delta : TypeTree → Bool

@@ -3,10 +3,10 @@ use Rattle.std.specs.Prelude.{◌≡◌, ℕ, List, [], ◌∷◌, codes, true, 
 use Rattle.columns_core.specs.Tree.{TypeTree, t_null, t_boolean, t_int8, t_int32, t_int64, t_uint64, t_timestamp, t_time32, t_time64, t_fixed_size_binary, t_large_utf8, t_utf8, t_list, t_struct, t_union, t_map, t_dictionary, t_decimal, t_extension, FieldTree, field, FieldTrees, no_fields, more_fields}
 use Rattle.columns_core.specs.declared.types.TimeUnit.TheVariants.{Second, Millisecond, Microsecond, Nanosecond}
 use Rattle.columns_core.specs.declared.types.IntegerType.TheVariants.{Int8}
-use Rattle.pq_container.specs.declared.types.Encoding.TheVariants.{Plain, Rle, RleDictionary, DeltaBinaryPacked, DeltaLengthByteArray}
-use Rattle.pq_container.specs.Physical.{int32, int64, byte_array, fixed}
-use Rattle.pq_container.specs.Types.{Repetition, required, optional, repeated, millis, micros, Converted, Logical, Info}
-use Rattle.pq_container.specs.Tree.{leaf, group, no_trees, tree, schema_nesting}
+use Rattle.pq_tree.specs.declared.types.Encoding.TheVariants.{Plain, Rle, RleDictionary, DeltaBinaryPacked, DeltaLengthByteArray}
+use Rattle.pq_tree.specs.Physical.{int32, int64, byte_array, fixed}
+use Rattle.pq_tree.specs.Types.{Repetition, required, optional, repeated, millis, micros, Converted, Logical, Info}
+use Rattle.pq_tree.specs.Tree.{leaf, group, no_trees, tree, schema_nesting}
 use Rattle.schema_to_tree.specs.Length.{IsDecimalLength}
 use Rattle.schema_to_tree.specs.Table.{stored_as, tree_of, schema_of}
 use Rattle.schema_to_tree.specs.Conditions.{HasEmptyStruct, HasBadDecimal, HasBadTime64, HasUnwritten, IsWritten}

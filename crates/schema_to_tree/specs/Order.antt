@@ -6,7 +6,7 @@ use Rattle.columns_base.specs.declared.error.Error.{Error}
 use Rattle.columns_base.specs.declared.error.Error.TheVariants.{NotYetImplemented, InvalidArgumentError, Memory}
 use Rattle.columns_base.specs.declared.error.N.TheVariants.{N7}
 use Rattle.columns_base.specs.declared.error.A.TheVariants.{A6}
-use Rattle.pq_container.specs.Tree.{nesting, schema_nesting}
+use Rattle.pq_tree.specs.Tree.{nesting, schema_nesting}
 use Rattle.schema_to_tree.specs.Conditions.{is_bad_time64, some_field, some_fields, most}
 use Rattle.schema_to_tree.specs.Faults.{field_fault, fields_fault}
 use Rattle.schema_to_tree.specs.Table.{tree_of, schema_of}

@@ -1,6 +1,6 @@
 -- What the code's way of saying how a leaf is stored stands for.
 use Rattle.std.specs.Prelude.{option_map}
-use Rattle.pq_container.specs.Views.{physical_view, converted_view, logical_view}
+use Rattle.pq_tree.specs.Views.{physical_view, converted_view, logical_view}
 use Rattle.schema_to_tree.specs.declared.stored.StoredAs.{StoredAs}
 use Rattle.schema_to_tree.specs.Table.{Stored}
 

@@ -2,9 +2,9 @@
 use Rattle.std.specs.Prelude.{ℕ, List, [], ◌∷◌, codes, Bool, true, false, cond, leb, Option, None, Some}
 use Rattle.columns_core.specs.Tree.{TypeTree, t_null, t_boolean, t_int8, t_int16, t_int32, t_int64, t_uint8, t_uint16, t_uint32, t_uint64, t_float32, t_float64, t_timestamp, t_date32, t_date64, t_time32, t_time64, t_duration, t_interval, t_binary, t_fixed_size_binary, t_large_binary, t_utf8, t_large_utf8, t_list, t_fixed_size_list, t_large_list, t_struct, t_map, t_dictionary, t_decimal, t_extension, FieldTree, field, FieldTrees, no_fields, more_fields}
 use Rattle.columns_core.specs.declared.types.TimeUnit.TheVariants.{Second, Millisecond, Microsecond, Nanosecond}
-use Rattle.pq_container.specs.Physical.{Physical, boolean, int32, int64, float, double, byte_array, fixed}
-use Rattle.pq_container.specs.Types.{Repetition, required, optional, repeated, millis, micros, nanos, Converted, Logical, Info}
-use Rattle.pq_container.specs.Tree.{Tree, leaf, group, Trees, no_trees, tree, Schema}
+use Rattle.pq_tree.specs.Physical.{Physical, boolean, int32, int64, float, double, byte_array, fixed}
+use Rattle.pq_tree.specs.Types.{Repetition, required, optional, repeated, millis, micros, nanos, Converted, Logical, Info}
+use Rattle.pq_tree.specs.Tree.{Tree, leaf, group, Trees, no_trees, tree, Schema}
 use Rattle.schema_to_tree.specs.Length.{decimal_length}
 
 -- ---- leaves

@@ -5,7 +5,7 @@ ghost use Rattle.columns_core.specs.View.{type_view};
 ghost use Rattle.schema_to_tree.specs.Encodes as table;
 
 use columns_core::DataType;
-use pq_container::Encoding;
+use pq_tree::Encoding;
 
 /// Whether values of the type can be written in the encoding (Parquet format, "Encodings"): plain always, the delta encodings
 /// and those of dictionaries by the type beneath its extensions. The type nests to at most 128, which `DataType::nests_within`

@@ -1,13 +1,13 @@
 //! The nodes of a tree.
 ghost use Rattle.std.specs.Prelude.{◌≡◌, IfOk, None};
-ghost use Rattle.pq_container.specs.Tree.{group};
-ghost use Rattle.pq_container.specs.Views.{converted_view, logical_view};
-ghost use Rattle.pq_container.specs.TreeViews.{info_view, tree_view, trees_view};
+ghost use Rattle.pq_tree.specs.Tree.{group};
+ghost use Rattle.pq_tree.specs.Views.{converted_view, logical_view};
+ghost use Rattle.pq_tree.specs.TreeViews.{info_view, tree_view, trees_view};
 ghost use Rattle.schema_to_tree.specs.Table.{leaf_of, marked, over};
 ghost use Rattle.schema_to_tree.specs.StoredViews.{stored_view};
 
 use crate::stored::StoredAs;
-use pq_container::{ConvertedType, FieldInfo, LogicalType, ParquetType, PrimitiveType, Repetition};
+use pq_tree::{ConvertedType, FieldInfo, LogicalType, ParquetType, PrimitiveType, Repetition};
 use std::alloc::{AllocError, Global};
 
 /// A leaf.

@@ -1,7 +1,7 @@
 //! The tree of a schema.
 ghost use Rattle.std.specs.Prelude.{◌≡◌, IfOk, IfErr, codes};
 ghost use Rattle.columns_core.specs.View.{schema_view};
-ghost use Rattle.pq_container.specs.TreeViews as trees;
+ghost use Rattle.pq_tree.specs.TreeViews as trees;
 ghost use Rattle.schema_to_tree.specs.Table.{schema_of};
 ghost use Rattle.schema_to_tree.specs.Conditions.{AreWritten, RefusesSchema};
 ghost use Rattle.schema_to_tree.specs.Order.{IsFirst, schema_refusal};
@@ -11,7 +11,7 @@ use crate::times::have_bad_time64;
 use crate::trees::{MAX_NESTING, field_trees};
 use columns_base::{A, Error, N, Result};
 use columns_core::Schema;
-use pq_container::SchemaDescriptor;
+use pq_tree::SchemaDescriptor;
 use std::alloc::Global;
 
 /// The trees of a schema's fields, in order, under the root `root` (Parquet format, "Metadata"). Each field is refused as by

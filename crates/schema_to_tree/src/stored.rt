@@ -3,8 +3,8 @@ ghost use Rattle.std.specs.Prelude.{◌≡◌, ◌≤◌, false, Some, None, opt
 ghost use Rattle.columns_core.specs.View.{type_view};
 ghost use Rattle.columns_core.specs.declared.types.IntervalUnit.TheVariants.{YearMonth};
 ghost use Rattle.columns_core.specs.Tree.{t_null, t_utf8, t_date32, t_interval, t_time32, t_time64, t_timestamp, t_fixed_size_binary, t_decimal};
-ghost use Rattle.pq_container.specs.Types.{Logical};
-ghost use Rattle.pq_container.specs.Views.{physical_view, converted_view, unit_view, integer_view};
+ghost use Rattle.pq_tree.specs.Types.{Logical};
+ghost use Rattle.pq_tree.specs.Views.{physical_view, converted_view, unit_view, integer_view};
 ghost use Rattle.schema_to_tree.specs.Table as table;
 ghost use Rattle.schema_to_tree.specs.Faults.{Gives, leaf_fault};
 ghost use Rattle.schema_to_tree.specs.StoredViews.{stored_view};
@@ -12,7 +12,7 @@ ghost use Rattle.schema_to_tree.specs.StoredViews.{stored_view};
 use crate::decimals::decimal_length_from_precision;
 use columns_base::{A, Error, N, PhysicalType, Result};
 use columns_core::{DataType, TimeUnit};
-use pq_container::{ConvertedType, IntegerType, LogicalType, TimeUnit as ParquetUnit};
+use pq_tree::{ConvertedType, IntegerType, LogicalType, TimeUnit as ParquetUnit};
 
 /// The physical type of a leaf and its annotations (Parquet format, LogicalTypes).
 #[derive(Clone, Copy, Debug, PartialEq, Eq)]

@@ -3,7 +3,7 @@ ghost use Rattle.std.specs.Prelude.{◌≡◌, ◌≤◌, ◌⊎◌, IfOk, IfErr
 ghost use Rattle.columns_core.specs.Measures.{nesting, field_nesting, fields_nesting};
 ghost use Rattle.columns_core.specs.Tree.{t_struct};
 ghost use Rattle.columns_core.specs.View.{type_view, field_view, fields_view};
-ghost use Rattle.pq_container.specs.TreeViews.{info_view, tree_view, trees_view};
+ghost use Rattle.pq_tree.specs.TreeViews.{info_view, tree_view, trees_view};
 ghost use Rattle.schema_to_tree.specs.Table.{list_over, map_over, type_tree, tree_of, trees_of, is_compound};
 ghost use Rattle.schema_to_tree.specs.Faults.{Gives, fault, field_fault, fields_fault};
 ghost use Rattle.schema_to_tree.specs.Conditions.{IsWritten, RefusesField};
@@ -15,7 +15,7 @@ use crate::stored::stored_as;
 use crate::times::has_bad_time64;
 use columns_base::{A, Error, N, Result};
 use columns_core::{DataType, Field};
-use pq_container::{ConvertedType, FieldInfo, LogicalType, ParquetType, Repetition};
+use pq_tree::{ConvertedType, FieldInfo, LogicalType, ParquetType, Repetition};
 use std::alloc::Global;
 
 /// How deep types and trees may nest.

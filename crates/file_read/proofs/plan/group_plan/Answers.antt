@@ -1,6 +1,6 @@
 use Rattle.std.proofs.Common.{◌≡◌, [], ◌∷◌, map, arith, rules}
 use Rattle.std.proofs.lemmas.Grind.{common_steps}
-use Rattle.pq_container.specs.Views.{group_view, chunk_view}
+use Rattle.pq_tree.specs.Views.{group_view, chunk_view}
 use Rattle.file_read.proofs.PlanAnswers.{no_extent}
 use Rattle.file_read.proofs.plan.group_plan.Goals as goal
 

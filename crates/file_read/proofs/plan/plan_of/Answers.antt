@@ -1,6 +1,6 @@
 use Rattle.std.proofs.Common.{◌≡◌, [], arith, rules}
 use Rattle.std.proofs.lemmas.Grind.{common_steps}
-use Rattle.pq_container.specs.Views.{flat_view}
+use Rattle.pq_tree.specs.Views.{flat_view}
 use Rattle.file_read.specs.Plans.{AreListNodes}
 use Rattle.file_read.proofs.PlanAnswers.{plan_answer}
 use Rattle.file_read.proofs.plan.plan_of.Goals as goal

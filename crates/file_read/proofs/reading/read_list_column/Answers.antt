@@ -1,8 +1,8 @@
 use Rattle.std.proofs.Common.{◌≡◌, ℕ, List, map, length, subst, arith}
 use Rattle.pq_numbers.specs.Texts.{Begins}
-use Rattle.pq_container.specs.FlatFooter.{SpellsFlatRecord}
-use Rattle.pq_container.specs.Frame.{footer_of}
-use Rattle.pq_container.specs.Views.{flat_view}
+use Rattle.pq_metadata.specs.FlatFooter.{SpellsFlatRecord}
+use Rattle.pq_metadata.specs.Frame.{footer_of}
+use Rattle.pq_tree.specs.Views.{flat_view}
 use Rattle.shredding.specs.Slot.{number}
 use Rattle.shredding.specs.Triples.{triples_from}
 use Rattle.file_read.specs.ColumnPlans.{plan_with}

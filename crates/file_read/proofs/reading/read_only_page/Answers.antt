@@ -1,6 +1,6 @@
 use Rattle.std.proofs.Common.{◌≡◌, ◌<◌, ◌≤◌, length, take, drop, refl, inr, ap, true, arith, rules}
-use Rattle.pq_container.specs.HeaderText.{IsHeaderText}
-use Rattle.pq_container.specs.Views.{v1_view, page_header_view}
+use Rattle.pq_metadata.specs.HeaderText.{IsHeaderText}
+use Rattle.pq_tree.specs.Views.{v1_view, page_header_view}
 use Rattle.file_read.specs.Found.{IsPlainHeader}
 use Rattle.file_read.proofs.PageParts.{header_with, only_from, no_other, no_plain, no_room}
 use Rattle.file_read.proofs.PairsFound.{refuse_header, says_data}

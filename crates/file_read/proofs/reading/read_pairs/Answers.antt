@@ -2,8 +2,8 @@ use Rattle.std.proofs.Common.{◌≡◌, map, None, refl, inr, true, arith, rule
 use Rattle.std.proofs.lemmas.Result.{err_from_is_err_and}
 use Rattle.shredding.specs.Slot.{number}
 use Rattle.shredding.specs.Triples.{triples_from}
-use Rattle.pq_container.specs.Header.{data_page}
-use Rattle.pq_container.specs.Views.{v1_view, flat_view}
+use Rattle.pq_metadata.specs.Header.{data_page}
+use Rattle.pq_tree.specs.Views.{v1_view, flat_view}
 use Rattle.pq_files.specs.Page.{IsPage}
 use Rattle.page_read.specs.Rows.{HasRows}
 use Rattle.file_read.specs.ColumnPlans.{plan_with}

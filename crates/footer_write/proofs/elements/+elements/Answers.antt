@@ -1,7 +1,7 @@
 use Rattle.std.proofs.Common.{◌≡◌, length, map, ap, ◌∙◌, arith, ◌++◌, None}
 use Rattle.pq_thrift.specs.Value.{view}
-use Rattle.pq_container.specs.TreeViews.{trees_view, info_view}
-use Rattle.pq_container.specs.Tree.{preorder_of}
+use Rattle.pq_tree.specs.TreeViews.{trees_view, info_view}
+use Rattle.pq_tree.specs.Tree.{preorder_of}
 use Rattle.pq_files.specs.Written.{element_value, element_of}
 use Rattle.footer_write.proofs.Nodes.{few_beneath, leaf_pushed, group_pushed, on_ok}
 use Rattle.footer_write.proofs.elements.+elements.Goals as goal

@@ -1,7 +1,7 @@
 use Rattle.std.proofs.Common.{◌≡◌, ◌<◌, ◌^◌, ◌++◌, map, drop}
 use Rattle.pq_thrift.specs.Value.{view}
-use Rattle.pq_container.specs.Tree.{preorder_of}
-use Rattle.pq_container.specs.TreeViews.{trees_view}
+use Rattle.pq_tree.specs.Tree.{preorder_of}
+use Rattle.pq_tree.specs.TreeViews.{trees_view}
 use Rattle.pq_files.specs.Written.{element_value}
 use Rattle.footer_write.specs.Fits.{TreesFit}
 use Rattle.footer_write.specs.Room.{trees_room}

@@ -1,8 +1,8 @@
 use Rattle.std.proofs.Common.{◌≡◌, ◌++◌, length, map, refl, ◌∙◌}
 use Rattle.pq_thrift.specs.Value.{binary, struct, no_fields, view}
-use Rattle.pq_container.specs.Tree.{preorder_of}
+use Rattle.pq_tree.specs.Tree.{preorder_of}
 use Rattle.pq_files.specs.Written.{at, i32, element_value}
-use Rattle.pq_container.specs.TreeViews.{trees_view, schema_view}
+use Rattle.pq_tree.specs.TreeViews.{trees_view, schema_view}
 use Rattle.footer_write.proofs.Nodes.{few, root_pushed}
 use Rattle.footer_write.proofs.elements.elements_from.Goals as goal
 

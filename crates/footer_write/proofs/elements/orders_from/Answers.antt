@@ -1,9 +1,9 @@
 use Rattle.std.proofs.Common.{map, ap, ◌∙◌, arith}
 use Rattle.std.proofs.lemmas.List.{take_all}
-use Rattle.pq_container.specs.Columns.{column_of}
-use Rattle.pq_container.specs.Described.{column_view}
-use Rattle.pq_container.specs.Tree.{columns_of}
-use Rattle.pq_container.specs.TreeViews.{schema_view}
+use Rattle.pq_tree.specs.Columns.{column_of}
+use Rattle.pq_tree.specs.Described.{column_view}
+use Rattle.pq_tree.specs.Tree.{columns_of}
+use Rattle.pq_tree.specs.TreeViews.{schema_view}
 use Rattle.pq_files.specs.Written.{one, empty}
 use Rattle.footer_write.proofs.Nodes.{same_const, same_length}
 use Rattle.footer_write.proofs.elements.orders_from.Goals as goal

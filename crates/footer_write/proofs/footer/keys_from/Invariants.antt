@@ -1,6 +1,6 @@
 use Rattle.std.proofs.Common.{◌≡◌, map, take}
 use Rattle.pq_thrift.specs.Value.{view}
-use Rattle.pq_container.specs.Views.{key_view}
+use Rattle.pq_tree.specs.Views.{key_view}
 use Rattle.pq_files.specs.Written.{key_value}
 use Rattle.footer_write.proofs.footer.keys_from.Given as goal
 

@@ -1,5 +1,5 @@
 use Rattle.std.proofs.Common.{drop}
-use Rattle.pq_container.specs.TreeViews.{trees_view}
+use Rattle.pq_tree.specs.TreeViews.{trees_view}
 use Rattle.footer_write.specs.Fits.{TreesFit}
 use Rattle.footer_write.proofs.numbers.+fits.Given as goal
 

@@ -1,5 +1,5 @@
 use Rattle.std.proofs.Common.{◌≡◌, ◌+◌, drop}
-use Rattle.pq_container.specs.TreeViews.{trees_view}
+use Rattle.pq_tree.specs.TreeViews.{trees_view}
 use Rattle.footer_write.specs.Room.{trees_room}
 use Rattle.footer_write.proofs.room.+room.Given as goal
 

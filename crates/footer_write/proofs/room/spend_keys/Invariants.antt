@@ -1,6 +1,6 @@
 use Rattle.std.proofs.Common.{◌≡◌, ◌+◌, drop, map}
 use Rattle.std.specs.List.{sum_by}
-use Rattle.pq_container.specs.Views.{key_view}
+use Rattle.pq_tree.specs.Views.{key_view}
 use Rattle.pq_files.specs.Room.{key_room}
 use Rattle.footer_write.proofs.room.spend_keys.Given as goal
 

@@ -1,7 +1,7 @@
 use Rattle.std.proofs.Common.{ℕ, map, subst, sym, ◌∙◌}
 use Rattle.std.specs.Prelude.{IfOk}
-use Rattle.pq_container.specs.declared.version.Version.{Version}
-use Rattle.pq_container.specs.declared.version.Version.TheVariants.{V1, V2}
+use Rattle.pq_tree.specs.declared.version.Version.{Version}
+use Rattle.pq_tree.specs.declared.version.Version.TheVariants.{V1, V2}
 use Rattle.levels.specs.Nested.{parts_of}
 use Rattle.levels.specs.Levels.{path_pairs}
 use Rattle.level_sections.specs.Sections.{AppendsOne}

@@ -2,7 +2,7 @@ use Rattle.std.proofs.Common.{◌≤◌, inr, sym, subst, arith}
 use Rattle.columns_array.specs.Boxed.{boxed, all_boxed}
 use Rattle.columns_slots.specs.Slots.{tree_size, trees_size}
 use Rattle.levels.specs.Nested.{parts_of}
-use Rattle.pq_container.specs.TreeViews.{tree_view}
+use Rattle.pq_tree.specs.TreeViews.{tree_view}
 use Rattle.nested_paths.specs.Kinds.{kinds_of}
 use Rattle.nested_paths.proofs.Widths.{items_kept, fields_kept}
 use Rattle.nested_paths.proofs.Inners.{items_smaller}

@@ -2,7 +2,7 @@ use Rattle.std.proofs.Common.{◌≡◌, ◌+◌, ◌*◌, ◌++◌, drop}
 use Rattle.columns_array.specs.Boxed.{boxed, all_boxed}
 use Rattle.columns_slots.specs.Slots.{tree_size, trees_size}
 use Rattle.levels.specs.Nested.{parts_of}
-use Rattle.pq_container.specs.TreeViews.{trees_view}
+use Rattle.pq_tree.specs.TreeViews.{trees_view}
 use Rattle.nested_paths.specs.Kinds.{kinds_in, kinds_of, kinds_below, all_kinds}
 use Rattle.nested_paths.specs.Paths.{below, paths_in, misfits}
 use Rattle.nested_paths.specs.Taken.{all_parts}

@@ -3,7 +3,7 @@ use Rattle.shredding.specs.Parts.{Part}
 use Rattle.shredding.specs.Shape.{ways}
 use Rattle.columns_slots.specs.Slots.{slots}
 use Rattle.columns_array.specs.Boxed.{boxed}
-use Rattle.pq_container.specs.TreeViews.{tree_view}
+use Rattle.pq_tree.specs.TreeViews.{tree_view}
 use Rattle.nested_paths.specs.Leaves.{array_leaves}
 use Rattle.nested_paths.specs.Paths.{paths}
 use Rattle.nested_paths.specs.Seen.{read_by, shape_by, AreSeen}

@@ -1,7 +1,7 @@
 use Rattle.std.proofs.Common.{◌≡◌, refl, ap, ◌∙◌, map, rules}
-use Rattle.pq_container.specs.Tree.{group, leaves, leaves_of}
-use Rattle.pq_container.specs.TreeViews.{info_view, tree_view, trees_view}
-use Rattle.pq_container.specs.declared.types.ParquetType.{the_lemmas}
+use Rattle.pq_tree.specs.Tree.{group, leaves, leaves_of}
+use Rattle.pq_tree.specs.TreeViews.{info_view, tree_view, trees_view}
+use Rattle.pq_tree.specs.declared.types.ParquetType.{the_lemmas}
 use Rattle.nested_paths.specs.Leaves.{node_of}
 use Rattle.nested_paths.proofs.Ends.{group_ends, nodes_step}
 use Rattle.nested_paths.proofs.tree_leaves.+leaves.Goals as goal

@@ -1,6 +1,6 @@
 use Rattle.std.proofs.Common.{◌≡◌, ◌++◌, map}
-use Rattle.pq_container.specs.Tree.{leaves_of}
-use Rattle.pq_container.specs.TreeViews.{trees_view}
+use Rattle.pq_tree.specs.Tree.{leaves_of}
+use Rattle.pq_tree.specs.TreeViews.{trees_view}
 use Rattle.nested_paths.specs.Leaves.{node_of, leaf_node}
 use Rattle.nested_paths.proofs.tree_leaves.+leaves.Given as goal
 

@@ -1,6 +1,6 @@
 use Rattle.std.proofs.Common.{◌≡◌, pos, ap, ◌∙◌, subst, sym, rules, List, ℕ, take, length, get_or, SFits, w32, to_z-of_z, arith}
 use Rattle.shredding.specs.Slot.{Value, number}
-use Rattle.pq_container.specs.Physical.{int32}
+use Rattle.pq_tree.specs.Physical.{int32}
 use Rattle.page_write.proofs.Front.{front_of}
 use Rattle.page_write.proofs.Rows.{plain_more, numbers_more}
 use Rattle.page_write.specs.Appended.{AppendsOne, AppendsPlain}

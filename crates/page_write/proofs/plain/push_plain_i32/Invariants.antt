@@ -1,5 +1,5 @@
 use Rattle.std.proofs.Common.{take}
-use Rattle.pq_container.specs.Physical.{int32}
+use Rattle.pq_tree.specs.Physical.{int32}
 use Rattle.page_write.specs.Appended.{AppendsPlain, numbers}
 use Rattle.page_write.proofs.plain.push_plain_i32.Given as goal
 

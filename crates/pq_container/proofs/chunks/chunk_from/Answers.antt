@@ -3,9 +3,9 @@ use Rattle.std.specs.Prelude.{Option, option_map, string_bytes, IfSome, IsUtf8}
 use Rattle.std.proofs.lemmas.Result.{err_from_is_err_and}
 use Rattle.std.specs.Option.{option_copied}
 use Rattle.pq_thrift.specs.Value.{Value, binary, view, fields_view}
-use Rattle.pq_container.specs.Footer.{ChunkMeta, SpellsChunk, SaysStatistics}
-use Rattle.pq_container.specs.Ids.{Holds}
-use Rattle.pq_container.specs.Views.{statistics_view}
+use Rattle.pq_metadata.specs.Footer.{ChunkMeta, SpellsChunk, SaysStatistics}
+use Rattle.pq_metadata.specs.Ids.{Holds}
+use Rattle.pq_tree.specs.Views.{statistics_view}
 use Rattle.pq_container.proofs.Eachs.{struct_is}
 use Rattle.pq_container.proofs.Parts.{place_none, numbers_none}
 use Rattle.pq_container.proofs.chunks.chunk_from.Goals as goal

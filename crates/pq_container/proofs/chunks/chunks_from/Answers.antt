@@ -1,5 +1,5 @@
 use Rattle.std.proofs.lemmas.Result.{err_from_is_err_and}
-use Rattle.pq_container.specs.Footer.{SpellsChunk}
+use Rattle.pq_metadata.specs.Footer.{SpellsChunk}
 use Rattle.pq_container.proofs.Eachs.{each_refused}
 use Rattle.pq_container.proofs.chunks.chunks_from.Goals as goal
 

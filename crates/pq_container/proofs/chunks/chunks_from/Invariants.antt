@@ -1,8 +1,8 @@
 use Rattle.std.proofs.Common.{◌≡◌, take, map, All, None}
 use Rattle.pq_thrift.specs.Value.{values_view}
-use Rattle.pq_container.specs.Footer.{SpellsChunk}
-use Rattle.pq_container.specs.Ids.{Each}
-use Rattle.pq_container.specs.Views.{chunk_view}
+use Rattle.pq_metadata.specs.Footer.{SpellsChunk}
+use Rattle.pq_metadata.specs.Ids.{Each}
+use Rattle.pq_tree.specs.Views.{chunk_view}
 use Rattle.pq_container.proofs.chunks.chunks_from.Given as goal
 
 abbrev pub invariant-loop-value : goal.invariant-loop-value

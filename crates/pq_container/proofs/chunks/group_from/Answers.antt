@@ -1,10 +1,10 @@
 use Rattle.std.proofs.Common.{refl, sym, inr, subst, map, rules, SFits, w64, to_z-of_z}
 use Rattle.std.proofs.lemmas.Result.{err_from_is_err_and}
 use Rattle.pq_thrift.specs.Value.{Value, view, values_view, fields_view}
-use Rattle.pq_container.specs.Footer.{GroupMeta, SpellsGroup}
-use Rattle.pq_container.specs.Views.{chunk_view}
+use Rattle.pq_metadata.specs.Footer.{GroupMeta, SpellsGroup}
+use Rattle.pq_tree.specs.Views.{chunk_view}
 use Rattle.pq_container.proofs.Eachs.{struct_is}
-use Rattle.pq_container.proofs.Describing.{none_described}
+use Rattle.pq_tree.proofs.Describing.{none_described}
 use Rattle.pq_container.proofs.Parts.{columns_none, columns_refused}
 use Rattle.pq_container.proofs.chunks.group_from.Goals as goal
 

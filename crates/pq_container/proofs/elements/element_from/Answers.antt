@@ -1,11 +1,11 @@
 use Rattle.columns_base.specs.declared.error.Error.TheVariants.{OutOfSpec}
 use Rattle.columns_base.specs.declared.error.S.TheVariants.{S1}
 use Rattle.pq_thrift.specs.Value.{view, fields_view}
-use Rattle.pq_container.specs.Elements.{IsNode, SpellsNode}
+use Rattle.pq_metadata.specs.Elements.{IsNode, SpellsNode}
 use Rattle.pq_container.specs.Raw.{raw_view}
-use Rattle.pq_container.specs.Reads.{Refuses}
+use Rattle.pq_tree.specs.Reads.{Refuses}
 use Rattle.pq_container.proofs.Parts.{node_refused}
-use Rattle.pq_container.proofs.Refusals.{if_err_more}
+use Rattle.pq_tree.proofs.Refusals.{if_err_more}
 use Rattle.pq_container.proofs.elements.element_from.Goals as goal
 
 pub returns-clause-refused : goal.returns-clause-refused

@@ -1,5 +1,5 @@
 use Rattle.std.proofs.lemmas.Result.{err_from_is_err_and}
-use Rattle.pq_container.specs.Elements.{SpellsNode}
+use Rattle.pq_metadata.specs.Elements.{SpellsNode}
 use Rattle.pq_container.proofs.Eachs.{each_refused}
 use Rattle.pq_container.proofs.elements.elements_from.Goals as goal
 

@@ -1,8 +1,8 @@
 use Rattle.std.proofs.Common.{take, map}
 use Rattle.pq_thrift.specs.Value.{values_view}
-use Rattle.pq_container.specs.Elements.{SpellsNode}
-use Rattle.pq_container.specs.Ids.{Each}
-use Rattle.pq_container.specs.Views.{element_view}
+use Rattle.pq_metadata.specs.Elements.{SpellsNode}
+use Rattle.pq_metadata.specs.Ids.{Each}
+use Rattle.pq_tree.specs.Views.{element_view}
 use Rattle.pq_container.proofs.elements.elements_from.Given as goal
 
 abbrev pub invariant-loop-value : goal.invariant-loop-value

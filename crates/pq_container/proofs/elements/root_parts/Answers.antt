@@ -1,6 +1,6 @@
 use Rattle.std.proofs.Common.{refl, sym, ◌∙◌}
 use Rattle.std.specs.Prelude.{option_map}
-use Rattle.pq_container.specs.Views.{logical_view}
+use Rattle.pq_tree.specs.Views.{logical_view}
 use Rattle.pq_container.proofs.Parts.{none_of}
 use Rattle.pq_container.proofs.elements.root_parts.Goals as goal
 

@@ -1,5 +1,5 @@
 use Rattle.pq_thrift.specs.Value.{view}
-use Rattle.pq_container.specs.Encrypted.{HasEncryptedChunk}
+use Rattle.pq_metadata.specs.Encrypted.{HasEncryptedChunk}
 use Rattle.pq_container.proofs.Encryptions.{any_at, none_next, if_true, if_false}
 use Rattle.pq_container.proofs.encryption.any_group.Goals as goal
 

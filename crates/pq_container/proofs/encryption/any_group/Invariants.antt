@@ -1,6 +1,6 @@
 use Rattle.std.proofs.Common.{take}
 use Rattle.pq_thrift.specs.Value.{values_view}
-use Rattle.pq_container.specs.Encrypted.{AnyValue, HasEncryptedChunk}
+use Rattle.pq_metadata.specs.Encrypted.{AnyValue, HasEncryptedChunk}
 use Rattle.pq_container.proofs.encryption.any_group.Given as goal
 
 abbrev pub invariant-loop-value : goal.invariant-loop-value

@@ -1,5 +1,5 @@
 use Rattle.std.proofs.Common.{refl, true, false, ◌≡◌, sym, ◌∙◌}
-use Rattle.pq_container.specs.Ids.{is_number}
+use Rattle.pq_metadata.specs.Ids.{is_number}
 use Rattle.pq_container.proofs.Lookups.{get-next}
 use Rattle.pq_container.proofs.fields.last_with.Goals as goal
 use Rattle.pq_container.proofs.fields.last_with.Goals.{then-is_id, else-is_id}

@@ -2,9 +2,9 @@ use Rattle.std.proofs.Common.{refl, sym, inr, subst, map}
 use Rattle.std.specs.Prelude.{Option, string_bytes}
 use Rattle.std.proofs.lemmas.Result.{err_from_is_err_and}
 use Rattle.pq_thrift.specs.Value.{Value, view, values_view, fields_view}
-use Rattle.pq_container.specs.FlatFooter.{FlatFooter, SpellsFlatFooter}
-use Rattle.pq_container.specs.Footer.{HasKeys}
-use Rattle.pq_container.specs.Views.{element_view, group_view, key_view}
+use Rattle.pq_metadata.specs.FlatFooter.{FlatFooter, SpellsFlatFooter}
+use Rattle.pq_metadata.specs.Footer.{HasKeys}
+use Rattle.pq_tree.specs.Views.{element_view, group_view, key_view}
 use Rattle.pq_container.proofs.Eachs.{struct_is}
 use Rattle.pq_container.proofs.Parts.{footer_elements_none, footer_groups_none, schema_refused, groups_refused}
 use Rattle.pq_container.proofs.footer.footer_from.Goals as goal

@@ -5,12 +5,12 @@ use Rattle.columns_base.specs.declared.error.S.TheVariants.{S1}
 use Rattle.pq_numbers.specs.Texts.{Begins}
 use Rattle.pq_thrift.specs.declared.value.Thrift.{Thrift}
 use Rattle.pq_thrift.specs.Value.{view}
-use Rattle.pq_container.specs.FlatFooter.{SpellsFlatFooter, SpellsFlatRecord}
-use Rattle.pq_container.specs.FooterReads.{RefusesFooter}
-use Rattle.pq_container.specs.Reads.{Refuses}
-use Rattle.pq_container.specs.Views.{flat_view}
+use Rattle.pq_metadata.specs.FlatFooter.{SpellsFlatFooter, SpellsFlatRecord}
+use Rattle.pq_metadata.specs.FooterReads.{RefusesFooter}
+use Rattle.pq_tree.specs.Reads.{Refuses}
+use Rattle.pq_tree.specs.Views.{flat_view}
 use Rattle.pq_container.proofs.FromBytes.{Told, footer_nothing, footer_none, footer_found}
-use Rattle.pq_container.proofs.Refusals.{err_exit, if_ok_more, if_err_more}
+use Rattle.pq_tree.proofs.Refusals.{err_exit, if_ok_more, if_err_more}
 use Rattle.pq_container.proofs.footer.read_footer.Goals as goal
 
 pub returns-in_err-value-clause-refused : goal.returns-in_err-value-clause-refused

@@ -1,5 +1,5 @@
 use Rattle.std.proofs.Common.{arith, sym, ◌∙◌}
-use Rattle.pq_container.specs.Frame.{EndsEncrypted}
+use Rattle.pq_metadata.specs.Frame.{EndsEncrypted}
 use Rattle.pq_container.proofs.Encryptions.{equal_test}
 use Rattle.pq_container.proofs.Fours.{encrypted_end, encrypted_number, encrypted_long}
 use Rattle.pq_container.proofs.frame.ends_encrypted.Goals as goal

@@ -1,7 +1,7 @@
 use Rattle.std.proofs.Common.{sym, subst}
 use Rattle.std.specs.Prelude.{Ok, Err}
 use Rattle.columns_base.specs.declared.error.Error.{Error}
-use Rattle.pq_container.specs.Views.{page_header_view}
+use Rattle.pq_tree.specs.Views.{page_header_view}
 use Rattle.pq_container.proofs.FromBytes.{Told, RefusesHeader, header_nothing, header_none, header_known, header_there}
 use Rattle.pq_container.proofs.headers.read_page_header.Goals as goal
 

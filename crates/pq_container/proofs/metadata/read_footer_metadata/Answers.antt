@@ -4,16 +4,16 @@ use Rattle.columns_base.specs.declared.error.Error.{Error}
 use Rattle.pq_numbers.specs.Texts.{Begins}
 use Rattle.pq_thrift.specs.declared.value.Thrift.{Thrift}
 use Rattle.pq_thrift.specs.Value.{view}
-use Rattle.pq_container.specs.Encrypted.{SaysEncrypted}
-use Rattle.pq_container.specs.FlatFooter.{flat_form}
-use Rattle.pq_container.specs.Forest.{RefusesTrees}
-use Rattle.pq_container.specs.Metadata.{IsFooterText, RefusesMetadata}
-use Rattle.pq_container.specs.TreeViews.{metadata_view}
-use Rattle.pq_container.specs.Views.{flat_view}
+use Rattle.pq_metadata.specs.Encrypted.{SaysEncrypted}
+use Rattle.pq_metadata.specs.FlatFooter.{flat_form}
+use Rattle.pq_tree.specs.Forest.{RefusesTrees}
+use Rattle.pq_metadata.specs.Metadata.{IsFooterText, RefusesMetadata}
+use Rattle.pq_tree.specs.TreeViews.{metadata_view}
+use Rattle.pq_tree.specs.Views.{flat_view}
 use Rattle.pq_container.proofs.Encryptions.{if_true, if_false}
 use Rattle.pq_container.proofs.FromBytes.{Told}
 use Rattle.pq_container.proofs.MetadataReads.{metadata_nothing, metadata_encrypted, metadata_none, metadata_found, metadata_refused}
-use Rattle.pq_container.proofs.Refusals.{err_exit, if_ok_more, if_err_more}
+use Rattle.pq_tree.proofs.Refusals.{err_exit, if_ok_more, if_err_more}
 use Rattle.pq_container.proofs.metadata.read_footer_metadata.Goals as goal
 
 pub returns-in_err-value-clause-refused : goal.returns-in_err-value-clause-refused

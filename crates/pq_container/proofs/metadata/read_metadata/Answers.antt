@@ -1,8 +1,8 @@
 use Rattle.std.proofs.Common.{◌≡◌, ◌-◌, ℕ, List, take, drop, length, ap, subst, ◌∙◌, inr}
 use Rattle.columns_base.specs.declared.error.Error.{Error}
-use Rattle.pq_container.specs.Frame.{footer_of}
-use Rattle.pq_container.specs.Metadata.{RefusesMetadata, RefusesFile}
-use Rattle.pq_container.proofs.Refusals.{if_err_more}
+use Rattle.pq_metadata.specs.Frame.{footer_of}
+use Rattle.pq_metadata.specs.Metadata.{RefusesMetadata, RefusesFile}
+use Rattle.pq_tree.proofs.Refusals.{if_err_more}
 use Rattle.pq_container.proofs.metadata.read_metadata.Goals as goal
 
 pub returns-clause-refused : goal.returns-clause-refused

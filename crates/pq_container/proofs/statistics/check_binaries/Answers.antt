@@ -1,10 +1,10 @@
 use Rattle.std.proofs.Common.{◌≡◌, ℕ, List, Some}
 use Rattle.pq_thrift.specs.Value.{Value, binary, view, values_view}
-use Rattle.pq_container.specs.Footer.{AreAll}
-use Rattle.pq_container.specs.Ids.{Each}
-use Rattle.pq_container.specs.Reads.{HasNone}
+use Rattle.pq_metadata.specs.Footer.{AreAll}
+use Rattle.pq_metadata.specs.Ids.{Each}
+use Rattle.pq_tree.specs.Reads.{HasNone}
 use Rattle.pq_container.proofs.Parts.{list_not}
-use Rattle.pq_container.proofs.Refusals.{on_err_more}
+use Rattle.pq_tree.proofs.Refusals.{on_err_more}
 use Rattle.pq_container.proofs.statistics.check_binaries.Goals as goal
 
 pub returns-in-Some-as_list-clause-refused : goal.returns-in-Some-as_list-clause-refused

@@ -1,6 +1,6 @@
 use Rattle.std.proofs.Common.{◌≡◌, ℤ, List, take}
 use Rattle.pq_thrift.specs.Value.{int32, values_view}
-use Rattle.pq_container.specs.Ids.{Each}
+use Rattle.pq_metadata.specs.Ids.{Each}
 use Rattle.pq_container.proofs.statistics.check_each_i32.Given as goal
 
 abbrev pub invariant-loop-value : goal.invariant-loop-value

@@ -1,6 +1,6 @@
 use Rattle.std.proofs.Common.{◌≡◌, ◌-◌, ◌++◌, [], length, ap, arith, refl, sym, ◌∙◌}
 use Rattle.std.proofs.lemmas.List.{length-append}
-use Rattle.pq_container.specs.Frame.{magic}
+use Rattle.pq_metadata.specs.Frame.{magic}
 use Rattle.pq_files.proofs.WrittenFile.{is_packed}
 use Rattle.page_write.proofs.Pairs.{length-triples, rows-triples}
 use Rattle.page_write.specs.Appended.{numbers}

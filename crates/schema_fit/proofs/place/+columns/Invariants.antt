@@ -1,5 +1,5 @@
 use Rattle.std.proofs.Common.{◌≡◌, drop}
-use Rattle.pq_container.specs.TreeViews.{trees_view}
+use Rattle.pq_tree.specs.TreeViews.{trees_view}
 use Rattle.schema_fit.specs.Skeleton.{trees_bones}
 use Rattle.schema_fit.specs.Walk.{has_bones}
 use Rattle.schema_fit.proofs.place.+columns.Given as goal

@@ -1,6 +1,6 @@
 use Rattle.std.proofs.Common.{◌≡◌, ◌+◌, ◌*◌, ◌-◌, length}
-use Rattle.pq_container.specs.Tree.{nesting, nesting_of}
-use Rattle.pq_container.specs.TreeViews.{tree_view, trees_view}
+use Rattle.pq_tree.specs.Tree.{nesting, nesting_of}
+use Rattle.pq_tree.specs.TreeViews.{tree_view, trees_view}
 use Rattle.schema_fit.specs.Walk.{next_at, beneath, rest_in}
 use Rattle.schema_fit.proofs.place.+places.Given as goal
 

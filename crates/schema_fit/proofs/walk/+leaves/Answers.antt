@@ -1,7 +1,7 @@
 use Rattle.std.proofs.Common.{rules, ◌+◌, ◌||◌, drop, ap, sym, ◌∙◌}
 use Rattle.columns_core.specs.View.{type_view, field_view, fields_view}
 use Rattle.columns_core.specs.declared.types.Field.{out-Field}
-use Rattle.pq_container.specs.Types.{repeated}
+use Rattle.pq_tree.specs.Types.{repeated}
 use Rattle.schema_fit.specs.Skeleton.{repetition_of, type_bones, field_bones, fields_bones}
 use Rattle.schema_fit.specs.Walk.{has_bones}
 use Rattle.schema_fit.proofs.Bones.{has_under, has_and_then}

@@ -1,8 +1,8 @@
 use Rattle.std.proofs.Common.{rules, ◌≡◌, ◌+◌, true, false, drop, replicate, refl, ap, sym, ◌∙◌}
 use Rattle.columns_core.specs.View.{type_view, field_view, fields_view}
 use Rattle.columns_core.specs.declared.types.Field.{out-Field}
-use Rattle.pq_container.specs.TreeViews.{tree_view}
-use Rattle.pq_container.specs.Types.{optional}
+use Rattle.pq_tree.specs.TreeViews.{tree_view}
+use Rattle.pq_tree.specs.Types.{optional}
 use Rattle.schema_fit.specs.PageTable.{go_together}
 use Rattle.schema_fit.specs.Places.{found_bone}
 use Rattle.schema_fit.specs.Skeleton.{bone, under, type_bones, field_bones, fields_bones}

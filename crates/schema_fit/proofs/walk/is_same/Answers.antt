@@ -1,6 +1,6 @@
 use Rattle.std.proofs.Common.{rules, ◌≡◌, true, false, replicate}
 use Rattle.columns_core.specs.View.{field_view}
-use Rattle.pq_container.specs.TreeViews.{tree_view}
+use Rattle.pq_tree.specs.TreeViews.{tree_view}
 use Rattle.schema_fit.specs.PageTable.{go_together}
 use Rattle.schema_fit.specs.Skeleton.{field_bones, tree_bones}
 use Rattle.schema_fit.specs.Walk.{rest_of}

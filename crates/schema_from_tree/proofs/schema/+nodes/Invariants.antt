@@ -1,6 +1,6 @@
 use Rattle.std.proofs.Common.{◌≡◌, ◌++◌, map, drop}
 use Rattle.columns_core.specs.View.{field_view}
-use Rattle.pq_container.specs.TreeViews.{trees_view}
+use Rattle.pq_tree.specs.TreeViews.{trees_view}
 use Rattle.schema_from_tree.specs.FromTree.{arrow_fields}
 use Rattle.schema_from_tree.proofs.schema.+nodes.Given as goal
 

@@ -1,5 +1,5 @@
 use Rattle.std.proofs.Common.{◌≡◌, map, drop}
-use Rattle.pq_container.specs.Views.{key_view}
+use Rattle.pq_tree.specs.Views.{key_view}
 use Rattle.schema_key.specs.Inferred.{with_pairs, gathered}
 use Rattle.schema_key.proofs.infer.gather.Given as goal
 

@@ -1,7 +1,7 @@
 use Rattle.std.proofs.Common.{None, rules, arith, ap, ◌∙◌}
 use Rattle.std.proofs.lemmas.Grind.{common_steps}
-use Rattle.pq_container.specs.Tree.{group}
-use Rattle.pq_container.specs.TreeViews.{info_view}
+use Rattle.pq_tree.specs.Tree.{group}
+use Rattle.pq_tree.specs.TreeViews.{info_view}
 use Rattle.schema_to_tree.specs.Table.{marked}
 use Rattle.schema_to_tree.proofs.Joined.{join_step, join_done, fault_step, fault_done, fault_struct, list_gives, map_gives}
 use Rattle.schema_to_tree.proofs.trees.+trees.Goals as goal

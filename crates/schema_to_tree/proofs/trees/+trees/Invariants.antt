@@ -1,7 +1,7 @@
 use Rattle.std.proofs.Common.{◌≡◌, ◌≤◌, drop}
 use Rattle.columns_core.specs.Measures.{fields_nesting}
 use Rattle.columns_core.specs.View.{fields_view}
-use Rattle.pq_container.specs.TreeViews.{trees_view}
+use Rattle.pq_tree.specs.TreeViews.{trees_view}
 use Rattle.schema_to_tree.specs.Table.{trees_of}
 use Rattle.schema_to_tree.specs.Faults.{fields_fault}
 use Rattle.schema_to_tree.proofs.Joined.{join}

@@ -1,5 +1,5 @@
 use Rattle.std.proofs.Common.{map, ap, ◌∙◌, drop}
-use Rattle.pq_container.specs.Views.{element_view}
+use Rattle.pq_tree.specs.Views.{element_view}
 use Rattle.file_read.specs.Plans.{name_of}
 use Rattle.pq_rewrite.proofs.Given.{column_given}
 use Rattle.pq_rewrite.proofs.list_column.ListColumnConversion.convert.Goals as goal

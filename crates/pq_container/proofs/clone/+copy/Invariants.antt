@@ -1,6 +1,0 @@
-use Rattle.std.proofs.Common.{◌≡◌, map, take}
-use Rattle.pq_container.specs.TreeViews.{tree_view}
-use Rattle.pq_container.proofs.clone.+copy.Given as goal
-
-abbrev pub invariant-copy_trees-loop-tree : goal.invariant-copy_trees-loop-tree
-invariant-copy_trees-loop-tree l = map tree_view l.copies.items ≡ map tree_view (take l.tree-index l.tree-items)

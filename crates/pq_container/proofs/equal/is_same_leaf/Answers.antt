@@ -1,6 +1,0 @@
-use Rattle.std.proofs.lemmas.Bool.Decides.{Decides-at}
-use Rattle.pq_container.proofs.TellsTrees.{tells_leaf}
-use Rattle.pq_container.proofs.equal.is_same_leaf.Goals as goal
-
-pub returns : goal.returns
-returns c = Decides-at _ _ c.eq.ensures (tells_leaf c.args.a.now c.args.b.now)

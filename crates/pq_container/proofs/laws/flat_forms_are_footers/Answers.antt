@@ -1,5 +1,0 @@
-use Rattle.pq_container.proofs.Flat.{flat_same}
-use Rattle.pq_container.proofs.laws.flat_forms_are_footers.Goals as goal
-
-pub returns : goal.returns
-returns c = flat_same

@@ -1,5 +1,0 @@
-use Rattle.pq_container.proofs.HeaderOnce.{page_header_same}
-use Rattle.pq_container.proofs.laws.headers_are_unique.Goals as goal
-
-pub returns : goal.returns
-returns c = page_header_same

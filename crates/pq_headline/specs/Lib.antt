@@ -1,0 +1,13 @@
+pub mod Arrays
+pub mod Columns
+pub mod FieldReasons
+pub mod Laws
+pub mod Lists
+pub mod Opened
+pub mod Openings
+pub mod Output
+pub mod Rewrites
+pub mod Rows
+pub mod Stages
+pub mod Worked
+pub mod Written

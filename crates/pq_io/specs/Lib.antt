@@ -1,0 +1,7 @@
+pub mod Causes
+pub mod Ends
+pub mod MemorySinks
+pub mod MemorySources
+pub mod PlainSinks
+pub mod PlainSources
+pub mod Reading

@@ -1,0 +1,6 @@
+pub mod FooterOnce
+pub mod Framed
+pub mod HeaderOnce
+pub mod Injective
+pub mod Flat
+pub mod FlatOnce

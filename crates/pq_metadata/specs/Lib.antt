@@ -1,0 +1,12 @@
+pub mod Elements
+pub mod Encrypted
+pub mod FlatFooter
+pub mod Footer
+pub mod FooterReads
+pub mod Frame
+pub mod Header
+pub mod HeaderText
+pub mod Ids
+pub mod Kinds
+pub mod Laws
+pub mod Metadata

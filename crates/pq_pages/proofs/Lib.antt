@@ -1,0 +1,12 @@
+pub mod HeaderReads
+pub mod Headers
+pub mod Listed
+pub mod NextFound
+pub mod NextPages
+pub mod Steps
+pub mod Named
+pub mod NextFailed
+pub mod Placed
+pub mod ChunkRead
+pub mod Behind
+pub mod HeldChunks

@@ -1,0 +1,13 @@
+pub mod DataPages
+pub mod Denotes
+pub mod HeaderValue
+pub mod Headers
+pub mod Held
+pub mod Opened
+pub mod Outcomes
+pub mod Parts
+pub mod Reading
+pub mod ReadsChunk
+pub mod Sources
+pub mod Split
+pub mod Worked

@@ -1,0 +1,27 @@
+//! Pages in memory and their headers, and the pages of a column chunk one after another (Parquet format, "Column chunks",
+//! "Data Pages" and parquet.thrift, `PageHeader`).
+#![tactic(auto)]
+
+mod chunk;
+mod header;
+mod laws;
+mod page;
+mod pages;
+mod parts;
+mod place;
+mod raw;
+mod reader;
+mod split;
+mod vec_pages;
+
+pub use chunk::get_page_iterator;
+pub use header::write_page_header;
+pub use laws::{
+    as_worked, encodings_are_numbered, no_header_is_longer, pages_are_written, pages_hold_chunks,
+    splits_are_of_pages,
+};
+pub use page::{DataPage, DictPage, Page, encoding_named};
+pub use pages::Pages;
+pub use reader::PageReader;
+pub use split::split_buffer;
+pub use vec_pages::VecPages;

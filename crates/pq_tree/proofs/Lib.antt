@@ -1,0 +1,9 @@
+pub mod Compared
+pub mod Describing
+pub mod Refusals
+pub mod TreeLoops
+pub mod Preorder
+pub mod TellsKinds
+pub mod TellsTrees
+pub mod Walked
+pub mod PathsWalked

@@ -1,0 +1,16 @@
+pub mod Columns
+pub mod Counted
+pub mod Described
+pub mod Footers
+pub mod Forest
+pub mod Headers
+pub mod Options
+pub mod Paths
+pub mod Physical
+pub mod Reads
+pub mod SchemaValue
+pub mod Tree
+pub mod TreeReading
+pub mod TreeViews
+pub mod Types
+pub mod Views

@@ -1,0 +1,5 @@
+pub mod NumberSlots
+pub mod Pieces
+pub mod Reading
+pub mod Standing
+pub mod PlainRead

@@ -1,0 +1,62 @@
+-- Plain byte strings, and what is decoded of them (Parquet format, Encodings, "Plain"; Arrow columnar format, "Variable-size Binary Layout").
+use Rattle.std.specs.Prelude.{◌≡◌, ℕ, zero, suc, ◌+◌, ◌<◌, ◌≤◌, Bool, nat_lt, Option, Some, None, List, [], ◌∷◌, map, length, take, drop, slice_index, if◌then◌else◌, IsUtf8}
+use Rattle.shredding.specs.Slot.{bytes, Slot, null, value}
+use Rattle.columns_core.specs.Rising.{last_place}
+use Rattle.columns_slots.specs.Bytes.{pieces}
+use Rattle.pq_numbers.specs.Texts.{number_of}
+use Rattle.read_walk.specs.Values.{Stored, bytes_in}
+
+-- ---- stored strings
+
+-- The string at the front and the bytes behind it: four bytes with its length, lowest first, and as many bytes. None where any of them is cut.
+abbrev pub string_at : List ℕ → Option (List ℕ × List ℕ)
+string_at text =
+    if nat_lt (length text) 4 then None
+    else if nat_lt (length (drop 4 text)) (number_of (take 4 text)) then None
+    else Some (take (number_of (take 4 text)) (drop 4 text), drop (number_of (take 4 text)) (drop 4 text))
+
+-- each string as far as they stand; the first number bounds them, and that of the bytes is always enough, since each string has four
+abbrev pub strings_behind : (List ℕ → List (List ℕ)) → Option (List ℕ × List ℕ) → List (List ℕ)
+strings_behind others None = []
+strings_behind others (Some s) = s.0 ∷ others s.1
+
+unfoldable pub strings_in : ℕ → List ℕ → List (List ℕ)
+strings_in zero text = []
+strings_in (suc fuel) text = strings_behind (strings_in fuel) (string_at text)
+
+abbrev pub all_strings : List ℕ → List (List ℕ)
+all_strings text = strings_in (length text) text
+
+-- UTF-8. It stands for itself, so that the search does not look into it.
+unfoldable pub IsText : List ℕ → Type 0
+IsText s = IsUtf8 s
+
+-- a stored string as a value of the leaf, where it is one
+abbrev pub loaded_string : (List ℕ → Bool) → List ℕ → Stored
+loaded_string is_value s = if is_value s then Some (bytes s) else None
+
+abbrev pub stored_strings : (List ℕ → Bool) → List ℕ → List Stored
+stored_strings is_value text = map (loaded_string is_value) (all_strings text)
+
+-- ---- decoded strings
+
+abbrev pub total_bytes : List (List ℕ) → ℕ
+total_bytes [] = 0
+total_bytes (s ∷ ss) = length s + total_bytes ss
+
+-- Offsets and bytes of strings: the offsets end at the end of the bytes, and the strings between them have all the bytes.
+pub record IsLaid (offsets content : List ℕ) : Type 0 where
+  pub some : 0 < length offsets
+  pub last : last_place offsets ≡ length content
+  pub below : (i : ℕ) → slice_index offsets i ≤ length content
+  pub all : total_bytes (pieces offsets content) ≡ length content
+
+-- strings and which of them are there, as slots
+abbrev pub string_slots : List (List ℕ) → List Bool → List Slot
+string_slots (s ∷ ss) (b ∷ bs) = (if b then value (bytes s) else null) ∷ string_slots ss bs
+string_slots _ _ = []
+
+-- as many strings as validities, and nulls have no bytes
+pub record AreStrings (ss : List (List ℕ)) (bs : List Bool) : Type 0 where
+  pub even : length ss ≡ length bs
+  pub all : bytes_in (string_slots ss bs) ≡ total_bytes ss

@@ -1,0 +1,17 @@
+//! Decoders of a leaf's plain values (Parquet format, Encodings, "Plain"), for the level walk of `read_walk`: whole numbers, dates and times over
+//! INT32 and INT64, and texts and byte strings. Values are taken in whole stretches, nulls too.
+#![tactic(auto)]
+
+mod binary;
+mod cut;
+mod laws;
+mod loaded;
+mod primitive;
+mod stored;
+mod strings;
+
+pub use binary::Binary;
+pub use laws::{numbers_are_read, strings_are_read};
+pub use primitive::{NumberValues, PlainNumbers, PrimitiveDecoder};
+pub use stored::{FromStored, StoredNumber};
+pub use strings::{Bytes, PlainStrings, StringDecoder, StringKind, StringValues, Text};

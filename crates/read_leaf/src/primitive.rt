@@ -1,0 +1,204 @@
+//! Numbers of fixed size.
+ghost use Rattle.std.specs.Prelude.{◌≡◌, ◌⊎◌, ℕ, ℤ, List, ◌+◌, ◌*◌, ◌/◌, ◌<◌, ◌≤◌, ◌++◌, [], IfOk, OnOk, IfErr, MatchOption, Some, None, map, replicate, length as list_length, take, drop};
+ghost use Rattle.columns_base.specs.declared.error.Error.{Error};
+ghost use Rattle.columns_base.specs.declared.error.S.{S};
+ghost use Rattle.shredding.specs.Slot.{null};
+ghost use Rattle.read_walk.specs.Values.{Decodes, CannotDecode};
+ghost use Rattle.read_leaf.specs.Numbers.{TookNumbers, OneIsOutside, number_slots, stored_numbers};
+
+use crate::cut::skip;
+use crate::stored::{FromStored, StoredNumber};
+use columns_base::{Error, Result, S};
+use columns_core::MutableBitmap;
+use read_walk::NestedDecoder;
+use std::alloc::Global;
+use std::marker::{Model, PhantomData};
+
+/// The plain bytes of a page's values that are left.
+#[derive(Debug, Drop)]
+pub struct PlainNumbers<'a> {
+    pub values: &'a [u8],
+}
+
+/// Numbers, and which of them are there.
+#[derive(Debug, Drop)]
+pub struct NumberValues<T: Drop> {
+    values: Vec<T>,
+    validity: MutableBitmap,
+}
+
+impl<T: Drop> Model for NumberValues<T> {
+    ghost use Rattle.std.specs.Prelude.{List, Bool, length, ◌≡◌};
+
+    ghost Value = { List T × List Bool };
+
+    ghost view = { λ d. (d.values.items, d.validity.0) };
+
+    ghost invariant = { λ d. length d.values.items ≡ length d.validity.0 };
+}
+
+impl<T: Drop> NumberValues<T> {
+    /// No number.
+    pub fn new(alloc: Global) -> Self
+        ensures values { result.0 ≡ [] }
+        ensures validity { result.1 ≡ [] }
+    {
+        NumberValues {
+            values: Vec::new(alloc),
+            validity: MutableBitmap::new(alloc),
+        }
+    }
+
+    /// How many slots there are.
+    pub fn len(&self) -> usize
+        ensures { result ≡ list_length self.now.1 }
+    {
+        self.validity.len()
+    }
+
+    /// The numbers, those in the place of nulls too, and which are there: what an array of numbers is made of.
+    pub fn into_parts(self) -> (Vec<T>, MutableBitmap)
+        ensures values { result.0.items ≡ self.0 }
+        ensures validity { result.1.0 ≡ self.1 }
+        ensures even { list_length self.0 ≡ list_length self.1 }
+    {
+        (self.values, self.validity)
+    }
+}
+
+/// Decodes plain numbers of `P` as numbers of `T`.
+#[derive(Drop)]
+pub struct PrimitiveDecoder<T, P> {
+    number: PhantomData<T>,
+    stored: PhantomData<P>,
+}
+
+impl<T, P> PrimitiveDecoder<T, P> {
+    pub fn new() -> Self {
+        PrimitiveDecoder {
+            number: PhantomData,
+            stored: PhantomData,
+        }
+    }
+}
+
+// The next number as one of the leaf, where it is one.
+fn load<T: FromStored<P>, P: StoredNumber>(bytes: &[u8]) -> Option<T>
+    requires { P.byte_count ≤ list_length bytes.now }
+    ensures { MatchOption result (T.loaded (P.spelled (take P.byte_count bytes.now)) ≡ None) (λ x. T.loaded (P.spelled (take P.byte_count bytes.now)) ≡ Some (T.loaded_number x)) }
+{
+    T::from_stored(P::read(&bytes[..P::width()]))
+}
+
+// Appends the next `count` numbers, and gives the bytes behind them.
+fn append_numbers<'a, T: FromStored<P>, P: StoredNumber>(
+    values: &mut Vec<T>,
+    bytes: &'a [u8],
+    count: usize,
+) -> Result<&'a [u8]>
+    requires enough { P.byte_count * count ≤ list_length bytes.now }
+    ensures ok { IfOk result (λ rest. TookNumbers T.loaded P.spelled P.byte_count count bytes.now rest.now (map T.loaded_number values.old.items) (map T.loaded_number values.new.items)) }
+    ensures kept { list_length values.old.items ≤ list_length values.new.items }
+    ensures err { IfErr result (λ e. (e ≡ Error.Memory) ⊎ ((e ≡ Error.OutOfSpec S.S7) × OneIsOutside T.loaded P.spelled P.byte_count count bytes.now)) }
+{
+    values.reserve(count)?;
+    let mut rest = bytes;
+    for i in 0..count {
+        match load::<T, P>(rest) {
+            Some(number) => values.push(number)?,
+            None => return Err(Error::OutOfSpec(S::S7)),
+        }
+        rest = skip(rest, P::width());
+    }
+    Ok(rest)
+}
+
+// As many equal validities more.
+fn push_validities(validity: &mut MutableBitmap, is_valid: bool, count: usize) -> Result<()>
+    ensures ok { OnOk result (validity.new.0 ≡ validity.old.0 ++ replicate count is_valid) }
+    ensures err { IfErr result (λ e. (e ≡ Error.Memory) × (validity.new.0 ≡ validity.old.0)) }
+{
+    if count == 1 {
+        validity.push(is_valid)
+    } else {
+        validity.extend_constant(count, is_valid)
+    }
+}
+
+// As many equal numbers more.
+fn push_copies<T: Copy>(values: &mut Vec<T>, number: T, count: usize) -> Result<()>
+    ensures ok { OnOk result (values.new.items ≡ values.old.items ++ replicate count number) }
+    ensures kept { list_length values.old.items ≤ list_length values.new.items }
+    ensures err { IfErr result (λ e. e ≡ Error.Memory) }
+{
+    let Some(size) = values.len().checked_add(count) else {
+        return Err(Error::Memory);
+    };
+    values.resize(size, number)?;
+    Ok(())
+}
+
+impl<'a, T: FromStored<P>, P: StoredNumber> NestedDecoder<'a> for PrimitiveDecoder<T, P> {
+    ghost use Rattle.std.specs.Prelude.{map};
+    ghost use Rattle.read_leaf.specs.Numbers.{number_slots, stored_numbers};
+
+    type State = PlainNumbers<'a>;
+
+    type DecodedState = NumberValues<T>;
+
+    ghost left = { λ s. stored_numbers T.loaded P.spelled P.byte_count s.values.now };
+
+    ghost slots = { λ d. number_slots (map T.loaded_number d.0) d.1 };
+
+    ghost byte_limit = { 1 };
+
+    fn push_valid(
+        &self,
+        state: &mut PlainNumbers<'a>,
+        decoded: &mut NumberValues<T>,
+        count: usize,
+    ) -> Result<()>
+        ensures ok { OnOk result (Decodes count (stored_numbers T.loaded P.spelled P.byte_count state.old.values.now) (stored_numbers T.loaded P.spelled P.byte_count state.new.values.now) (number_slots (map T.loaded_number decoded.old.0) decoded.old.1) (number_slots (map T.loaded_number decoded.new.0) decoded.new.1)) }
+        ensures err { IfErr result (CannotDecode 1 count (stored_numbers T.loaded P.spelled P.byte_count state.old.values.now) (number_slots (map T.loaded_number decoded.old.0) decoded.old.1)) }
+    {
+        if state.values.len() / P::width() < count {
+            return Err(Error::OutOfSpec(S::S6));
+        }
+        let before = decoded.values.len();
+        match append_numbers::<T, P>(&mut decoded.values, state.values, count) {
+            Ok(rest) => state.values = rest,
+            Err(error) => {
+                decoded.values.truncate(before);
+                return Err(error);
+            }
+        }
+        match push_validities(&mut decoded.validity, true, count) {
+            Ok(()) => Ok(()),
+            Err(error) => {
+                decoded.values.truncate(before);
+                Err(error)
+            }
+        }
+    }
+
+    fn push_null(&self, decoded: &mut NumberValues<T>, count: usize) -> Result<()>
+        ensures ok { OnOk result (number_slots (map T.loaded_number decoded.new.0) decoded.new.1 ≡ number_slots (map T.loaded_number decoded.old.0) decoded.old.1 ++ replicate count null) }
+        ensures err { IfErr result (λ e. e ≡ Error.Memory) }
+    {
+        let before = decoded.values.len();
+        match push_copies(&mut decoded.values, T::zero(), count) {
+            Ok(()) => {}
+            Err(error) => {
+                decoded.values.truncate(before);
+                return Err(error);
+            }
+        }
+        match push_validities(&mut decoded.validity, false, count) {
+            Ok(()) => Ok(()),
+            Err(error) => {
+                decoded.values.truncate(before);
+                Err(error)
+            }
+        }
+    }
+}

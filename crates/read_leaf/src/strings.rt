@@ -1,0 +1,253 @@
+//! Texts and byte strings.
+ghost use Rattle.std.specs.Prelude.{◌≡◌, ◌⊎◌, ◌↔◌, IsTrue, ℕ, List, Bool, ◌+◌, ◌<◌, ◌≤◌, ◌++◌, ◌∷◌, [], true, Some, None, OnOk, IfErr, IfOk, MatchOption, replicate, length as list_length, take, drop};
+ghost use Rattle.columns_base.specs.declared.error.Error.{Error};
+ghost use Rattle.columns_base.specs.declared.error.V.{V};
+ghost use Rattle.shredding.specs.Slot.{bytes, null, value};
+ghost use Rattle.pq_numbers.specs.Texts.{number_of};
+ghost use Rattle.read_walk.specs.Values.{Decodes, CannotDecode, bytes_in};
+ghost use Rattle.read_leaf.specs.Strings.{string_at, stored_strings, string_slots, IsText};
+
+use crate::binary::Binary;
+use crate::cut::skip;
+use columns_base::{Error, Result, S, V};
+use columns_core::{MutableBitmap, Offset};
+use read_walk::NestedDecoder;
+use std::alloc::Global;
+use std::marker::{Model, PhantomData};
+
+/// Which byte strings are values of the leaf.
+pub trait StringKind {
+    ghost use Rattle.std.specs.Prelude.{List, ℕ, Bool};
+
+    // whether the string is a value of the leaf
+    ghost allows: { List ℕ → Bool };
+
+    /// Whether the string is a value of the leaf.
+    fn is_value(bytes: &[u8]) -> bool
+        ensures { result ≡ allows bytes.now };
+}
+
+/// Byte strings: all are values.
+#[derive(Clone, Copy, Debug, Drop)]
+pub struct Bytes;
+
+impl StringKind for Bytes {
+    ghost use Rattle.std.specs.Prelude.{true};
+
+    ghost allows = { λ s. true };
+
+    fn is_value(_bytes: &[u8]) -> bool {
+        true
+    }
+}
+
+#[tactic(auto, unfolding(crate::specs::Strings::IsText))]
+fn is_text(bytes: &[u8]) -> bool
+    ensures { IsTrue result ↔ IsText bytes.now }
+{
+    match std::str::from_utf8(bytes) {
+        Ok(_) => true,
+        Err(_) => false,
+    }
+}
+
+/// Texts: those in UTF-8 are values.
+#[derive(Clone, Copy, Debug, Drop)]
+pub struct Text;
+
+impl StringKind for Text {
+    ghost use Rattle.std.specs.Str.{is_utf8};
+
+    ghost allows = { is_utf8 };
+
+    fn is_value(bytes: &[u8]) -> bool {
+        is_text(bytes)
+    }
+}
+
+/// The plain bytes of a page's values that are left.
+#[derive(Debug, Drop)]
+pub struct PlainStrings<'a> {
+    pub values: &'a [u8],
+}
+
+/// Strings, and which of them are there.
+#[derive(Debug, Drop)]
+pub struct StringValues<O: Offset> {
+    strings: Binary<O>,
+    validity: MutableBitmap,
+}
+
+impl<O: Offset> Model for StringValues<O> {
+    ghost use Rattle.std.specs.Prelude.{List, Bool, ℕ};
+    ghost use Rattle.read_leaf.specs.Strings.{AreStrings};
+
+    ghost Value = { List (List ℕ) × List Bool };
+
+    ghost view = { λ d. (d.strings, d.validity.0) };
+
+    ghost invariant = { λ d. AreStrings d.strings d.validity.0 };
+}
+
+impl<O: Offset> StringValues<O> {
+    /// No string.
+    ///
+    /// # Errors
+    ///
+    /// `Memory`.
+    pub fn new(alloc: Global) -> Result<Self>
+        ensures strings { IfOk result (λ d. d.0 ≡ []) }
+        ensures validity { IfOk result (λ d. d.1 ≡ []) }
+        ensures err { IfErr result (λ e. e ≡ Error.Memory) }
+    {
+        Ok(StringValues {
+            strings: Binary::with_capacity(alloc, 0)?,
+            validity: MutableBitmap::new(alloc),
+        })
+    }
+
+    /// How many slots there are.
+    pub fn len(&self) -> usize
+        ensures { result ≡ list_length self.now.1 }
+    {
+        self.validity.len()
+    }
+
+    /// The strings, empty in the place of nulls, and which are there.
+    pub fn into_parts(self) -> (Binary<O>, MutableBitmap)
+        ensures strings { result.0 ≡ self.0 }
+        ensures validity { result.1.0 ≡ self.1 }
+        ensures even { list_length self.0 ≡ list_length self.1 }
+    {
+        (self.strings, self.validity)
+    }
+
+    // A string that is there.
+    fn push(&mut self, string: &[u8]) -> Result<()>
+        ensures ok { OnOk result (string_slots self.new.0 self.new.1 ≡ string_slots self.old.0 self.old.1 ++ value (bytes string.now) ∷ []) }
+        ensures err { IfErr result (λ e. (e ≡ Error.Memory) ⊎ ((e ≡ Error.Overflow V.V1) × (O.limit ≤ bytes_in (string_slots self.old.0 self.old.1) + list_length string.now))) }
+    {
+        self.validity.reserve(1)?;
+        match self.strings.push(string) {
+            Ok(()) => {}
+            Err(error) => return Err(error),
+        }
+        self.validity.push(true).unwrap();
+        Ok(())
+    }
+
+    // As many nulls.
+    fn push_nulls(&mut self, count: usize) -> Result<()>
+        ensures ok { OnOk result (string_slots self.new.0 self.new.1 ≡ string_slots self.old.0 self.old.1 ++ replicate count null) }
+        ensures err { IfErr result (λ e. e ≡ Error.Memory) }
+    {
+        self.validity.reserve(count)?;
+        match self.strings.extend_constant(count) {
+            Ok(()) => {}
+            Err(error) => return Err(error),
+        }
+        self.validity.extend_constant(count, false).unwrap();
+        Ok(())
+    }
+}
+
+// The number that the first four bytes spell.
+fn first_number(text: &[u8]) -> u32
+    requires { 4 ≤ list_length text.now }
+    ensures { result ≡ number_of (take 4 text.now) }
+{
+    match text {
+        [a, b, c, d, ..] => u32::from_le_bytes([*a, *b, *c, *d]),
+        _ => unreachable!(),
+    }
+}
+
+// The string at the front and the bytes behind it; none where any of them is cut.
+fn take_string(text: &[u8]) -> Option<(&[u8], &[u8])>
+    ensures { MatchOption result (string_at text.now ≡ None) (λ s. string_at text.now ≡ Some (s.0.now, s.1.now)) }
+{
+    if text.len() < 4 {
+        return None;
+    }
+    let count = first_number(text) as usize;
+    let behind = skip(text, 4);
+    if behind.len() < count {
+        return None;
+    }
+    Some(behind.split_at(count))
+}
+
+/// Decodes plain byte strings, of which `K` says which are values of the leaf.
+#[derive(Drop)]
+pub struct StringDecoder<O, K> {
+    offset: PhantomData<O>,
+    kind: PhantomData<K>,
+}
+
+impl<O, K> StringDecoder<O, K> {
+    pub fn new() -> Self {
+        StringDecoder {
+            offset: PhantomData,
+            kind: PhantomData,
+        }
+    }
+}
+
+// Takes the next string.
+fn push_next<'a, O: Offset, K: StringKind>(
+    state: &mut PlainStrings<'a>,
+    decoded: &mut StringValues<O>,
+) -> Result<()>
+    ensures ok { OnOk result (Decodes 1 (stored_strings K.allows state.old.values.now) (stored_strings K.allows state.new.values.now) (string_slots decoded.old.0 decoded.old.1) (string_slots decoded.new.0 decoded.new.1)) }
+    ensures err { IfErr result (CannotDecode O.limit 1 (stored_strings K.allows state.old.values.now) (string_slots decoded.old.0 decoded.old.1)) }
+{
+    match take_string(state.values) {
+        None => Err(Error::OutOfSpec(S::S6)),
+        Some((string, behind)) => {
+            if !K::is_value(string) {
+                return Err(Error::OutOfSpec(S::S7));
+            }
+            state.values = behind;
+            decoded.push(string)
+        }
+    }
+}
+
+impl<'a, O: Offset, K: StringKind> NestedDecoder<'a> for StringDecoder<O, K> {
+    ghost use Rattle.read_leaf.specs.Strings.{stored_strings, string_slots};
+
+    type State = PlainStrings<'a>;
+
+    type DecodedState = StringValues<O>;
+
+    ghost left = { λ s. stored_strings K.allows s.values.now };
+
+    ghost slots = { λ d. string_slots d.0 d.1 };
+
+    ghost byte_limit = { O.limit };
+
+    fn push_valid(
+        &self,
+        state: &mut PlainStrings<'a>,
+        decoded: &mut StringValues<O>,
+        count: usize,
+    ) -> Result<()>
+        ensures ok { OnOk result (Decodes count (stored_strings K.allows state.old.values.now) (stored_strings K.allows state.new.values.now) (string_slots decoded.old.0 decoded.old.1) (string_slots decoded.new.0 decoded.new.1)) }
+        ensures err { IfErr result (CannotDecode O.limit count (stored_strings K.allows state.old.values.now) (string_slots decoded.old.0 decoded.old.1)) }
+    {
+        for i in 0..count {
+            match push_next::<O, K>(state, decoded) {
+                Ok(()) => {}
+                Err(error) => return Err(error),
+            }
+        }
+        Ok(())
+    }
+
+    fn push_null(&self, decoded: &mut StringValues<O>, count: usize) -> Result<()>
+        ensures ok { OnOk result (string_slots decoded.new.0 decoded.new.1 ≡ string_slots decoded.old.0 decoded.old.1 ++ replicate count null) }
+        ensures err { IfErr result (λ e. e ≡ Error.Memory) }
+    {
+        decoded.push_nulls(count)
+    }
+}

@@ -1,0 +1,5 @@
+use Rattle.std.proofs.Common.{length}
+use Rattle.read_state.proofs.stretch.+push_to.Given as goal
+
+abbrev pub decreases-push_to : goal.decreases-push_to
+decreases-push_to l = length l.parts.now

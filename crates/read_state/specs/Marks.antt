@@ -1,0 +1,13 @@
+-- The pairs of a block as marks.
+use Rattle.std.specs.Prelude.{ℕ, Bool, false, not, ◌&&◌, nat_lt, List, [], ◌∷◌, slice_index, slice_index_or}
+use Rattle.read_laws.specs.Block.{Mark}
+use Rattle.read_laws.specs.Step.{pushes}
+
+abbrev pub marks_of : List ℕ → List ℕ → List Bool → List Mark
+marks_of (r ∷ rs) (d ∷ ds) (h ∷ hs) = record { repetition = r; definition = d; hidden = h } ∷ marks_of rs ds hs
+marks_of _ _ _ = []
+
+-- whether pair k pushes beneath a null of a part that is nullable or a struct
+abbrev pub hides_at : List ℕ → List ℕ → List Bool → ℕ → ℕ → Bool → Bool → ℕ → Bool
+hides_at reps defs hidden depth def nullable required k =
+    pushes (slice_index reps k) (slice_index defs k) (slice_index_or hidden k false) depth def && (required && not (nullable && nat_lt def (slice_index defs k)))

@@ -1,0 +1,155 @@
+//! The nested state.
+ghost use Rattle.std.specs.Prelude.{◌≡◌, ◌↔◌, ◌⊎◌, IsTrue, ℕ, ◌+◌, ◌*◌, ◌-◌, ◌<◌, ◌≤◌, ◌^◌, false, [], ◌∷◌, ◌++◌, MatchOption, replicate, IfErr, OnOk, List, slice_index_or, slice_set, length as list_length};
+ghost use Rattle.std.specs.Int.{w64, cast_unsigned};
+ghost use Rattle.columns_base.specs.declared.error.Error.{Error};
+ghost use Rattle.columns_base.specs.declared.error.V.{V};
+ghost use Rattle.shredding.specs.Shred.{max_definition, max_repetition};
+ghost use Rattle.shredding.specs.Local.{inside};
+ghost use Rattle.read_laws.specs.State.{Kept, kept_way, leaf_count, size, count as slot_count};
+ghost use Rattle.read_laws.specs.Step.{bit, pushed};
+ghost use Rattle.read_laws.specs.Block.{block, AllFit};
+ghost use Rattle.read_state.specs.Kinds.{all_kept, kept_box, part_at, HasLongItems};
+ghost use Rattle.read_state.specs.Marks.{marks_of};
+
+use crate::block::push_all;
+use crate::boxes::NestedBox;
+use crate::kinds::Nested;
+use crate::parts::{has_long_items, inside_of, leaf_len_of, lists_of, top_of};
+use crate::same::same_parts;
+use columns_base::{Error, Result, V};
+use std::marker::Model;
+
+/// What level pairs have built so far: a part for each node of the way to a leaf, the row's first. Contracts see what the parts keep.
+#[derive(Debug, Drop)]
+pub struct NestedState {
+    nested: Vec<NestedBox>,
+}
+
+impl Model for NestedState {
+    ghost use Rattle.std.specs.Prelude.{List};
+    ghost use Rattle.read_laws.specs.State.{Kept};
+    ghost use Rattle.read_state.specs.Kinds.{all_kept};
+
+    ghost Value = { List Kept };
+
+    ghost view = { λ s. all_kept s.nested.items };
+}
+
+impl NestedState {
+    /// The state of these parts.
+    pub fn new(nested: Vec<NestedBox>) -> Self
+        ensures { result ≡ all_kept nested.items }
+    {
+        NestedState { nested }
+    }
+
+    /// The number of slots: of pushes to the first part.
+    pub fn len(&self) -> usize
+        requires { 0 < list_length self.now }
+        ensures { result ≡ slot_count self.now }
+    {
+        self.nested[0].len()
+    }
+
+    /// The number of slots of the leaf.
+    pub fn leaf_len(&self) -> usize
+        ensures { result ≡ leaf_count self.now }
+    {
+        leaf_len_of(&self.nested)
+    }
+
+    /// The greatest definition level of the way to the leaf.
+    pub fn max_definition(&self) -> usize
+        ensures { result ≡ max_definition (kept_way self.now) }
+    {
+        top_of(&self.nested)
+    }
+
+    /// The greatest repetition level of the way to the leaf.
+    pub fn max_repetition(&self) -> usize
+        ensures { result ≡ max_repetition (kept_way self.now) }
+    {
+        lists_of(&self.nested)
+    }
+
+    /// The least definition level of a pair inside the list that it repeats in.
+    pub fn inside(&self, rep: usize) -> usize
+        ensures { result ≡ inside (kept_way self.now) rep }
+    {
+        inside_of(&self.nested, rep)
+    }
+
+    /// Takes the innermost part.
+    pub fn pop(&mut self) -> Option<NestedBox>
+        ensures { MatchOption result ((self.old ≡ []) × (self.new ≡ [])) (λ part. self.old ≡ self.new ++ kept_box part ∷ []) }
+    {
+        self.nested.pop()
+    }
+
+    /// Whether both have equally many parts, of the same kinds, which keep the same. Takes no memory.
+    pub fn same(&self, other: &NestedState) -> bool
+        ensures { IsTrue result ↔ self.now ≡ other.now }
+    {
+        same_parts(&self.nested, &other.nested)
+    }
+
+    /// One push more to the part at this place: the length of the part beneath it, and whether the slot is there.
+    ///
+    /// # Errors
+    ///
+    /// `Memory`; the state is then as before.
+    pub fn push_at(&mut self, depth: usize, length: i64, is_valid: bool) -> Result<()>
+        requires within { depth < list_length self.old }
+        requires counted { size (part_at self.old depth) < 2 ^ 64 - 1 }
+        ensures ok { OnOk result (self.new ≡ slice_set self.old depth (pushed (part_at self.old depth) (cast_unsigned w64 length) 0 is_valid 1)) }
+        ensures err { IfErr result (λ e. (e ≡ Error.Memory) × (self.new ≡ self.old)) }
+    {
+        self.push_run_at(depth, length.cast_unsigned() as usize, false, is_valid, 1)
+    }
+
+    /// `count` pushes more to the part at this place: the first where the part beneath has the length `first`, each other where it has one more
+    /// than at the one before if it `grows`, and else the same.
+    ///
+    /// # Errors
+    ///
+    /// `Memory`; the state is then as before.
+    pub fn push_run_at(
+        &mut self,
+        depth: usize,
+        first: usize,
+        grows: bool,
+        is_valid: bool,
+        count: usize,
+    ) -> Result<()>
+        requires within { depth < list_length self.old }
+        requires fits { first + count ≤ 2 ^ 64 }
+        ensures ok { OnOk result (self.new ≡ slice_set self.old depth (pushed (part_at self.old depth) first (bit grows) is_valid count)) }
+        ensures err { IfErr result (λ e. (e ≡ Error.Memory) × (self.new ≡ self.old)) }
+    {
+        self.nested[depth].push_run(first, grows, is_valid, count)
+    }
+
+    /// Pushes a block of at most 64 pairs to all parts.
+    ///
+    /// # Errors
+    ///
+    /// `Memory`, and V1 where with these pairs a part beneath a list has more slots than offsets of 64 bits count. Some parts may then have the
+    /// pushes.
+    pub fn push_levels(&mut self, reps: &[u32], defs: &[u32]) -> Result<()>
+        requires reps { list_length reps.now ≤ 64 }
+        requires defs { list_length defs.now ≡ list_length reps.now }
+        requires fits { AllFit (marks_of reps.now defs.now (replicate 64 false)) self.old }
+        ensures ok { OnOk result (self.new ≡ block (marks_of reps.now defs.now (replicate 64 false)) 0 0 self.old) }
+        ensures counted { OnOk result (HasLongItems self.new → ⊥) }
+        ensures err { IfErr result (λ e. (e ≡ Error.Memory) ⊎ ((e ≡ Error.Overflow V.V1) × HasLongItems (block (marks_of reps.now defs.now (replicate 64 false)) 0 0 self.old))) }
+    {
+        if has_long_items(&self.nested) {
+            return Err(Error::Overflow(V::V1));
+        }
+        push_all(&mut self.nested, reps, defs)?;
+        if has_long_items(&self.nested) {
+            return Err(Error::Overflow(V::V1));
+        }
+        Ok(())
+    }
+}

@@ -1,0 +1,10 @@
+pub mod BlocksTaken
+pub mod Decoding
+pub mod Eights
+pub mod Filling
+pub mod Following
+pub mod Grammar
+pub mod Maxima
+pub mod Refusing
+pub mod Walking
+pub mod Zips

@@ -1,0 +1,16 @@
+-- What is left of the levels of a page.
+use Rattle.std.specs.Prelude.{◌≡◌, ◌-◌, ◌≤◌, List, ◌++◌, length}
+use Rattle.read_walk.specs.LevelRuns.{runs_left, IsReading}
+use Rattle.read_walk.specs.Pairs.{Item, block_items, behind}
+use Rattle.read_walk.specs.declared.levels.Levels.{Levels}
+
+unfoldable pub levels_left : Levels → List Item
+levels_left l = block_items l.rep_block l.def_block l.at (l.end - l.at) ++ behind l.max_rep l.max_def l.failed (runs_left l.reps) (runs_left l.defs)
+
+pub record IsLevels (l : Levels) : Type 0 where
+  pub ordered : l.at ≤ l.end
+  pub within : l.end ≤ 64
+  pub rep_size : length l.rep_block ≡ 64
+  pub def_size : length l.def_block ≡ 64
+  pub reps : IsReading l.reps
+  pub defs : IsReading l.defs

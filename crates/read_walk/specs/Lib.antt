@@ -1,0 +1,9 @@
+pub mod Blocks
+pub mod Gives
+pub mod LevelRuns
+pub mod Levels
+pub mod Order
+pub mod Pairs
+pub mod Spelled
+pub mod Values
+pub mod Walk

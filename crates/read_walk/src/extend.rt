@@ -1,0 +1,96 @@
+//! The walk.
+ghost use Rattle.std.specs.Prelude.{◌≡◌, ◌⊎◌, ℕ, ◌<◌, ◌≤◌, OnOk, IfErr, IfOk, Option, Some, length};
+ghost use Rattle.read_laws.specs.State.{kept_way, leaf_count, StateFits};
+ghost use Rattle.read_walk.specs.Blocks.{TookBlock, CannotTake};
+ghost use Rattle.read_walk.specs.Order.{zipped, last_level, Follows, EndedAt, OneMayNot};
+ghost use Rattle.read_walk.specs.Walk.{Extends, Refuses};
+
+use crate::block::PairBlock;
+use crate::order::check_order;
+use crate::page::NestedPage;
+use crate::take::take_block;
+use crate::traits::NestedDecoder;
+use columns_base::Result;
+use read_state::NestedState;
+
+// Takes the pairs of a block, one or more, behind one of the definition level `before`.
+fn walk_block<'a, D: NestedDecoder<'a>>(
+    values: &mut D::State,
+    nested: &mut NestedState,
+    decoded: &mut D::DecodedState,
+    decoder: &D,
+    before: Option<usize>,
+    reps: &[u32],
+    defs: &[u32],
+) -> Result<()>
+    requires reps { length reps.now ≤ 64 }
+    requires defs { length defs.now ≡ length reps.now }
+    requires fits { StateFits nested.old }
+    requires ended { EndedAt before nested.old }
+    requires decoded { length (D.slots decoded.old) ≡ leaf_count nested.old }
+    ensures ok { OnOk result (Follows (kept_way nested.old) before (zipped reps.now defs.now) × TookBlock before reps.now defs.now nested.old nested.new (D.slots decoded.old) (D.slots decoded.new) (D.left values.old) (D.left values.new)) }
+    ensures err { IfErr result (λ e. OneMayNot (kept_way nested.old) before (zipped reps.now defs.now) e ⊎ CannotTake D.byte_limit reps.now defs.now nested.old (D.left values.old) (D.slots decoded.old) e) }
+{
+    match check_order(nested, before, reps, defs) {
+        Ok(()) => take_block(values, nested, decoded, decoder, before, reps, defs),
+        Err(error) => Err(error),
+    }
+}
+
+// The definition level of the last pair.
+fn last_of(reps: &[u32], defs: &[u32], before: Option<usize>) -> Option<usize>
+    requires { length defs.now ≡ length reps.now }
+    ensures { result ≡ last_level before (zipped reps.now defs.now) }
+{
+    if reps.len() == 0 {
+        return before;
+    }
+    Some(defs[reps.len() - 1] as usize)
+}
+
+/// Takes pairs of the page until `additional` rows are whole or the page ends. A row is whole where another begins or the page ends.
+///
+/// # Errors
+///
+/// Of the pairs that it would take, S4 where a level is missing or above its greatest, S5 where the first goes on with a row, S10 where a later
+/// one or the pair before it does not lie inside the list that it repeats in, V1 where with them a part beneath a list has more slots than
+/// offsets of 64 bits count, what the decoder is refused for (S6, S7, V1), and `Memory`. Nothing is said of `page`, `values`, `nested` and
+/// `decoded` then.
+pub fn extend_levels<'a, 'b, D: NestedDecoder<'b>>(
+    page: &mut NestedPage<'a>,
+    values: &mut D::State,
+    nested: &mut NestedState,
+    decoded: &mut D::DecodedState,
+    decoder: &D,
+    additional: usize,
+) -> Result<()>
+    requires fits { StateFits nested.old }
+    requires decoded { length (D.slots decoded.old) ≡ leaf_count nested.old }
+    ensures ok { OnOk result (Extends additional page.old page.new (D.left values.old) (D.left values.new) nested.old nested.new (D.slots decoded.old) (D.slots decoded.new)) }
+    ensures err { IfErr result (Refuses D.byte_limit additional page.old (D.left values.old) nested.old (D.slots decoded.old)) }
+{
+    let mut block = PairBlock::new();
+    let mut rows = additional;
+    let mut before = None;
+    'pairs: while let Some(taken) = page.next_block(rows, &mut block) {
+        let begun = match taken {
+            Ok(begun) => begun,
+            Err(error) => return Err(error),
+        };
+        match walk_block(
+            values,
+            nested,
+            decoded,
+            decoder,
+            before,
+            block.reps(),
+            block.defs(),
+        ) {
+            Ok(()) => {}
+            Err(error) => return Err(error),
+        }
+        before = last_of(block.reps(), block.defs(), before);
+        rows -= begun;
+    }
+    Ok(())
+}

@@ -1,0 +1,221 @@
+//! Level pairs in blocks of 64.
+ghost use Rattle.std.specs.Prelude.{◌≡◌, ◌⊎◌, ℕ, ◌+◌, ◌-◌, ◌<◌, ◌≤◌, ◌||◌, ◌&&◌, [], true, false, length, take, drop, slice_index, Ok, count_by};
+ghost use Rattle.read_walk.specs.LevelRuns.{IsReading};
+ghost use Rattle.read_walk.specs.Levels.{levels_left, IsLevels};
+ghost use Rattle.read_walk.specs.Pairs.{TakesBlock, TakesRun, is_within, rows_in, is_row};
+
+use crate::block::PairBlock;
+use crate::runs::{LevelRuns, fill, stop_runs};
+use columns_base::{Error, Result, S};
+
+/// The levels that were unpacked, from one place of a block to another, those that were not, and whether a fault stands behind the block.
+#[derive(Drop)]
+pub struct Levels<'a> {
+    pub reps: LevelRuns<'a>,
+    pub defs: LevelRuns<'a>,
+    pub max_rep: usize,
+    pub max_def: usize,
+    pub rep_block: [u32; 64],
+    pub def_block: [u32; 64],
+    pub at: usize,
+    pub end: usize,
+    pub failed: bool,
+}
+
+fn any(a: bool, b: bool, c: bool) -> bool
+    ensures { result ≡ (a || (b || c)) }
+{
+    a || (b || c)
+}
+
+fn either(a: bool, b: bool) -> bool
+    ensures { result ≡ (a || b) }
+{
+    a || b
+}
+
+fn is_within(rep: usize, def: usize, max_rep: usize, max_def: usize) -> bool
+    ensures { result ≡ is_within max_rep max_def (rep, def) }
+{
+    rep <= max_rep && def <= max_def
+}
+
+// How many pairs from the front on have no level above its greatest.
+fn count_within(reps: &[u32], defs: &[u32], end: usize, max_rep: usize, max_def: usize) -> usize
+    requires reps { end ≤ length reps.now }
+    requires defs { end ≤ length defs.now }
+    ensures within { result ≤ end }
+    ensures before { (k : ℕ) → k < result → is_within max_rep max_def (slice_index reps.now k, slice_index defs.now k) ≡ true }
+    ensures next { result < end → is_within max_rep max_def (slice_index reps.now result, slice_index defs.now result) ≡ false }
+{
+    for i in 0..end {
+        if !is_within(reps[i] as usize, defs[i] as usize, max_rep, max_def) {
+            return i;
+        }
+    }
+    end
+}
+
+// Unpacks the next block.
+fn refill<'a>(levels: &mut Levels<'a>)
+    requires is { IsLevels levels.old }
+    requires used { levels.old.at ≡ levels.old.end }
+    requires goes_on { levels.old.failed ≡ false }
+    ensures is { IsLevels levels.new }
+    ensures same { levels_left levels.new ≡ levels_left levels.old }
+    ensures ended { levels.new.at ≡ levels.new.end → levels.new.failed ≡ false → levels_left levels.new ≡ [] }
+{
+    let (reps, no_rep) = fill(&mut levels.reps, &mut levels.rep_block);
+    let (defs, no_def) = fill(&mut levels.defs, &mut levels.def_block);
+    let end = reps.min(defs);
+    levels.at = 0;
+    levels.end = count_within(
+        &levels.rep_block,
+        &levels.def_block,
+        end,
+        levels.max_rep,
+        levels.max_def,
+    );
+    levels.failed = either(any(no_rep, no_def, reps != defs), levels.end < end);
+}
+
+// Unpacks a block where the last one is used up.
+fn prepare<'a>(levels: &mut Levels<'a>)
+    requires is { IsLevels levels.old }
+    ensures is { IsLevels levels.new }
+    ensures same { levels_left levels.new ≡ levels_left levels.old }
+    ensures ended { levels.new.at ≡ levels.new.end → levels.new.failed ≡ false → levels_left levels.new ≡ [] }
+{
+    if levels.at == levels.end {
+        if !levels.failed {
+            refill(levels);
+        }
+    }
+}
+
+// How many of the pairs come before one that begins a row too many, and how many of them begin a row.
+fn cut_rows(reps: &[u32], rows: usize) -> (usize, usize)
+    ensures within { result.0 ≤ length reps.now }
+    ensures begun { result.1 ≡ rows_in (take result.0 reps.now) }
+    ensures few { result.1 ≤ rows }
+    ensures stops { result.0 < length reps.now → (slice_index reps.now result.0 ≡ 0) × (result.1 ≡ rows) }
+{
+    let mut begun = 0;
+    for i in 0..reps.len() {
+        if reps[i] == 0 {
+            if begun == rows {
+                return (i, begun);
+            }
+            begun += 1;
+        }
+    }
+    (reps.len(), begun)
+}
+
+// The levels from a place to another.
+fn part_of(levels: &[u32], at: usize, end: usize) -> &[u32]
+    requires ordered { at ≤ end }
+    requires within { end ≤ length levels.now }
+    ensures { result.now ≡ take (end - at) (drop at levels.now) }
+{
+    &levels[at..end]
+}
+
+/// The next pairs, of which at most `rows` begin a row, and how many do; none where no pair is left or one begins a row too many.
+///
+/// # Errors
+///
+/// S4 where a level of the next pair is missing or above its greatest.
+pub fn next_block<'a>(
+    levels: &mut Levels<'a>,
+    rows: usize,
+    block: &mut PairBlock,
+) -> Option<Result<usize>>
+    requires is { IsLevels levels.old }
+    ensures is { IsLevels levels.new }
+    ensures taken { TakesBlock rows (levels_left levels.old) result block.new.0 block.new.1 (levels_left levels.new) }
+{
+    prepare(levels);
+    if levels.at == levels.end {
+        if levels.failed {
+            return Some(Err(Error::OutOfSpec(S::S4)));
+        }
+        return None;
+    }
+    let reps = part_of(&levels.rep_block, levels.at, levels.end);
+    let (count, begun) = cut_rows(reps, rows);
+    if count == 0 {
+        return None;
+    }
+    let end = levels.at + count;
+    let reps = part_of(&levels.rep_block, levels.at, end);
+    let defs = part_of(&levels.def_block, levels.at, end);
+    block.copy(reps, defs);
+    levels.at = end;
+    Some(Ok(begun))
+}
+
+// How many pairs from a place on are equal.
+fn alike(reps: &[u32], defs: &[u32], at: usize, end: usize) -> usize
+    requires some { at < end }
+    requires reps { end ≤ length reps.now }
+    requires defs { end ≤ length defs.now }
+    ensures some { 0 < result }
+    ensures within { at + result ≤ end }
+    ensures alike { (k : ℕ) → k < result → (slice_index reps.now (at + k) ≡ slice_index reps.now at) × (slice_index defs.now (at + k) ≡ slice_index defs.now at) }
+{
+    let rep = reps[at];
+    let def = defs[at];
+    let mut count = 1;
+    while at + count < end {
+        if reps[at + count] != rep {
+            break;
+        }
+        if defs[at + count] != def {
+            break;
+        }
+        count += 1;
+    }
+    count
+}
+
+// Nothing is left.
+fn stop<'a>(levels: &mut Levels<'a>)
+    requires is { IsLevels levels.old }
+    ensures is { IsLevels levels.new }
+    ensures none { levels_left levels.new ≡ [] }
+{
+    stop_runs(&mut levels.reps);
+    stop_runs(&mut levels.defs);
+    levels.at = 0;
+    levels.end = 0;
+    levels.failed = false;
+}
+
+/// The next equal pairs of a block, at most `limit`; none at the end.
+///
+/// # Errors
+///
+/// S4 where a level of the next pair is missing or above its greatest; nothing is left then.
+pub fn next_run<'a>(levels: &mut Levels<'a>, limit: usize) -> Option<Result<(u32, u32, usize)>>
+    requires is { IsLevels levels.old }
+    requires some { 0 < limit }
+    ensures is { IsLevels levels.new }
+    ensures taken { TakesRun limit (levels_left levels.old) result (levels_left levels.new) }
+{
+    prepare(levels);
+    if levels.at == levels.end {
+        if levels.failed {
+            stop(levels);
+            return Some(Err(Error::OutOfSpec(S::S4)));
+        }
+        return None;
+    }
+    let rep = levels.rep_block[levels.at];
+    let def = levels.def_block[levels.at];
+    let room = limit.min(levels.end - levels.at);
+    let end = levels.at + room;
+    let count = alike(&levels.rep_block, &levels.def_block, levels.at, end);
+    levels.at += count;
+    Some(Ok((rep, def, count)))
+}

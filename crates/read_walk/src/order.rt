@@ -1,0 +1,162 @@
+//! Whether pairs may follow one another.
+ghost use Rattle.std.specs.Prelude.{◌≡◌, ◌⊎◌, ℕ, ◌+◌, ◌<◌, ◌≤◌, OnOk, IfErr, IsTrue, IfSome, Some, Option, length, slice_index};
+ghost use Rattle.shredding.specs.Shred.{max_definition, max_repetition};
+ghost use Rattle.shredding.specs.Local.{inside};
+ghost use Rattle.read_laws.specs.State.{kept_way};
+ghost use Rattle.read_walk.specs.Order.{zipped, Follows, MayCome, WhyNot, OneMayNot, PlainlyFollow};
+
+use columns_base::{Error, Result, S};
+use read_state::NestedState;
+
+// Whether a pair that repeats and the one before it lie inside the list that it repeats in.
+fn check_repeated(nested: &NestedState, before: usize, rep: usize, level: usize) -> Result<()>
+    requires { 0 < rep }
+    ensures ok { OnOk result (MayCome (kept_way nested.now) (Some before) (rep, level)) }
+    ensures err { IfErr result (WhyNot (kept_way nested.now) (Some before) (rep, level)) }
+{
+    let inside = nested.inside(rep);
+    if before < inside {
+        return Err(Error::OutOfSpec(S::S10));
+    }
+    if level < inside {
+        return Err(Error::OutOfSpec(S::S10));
+    }
+    Ok(())
+}
+
+// Whether a pair may come behind one of the definition level `before`.
+fn check_pair(
+    nested: &NestedState,
+    before: Option<usize>,
+    rep: usize,
+    level: usize,
+    lists: usize,
+    top: usize,
+) -> Result<()>
+    requires lists { lists ≡ max_repetition (kept_way nested.now) }
+    requires top { top ≡ max_definition (kept_way nested.now) }
+    ensures ok { OnOk result ((rep ≤ max_repetition (kept_way nested.now)) × (level ≤ max_definition (kept_way nested.now)) × MayCome (kept_way nested.now) before (rep, level)) }
+    ensures err { IfErr result (WhyNot (kept_way nested.now) before (rep, level)) }
+{
+    if rep > lists {
+        return Err(Error::OutOfSpec(S::S4));
+    }
+    if level > top {
+        return Err(Error::OutOfSpec(S::S4));
+    }
+    if rep == 0 {
+        return Ok(());
+    }
+    match before {
+        Some(before) => check_repeated(nested, before, rep, level),
+        None => Err(Error::OutOfSpec(S::S5)),
+    }
+}
+
+// Whether each pair may come, one by one.
+fn check_each(
+    nested: &NestedState,
+    before: Option<usize>,
+    reps: &[u32],
+    defs: &[u32],
+    lists: usize,
+    top: usize,
+) -> Result<()>
+    requires defs { length defs.now ≡ length reps.now }
+    requires lists { lists ≡ max_repetition (kept_way nested.now) }
+    requires top { top ≡ max_definition (kept_way nested.now) }
+    ensures ok { OnOk result (Follows (kept_way nested.now) before (zipped reps.now defs.now)) }
+    ensures err { IfErr result (OneMayNot (kept_way nested.now) before (zipped reps.now defs.now)) }
+{
+    let mut last = before;
+    for j in 0..reps.len() {
+        let level = defs[j] as usize;
+        match check_pair(nested, last, reps[j] as usize, level, lists, top) {
+            Ok(()) => last = Some(level),
+            Err(error) => return Err(error),
+        }
+    }
+    Ok(())
+}
+
+// A level that none of these is above.
+fn greatest(levels: &[u32]) -> u32
+    ensures { (k : ℕ) → k < length levels.now → slice_index levels.now k ≤ result }
+{
+    let mut most = 0;
+    for level in levels {
+        most = most.max(*level);
+    }
+    most
+}
+
+// A level that none of these is below.
+fn least(levels: &[u32]) -> u32
+    ensures { (k : ℕ) → k < length levels.now → result ≤ slice_index levels.now k }
+{
+    let mut few = u32::MAX;
+    for level in levels {
+        few = few.min(*level);
+    }
+    few
+}
+
+// Whether there was a pair, of this definition level or a greater one.
+fn reaches(before: Option<usize>, level: usize) -> bool
+    ensures { IsTrue result → (b : ℕ) × (before ≡ Some b) × (level ≤ b) }
+{
+    match before {
+        Some(before) => level <= before,
+        None => false,
+    }
+}
+
+// Whether the pairs plainly may come: they begin rows, or all lie inside the innermost list.
+fn plainly_follow(
+    before: Option<usize>,
+    reps: &[u32],
+    defs: &[u32],
+    lists: usize,
+    top: usize,
+    floor: usize,
+) -> bool
+    requires defs { length defs.now ≡ length reps.now }
+    ensures { IsTrue result → PlainlyFollow before reps.now defs.now lists top floor }
+{
+    let deepest = greatest(reps) as usize;
+    if deepest > lists {
+        return false;
+    }
+    if greatest(defs) as usize > top {
+        return false;
+    }
+    if deepest == 0 {
+        return true;
+    }
+    floor <= least(defs) as usize && reaches(before, floor)
+}
+
+/// Whether the pairs may come behind one of the definition level `before`, one after another.
+///
+/// # Errors
+///
+/// Of one of the pairs: S4 where a level is above its greatest, S5 where it goes on with a row and no pair came before, S10 where it or the pair
+/// before it does not lie inside the list that it repeats in.
+pub fn check_order(
+    nested: &NestedState,
+    before: Option<usize>,
+    reps: &[u32],
+    defs: &[u32],
+) -> Result<()>
+    requires defs { length defs.now ≡ length reps.now }
+    ensures ok { OnOk result (Follows (kept_way nested.now) before (zipped reps.now defs.now)) }
+    ensures err { IfErr result (OneMayNot (kept_way nested.now) before (zipped reps.now defs.now)) }
+{
+    let lists = nested.max_repetition();
+    let top = nested.max_definition();
+    let floor = nested.inside(lists);
+    if plainly_follow(before, reps, defs, lists, top, floor) {
+        return Ok(());
+    }
+    check_each(nested, before, reps, defs, lists, top)
+}

@@ -1,0 +1,49 @@
+//! What the walk decodes values with.
+ghost use Rattle.std.specs.Prelude.{◌≡◌, List, ◌++◌, ℕ, replicate, OnOk, IfErr};
+ghost use Rattle.columns_base.specs.declared.error.Error.{Error};
+ghost use Rattle.shredding.specs.Slot.{Slot, null};
+ghost use Rattle.read_walk.specs.Values.{Stored, Decodes, CannotDecode};
+
+use columns_base::{Error, Result};
+
+/// Decodes the values of a leaf.
+pub trait NestedDecoder<'a> {
+    /// The stored values that a page still gives.
+    type State;
+
+    /// What was decoded: slots of the leaf.
+    type DecodedState;
+
+    // the stored values that are left, as values of the leaf
+    ghost left: { Self.State → List Stored };
+
+    // the slots that were decoded
+    ghost slots: { Self.DecodedState → List Slot };
+
+    // one above the greatest number of bytes that the offsets of texts and byte strings count; 1 for a leaf without bytes
+    ghost byte_limit: { ℕ };
+
+    /// The next `count` stored values, each as a slot.
+    ///
+    /// # Errors
+    ///
+    /// S6 where fewer are stored, S7 where one is no value of the leaf's type, V1 where their bytes are more than offsets count, and `Memory`.
+    /// Nothing is said of the state and the slots then.
+    fn push_valid(
+        &self,
+        state: &mut Self::State,
+        decoded: &mut Self::DecodedState,
+        count: usize,
+    ) -> Result<()>
+        ensures ok { OnOk result (Decodes count (left state.old) (left state.new) (slots decoded.old) (slots decoded.new)) }
+        ensures err { IfErr result (CannotDecode byte_limit count (left state.old) (slots decoded.old)) };
+
+    /// `count` null slots.
+    ///
+    /// # Errors
+    ///
+    /// `Memory`.
+    fn push_null(&self, decoded: &mut Self::DecodedState, count: usize) -> Result<()>
+        ensures ok { OnOk result (slots decoded.new ≡ slots decoded.old ++ replicate count null) }
+        ensures err { IfErr result (λ e. e ≡ Error.Memory) };
+}

@@ -1,0 +1,9 @@
+pub mod AlongPath
+pub mod ArrayColumns
+pub mod ColumnLists
+pub mod Moved
+pub mod PageRows
+pub mod PageTable
+pub mod PiecesLeft
+pub mod RowRule
+pub mod StoredOnce

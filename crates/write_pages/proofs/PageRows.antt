@@ -1,0 +1,132 @@
+-- What a page of a path holds of the rows of its array.
+use Rattle.std.proofs.Common.{◌≡◌, ◌≢◌, ◌⊎◌, ◌↔◌, ◌<◌, cond, ◌-◌, ◌^◌, ℕ, min, Bool, true, false, true≢false, Some, None, suc, List, [], ◌∷◌, length, refl, sym, ap, subst, ◌∙◌, inl, inr}
+use Rattle.std.specs.Prelude.{Result, Ok, Err, IfOk}
+use Rattle.shredding.specs.Parts.{Part, path_way, path_slots}
+use Rattle.shredding.specs.Shape.{LeafType}
+use Rattle.shredding.specs.Shred.{Triple, column}
+use Rattle.shredding.specs.Slot.{Slot, Value}
+use Rattle.std.specs.List.{AllZip}
+use Rattle.columns_base.specs.declared.error.Error.{Error}
+use Rattle.columns_base.specs.declared.error.Error.TheVariants.{Memory}
+use Rattle.columns_core.specs.Shapes.{base, leaf_type}
+use Rattle.columns_slots.specs.Slots.{IsSound, tree_len, type_of}
+use Rattle.columns_slots.specs.Tree.{ArrayTree}
+use Rattle.levels.specs.declared.nested.Nested.{Nested}
+use Rattle.levels.specs.Nested.{parts_of, nested_column}
+use Rattle.nested_paths.specs.LeafNulls.{value_at}
+use Rattle.nested_paths.specs.Seen.{leaf_slot}
+use Rattle.pq_tree.specs.Physical.{Physical}
+use Rattle.pq_tree.specs.Reads.{ComesWhere}
+use Rattle.pq_tree.specs.TreeViews.{leaf_view}
+use Rattle.pq_tree.specs.declared.types.Encoding.{Encoding as RustEncoding}
+use Rattle.pq_tree.specs.declared.types.Encoding.TheVariants as E
+use Rattle.pq_tree.specs.declared.types.PrimitiveType.{PrimitiveType}
+use Rattle.pq_files.specs.Layout.{plain_length}
+use Rattle.pq_files.specs.Page.{plain, values_in}
+use Rattle.pq_files.specs.Room.{room, max_size}
+use Rattle.pq_files.specs.Statistics.{HasStatistics}
+use Rattle.pq_files.specs.Stored.{IsStoredTriple, AreStored}
+use Rattle.pq_pages.specs.DataPages.{DataPageValue}
+use Rattle.write_places.specs.Places.{path_places}
+use Rattle.write_places.proofs.Values.{values_are_at_places}
+use Rattle.write_values.specs.declared.measured.Measured.{Measured}
+use Rattle.write_values.specs.Pages.{IsPlainPage, column_room, plain_out, stored_column, value_column}
+use Rattle.write_values.specs.Rows.{Measures}
+use Rattle.write_values.specs.Served.{is_served}
+use Rattle.write_values.specs.Stored.{stored_at}
+use Rattle.write_values.proofs.ServedColumns.{column_stored, slots_are_values}
+use Rattle.write_pages.specs.declared.options.WriteOptions.{WriteOptions}
+use Rattle.write_pages.specs.Holds.{HoldsRows, encoding_view, is_flat_path, written_encoding}
+use Rattle.write_pages.specs.Refused.{IsPastRoom, IsUnwritten}
+use Rattle.write_pages.specs.Sized.{AreMeasured}
+use Rattle.write_pages.proofs.StoredOnce.{stored_once}
+
+pub each_ok : {A : Type 0} (r : Result A Error) (P Q : A → Type 0) → ((x : A) → P x → Q x) → IfOk r P → IfOk r Q
+each_ok (Ok x) P Q f h = f x h
+each_ok (Err e) P Q f h = h
+
+pub comes_as : {A : Type 0} (reason : Error) (C D : Type 0) → (C → D) → (D → C) → (r : Result A Error) → ComesWhere reason C r → ComesWhere reason D r
+comes_as reason C D f g (Ok x) h = λ d. h (g d)
+comes_as reason C D f g (Err e) h = by_cause h
+  where
+    by_cause : (e ≡ Memory) ⊎ ((e ≡ reason) ↔ C) → (e ≡ Memory) ⊎ ((e ≡ reason) ↔ D)
+    by_cause (inl m) = inl m
+    by_cause (inr c) = inr (λ x. f (c.0 x), λ d. c.1 (g d))
+
+-- values that are not measured by statistics
+no_statistics : (b : Bool) (t : LeafType) (p : Physical) (ts : List Triple) → b ≡ false → HasStatistics b t p None ts (values_in ts)
+no_statistics false t p ts e = tt
+no_statistics true t p ts e = absurd (true≢false e)
+
+module _ (a : ArrayTree) (p : Physical) (nested : List Nested) (s : IsSound a) (e : is_served (base (type_of a)) p ≡ true) where
+  abbrev ts : List Triple
+  ts = column (path_way (parts_of nested)) (path_slots (leaf_slot a) (parts_of nested))
+
+  -- the column of the values is that of the rows
+  column_is : nested_column (value_at a) nested ≡ ts
+  column_is = ap (λ (f : ℕ → Slot). column (path_way (parts_of nested)) (path_slots f (parts_of nested))) (λ k i. slots_are_values a p i s e k)
+
+  pub rows_stored : AreStored (leaf_type (type_of a)) p (value_column a nested) (stored_column a p nested) → AreStored (leaf_type (type_of a)) p ts (stored_column a p nested)
+  rows_stored h = subst (λ (xs : List Triple). AreStored (leaf_type (type_of a)) p xs (stored_column a p nested)) column_is h
+
+  pub holds_rows : (o : WriteOptions) (type_ : PrimitiveType) (page : DataPageValue) → o.write_statistics ≡ false → AreStored (leaf_type (type_of a)) p (value_column a nested) (stored_column a p nested) → IsPlainPage o.version p (stored_at a p) type_ nested page
+      → HoldsRows o plain (leaf_type (type_of a)) (leaf_view type_) p (path_way (parts_of nested)) (path_slots (leaf_slot a) (parts_of nested)) page
+  holds_rows o type_ page f are h = record {
+    out = plain_out (stored_column a p nested);
+    denotes = h.denotes;
+    triples = rows_stored are;
+    encoding = refl;
+    statistics = no_statistics o.write_statistics (leaf_type (type_of a)) p ts f;
+    within = h.within;
+    about = ap leaf_view h.about;
+    repeats = h.repeats;
+    defines = h.defines;
+  }
+
+  -- the room of the page, whatever is stored
+  length_is : (stored : List Triple) → AreStored (leaf_type (type_of a)) p ts stored → length ts ≡ length stored
+  length_is stored are = zip_long ts stored are
+    where
+      zip_long : (xs ys : List Triple) → AllZip (IsStoredTriple (leaf_type (type_of a)) p) xs ys → length xs ≡ length ys
+      zip_long [] [] h = refl
+      zip_long (x ∷ xs) (y ∷ ys) h = ap suc (zip_long xs ys h.1)
+      zip_long [] (y ∷ ys) h = absurd h
+      zip_long (x ∷ xs) [] h = absurd h
+
+  pub room_is_past : AreStored (leaf_type (type_of a)) p (value_column a nested) (stored_column a p nested) → max_size < column_room p (stored_column a p nested) → IsPastRoom (leaf_type (type_of a)) p ts
+  room_is_past are h =
+      let all = rows_stored are in
+      (stored_column a p nested, all, subst (λ (n : ℕ). max_size < room n (plain_length p (values_in (stored_column a p nested)))) (sym (length_is (stored_column a p nested) all)) h)
+
+  pub is_past_room : AreStored (leaf_type (type_of a)) p (value_column a nested) (stored_column a p nested) → IsPastRoom (leaf_type (type_of a)) p ts → max_size < column_room p (stored_column a p nested)
+  is_past_room are h =
+      let all = rows_stored are in
+      let same : h.0 ≡ stored_column a p nested = stored_once (leaf_type (type_of a)) (base (type_of a)) p ts h.0 (stored_column a p nested) e h.1 all in
+      subst (λ (n : ℕ). max_size < room n (plain_length p (values_in (stored_column a p nested)))) (length_is (stored_column a p nested) all)
+      (subst (λ (xs : List Triple). max_size < room (length ts) (plain_length p (values_in xs))) same h.2)
+
+  -- what is measured is the stored column's
+  pub are_measured : (m : Measured) → Measures p (tree_len a) (stored_at a p) (path_places (parts_of nested)) m → AreMeasured (leaf_type (type_of a)) p (path_way (parts_of nested)) (path_slots (leaf_slot a) (parts_of nested)) m.plain
+  are_measured m h = record {
+    stored = stored_column a p nested;
+    are_stored = rows_stored (column_stored a p nested s e h.within);
+    bytes = h.plain ∙ ap (λ (vs : List Value). min (plain_length p vs) (2 ^ 128 - 1)) (sym (values_are_at_places (stored_at a p) nested));
+  }
+
+-- a flat path in another encoding than PLAIN is not written
+pub written_plain : (o : WriteOptions) (parts : List Part) (e : RustEncoding) → ¬ IsUnwritten o parts e → written_encoding parts e ≡ Some plain
+written_plain o parts e h = by_path (is_flat_path parts) refl
+  where
+    by_name : (e : RustEncoding) → ¬ (e ≢ E.Plain) → encoding_view e ≡ Some plain
+    by_name E.Plain h = refl
+    by_name E.PlainDictionary h = absurd (h (λ q. cc))
+    by_name E.Rle h = absurd (h (λ q. cc))
+    by_name E.BitPacked h = absurd (h (λ q. cc))
+    by_name E.DeltaBinaryPacked h = absurd (h (λ q. cc))
+    by_name E.DeltaLengthByteArray h = absurd (h (λ q. cc))
+    by_name E.DeltaByteArray h = absurd (h (λ q. cc))
+    by_name E.RleDictionary h = absurd (h (λ q. cc))
+
+    by_path : (b : Bool) → is_flat_path parts ≡ b → cond b (encoding_view e) (Some plain) ≡ Some plain
+    by_path false q = refl
+    by_path true q = by_name e (λ n. h (inr (q, n)))

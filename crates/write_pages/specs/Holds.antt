@@ -1,0 +1,114 @@
+-- What a page holds of an array's rows (Parquet format, "Data Pages", "Nested Encoding").
+use Rattle.std.specs.Prelude.{◌≡◌, ℕ, ◌≤◌, pos, Bool, true, false, Option, Some, None, List, [], length, drop, nat_eq, cond}
+use Rattle.shredding.specs.Cut.{cut}
+use Rattle.shredding.specs.Parts.{Part, path_way}
+use Rattle.shredding.specs.Shape.{LeafType, Way}
+use Rattle.shredding.specs.Shred.{Triple, column, max_repetition, max_definition}
+use Rattle.shredding.specs.Slot.{Slot}
+use Rattle.columns_core.specs.Shapes.{leaf_type}
+use Rattle.columns_slots.specs.Slots.{type_of}
+use Rattle.columns_slots.specs.Tree.{ArrayTree}
+use Rattle.levels.specs.InBounds.{bounded_slots}
+use Rattle.nested_paths.specs.Seen.{leaf_slot}
+use Rattle.pq_tree.specs.declared.types.Encoding.{Encoding as RustEncoding}
+use Rattle.pq_tree.specs.declared.types.Encoding.TheVariants as E
+use Rattle.pq_tree.specs.declared.types.PrimitiveType.{PrimitiveType}
+use Rattle.pq_tree.specs.Physical.{Physical}
+use Rattle.pq_tree.specs.Tree.{Tree}
+use Rattle.pq_tree.specs.TreeViews.{leaf_view}
+use Rattle.pq_tree.specs.Views.{physical_view}
+use Rattle.pq_files.specs.Layout.{OutPage, plain_length}
+use Rattle.pq_files.specs.Page.{Encoding, plain, dictionary, delta, delta_length, values_in}
+use Rattle.pq_files.specs.Room.{room, max_size}
+use Rattle.pq_files.specs.Statistics.{HasStatistics}
+use Rattle.pq_files.specs.Stored.{AreStored}
+use Rattle.pq_pages.specs.DataPages.{DataPageValue}
+use Rattle.pq_pages.specs.Denotes.{Denotes}
+use Rattle.write_pages.specs.declared.options.WriteOptions.{WriteOptions}
+use Rattle.write_pages.specs.Rule.{pieces_by_rule}
+
+-- the encodings of pages, by the names that a writer is asked for
+abbrev pub encoding_view : RustEncoding → Option Encoding
+encoding_view E.Plain = Some plain
+encoding_view E.PlainDictionary = Some dictionary
+encoding_view E.RleDictionary = Some dictionary
+encoding_view E.DeltaBinaryPacked = Some delta
+encoding_view E.DeltaLengthByteArray = Some delta_length
+encoding_view e = None
+
+-- a path of no more than its leaf
+abbrev pub is_flat_path : List Part → Bool
+is_flat_path parts = nat_eq (length parts) 1
+
+-- the encoding of a page: of a flat path the one that is asked for, of every other one PLAIN
+abbrev pub written_encoding : List Part → RustEncoding → Option Encoding
+written_encoding parts e = cond (is_flat_path parts) (encoding_view e) (Some plain)
+
+-- A page of some rows along a way, whose leaf is of the leaf type and of this node and physical type. It denotes the rows' column, with the
+-- stored value of each value, in the encoding, within its room, and with statistics exactly where they are asked for. Its descriptor is the
+-- node with the greatest levels of the way.
+pub record HoldsRows (o : WriteOptions) (e : Encoding) (t : LeafType) (node : Tree) (p : Physical) (w : Way) (rows : List Slot) (page : DataPageValue) : Type 0 where
+  pub out : OutPage
+  pub denotes : Denotes o.version p (max_repetition w) (max_definition w) None out page
+  pub triples : AreStored t p (column w rows) out.triples
+  pub encoding : out.encoding ≡ e
+  pub statistics : HasStatistics o.write_statistics t p out.statistics (column w rows) (values_in (column w rows))
+  pub within : room (length out.triples) (plain_length p (values_in out.triples)) ≤ max_size
+  pub about : leaf_view page.descriptor.primitive_type ≡ node
+  pub repeats : page.descriptor.max_rep_level ≡ pos (max_repetition w)
+  pub defines : page.descriptor.max_def_level ≡ pos (max_definition w)
+
+-- the rows of a path in bounds over a leaf array, whatever lies beneath nulls
+abbrev pub rows_of : List Part → ArrayTree → List Slot
+rows_of parts a = bounded_slots (leaf_slot a) parts
+
+-- Pages that are still to be given: how, of which column, and for each page the rows that it is to hold.
+pub record ToGive : Type 0 where
+  pub options : WriteOptions
+  pub type : LeafType
+  pub node : Tree
+  pub physical : Physical
+  pub way : Way
+  pub pieces : List (List Slot)
+
+-- the pieces of so many rows that are left from a row on, and none after an error
+abbrev pub pieces_left : Bool → ℕ → ℕ → List Slot → List (List Slot)
+pieces_left true per_page next rows = []
+pieces_left false per_page next rows = cut (drop next rows) (Some per_page)
+
+-- What an iterator over pages keeps: the array, its path, the next row, the rows of a page, and whether it gave an error.
+pub record PageState : Type 0 where
+  pub options : WriteOptions
+  pub type_ : PrimitiveType
+  pub array : ArrayTree
+  pub parts : List Part
+  pub next : ℕ
+  pub per_page : ℕ
+  pub has_failed : Bool
+
+-- the pages that it is still to give
+abbrev pub to_give : PageState → ToGive
+to_give s =
+    record {
+      options = s.options;
+      type = leaf_type (type_of s.array);
+      node = leaf_view s.type_;
+      physical = physical_view s.type_.physical_type;
+      way = path_way s.parts;
+      pieces = pieces_left s.has_failed s.per_page s.next (rows_of s.parts s.array);
+    }
+
+-- without the first piece, and without any
+abbrev pub later : ToGive → List (List Slot) → ToGive
+later g pieces = record { options = g.options; type = g.type; node = g.node; physical = g.physical; way = g.way; pieces = pieces }
+
+-- The pages of a column by the row rule: those of the rows of the path over the leaf array.
+pub record IsPagesOf (o : WriteOptions) (type_ : PrimitiveType) (parts : List Part) (a : ArrayTree) (g : ToGive) : Type 0 where
+  pub options : g.options ≡ o
+  pub type : g.type ≡ leaf_type (type_of a)
+  pub node : g.node ≡ leaf_view type_
+  pub physical : g.physical ≡ physical_view type_.physical_type
+  pub way : g.way ≡ path_way parts
+  pub stored : List Triple
+  pub are_stored : AreStored (leaf_type (type_of a)) (physical_view type_.physical_type) (column (path_way parts) (rows_of parts a)) stored
+  pub pieces : g.pieces ≡ pieces_by_rule o.data_pagesize_limit (plain_length (physical_view type_.physical_type) (values_in stored)) (rows_of parts a)

@@ -1,0 +1,7 @@
+pub mod Fits
+pub mod Holds
+pub mod Refused
+pub mod Rule
+pub mod Sized
+pub mod Columns
+pub mod CutColumns

@@ -1,0 +1,134 @@
+//! Whether a column can be written: its path and type fit its array, and its pages are ones that are written.
+ghost use Rattle.std.specs.Prelude.{◌≡◌, ◌⊎◌, ◌↔◌, IsTrue, true, false, length, OnOk, IfErr};
+ghost use Rattle.columns_base.specs.declared.error.Error.TheVariants.{InvalidArgumentError, NotYetImplemented};
+ghost use Rattle.columns_base.specs.declared.error.A.TheVariants.{A8};
+ghost use Rattle.columns_base.specs.declared.error.N.TheVariants.{N4, N5};
+ghost use Rattle.columns_array.specs.Boxed.{boxed};
+ghost use Rattle.columns_core.specs.Shapes.{base};
+ghost use Rattle.columns_core.specs.View.{type_view};
+ghost use Rattle.columns_slots.specs.Slots.{type_of};
+ghost use Rattle.levels.specs.InBounds.{IsInBounds};
+ghost use Rattle.levels.specs.Nested.{parts_of};
+ghost use Rattle.nested_paths.specs.Nodes.{is_optional};
+ghost use Rattle.nested_paths.specs.PathLeaf.{is_leaf_optional, FitsLeaf};
+ghost use Rattle.pq_tree.specs.TreeViews.{leaf_view};
+ghost use Rattle.pq_tree.specs.Views.{physical_view};
+ghost use Rattle.pq_tree.specs.declared.types.Encoding.TheVariants as E;
+ghost use Rattle.write_values.specs.Served.{is_served};
+ghost use Rattle.write_pages.specs.Fits.{FitsColumn, is_written};
+ghost use Rattle.write_pages.specs.Holds.{is_flat_path, rows_of};
+ghost use Rattle.write_pages.specs.Refused.{IsUnwritten};
+
+use crate::options::WriteOptions;
+use columns_array::ArrayBox;
+use columns_core::{A, DataType, Error, N, Result};
+use levels::{Nested, is_in_bounds};
+use nested_paths::fits_leaf;
+use pq_tree::{Encoding, PhysicalType, PrimitiveType, Repetition};
+use write_values::is_served;
+
+const MISFIT: Error = Error::InvalidArgumentError(A::A8);
+
+fn is_flat(nested: &[Nested]) -> bool
+    ensures { result ≡ is_flat_path (parts_of nested.now) }
+{
+    nested.len() == 1
+}
+
+fn is_plain(encoding: Encoding) -> bool
+    ensures { IsTrue result ↔ (encoding ≡ E.Plain) }
+{
+    matches!(encoding, Encoding::Plain)
+}
+
+// Whether pages are written so.
+fn is_unwritten(options: WriteOptions, nested: &[Nested], encoding: Encoding) -> bool
+    ensures { IsTrue result ↔ IsUnwritten options (parts_of nested.now) encoding }
+{
+    if options.write_statistics {
+        return true;
+    }
+    is_flat(nested) && !is_plain(encoding)
+}
+
+// Whether values of the type are written.
+fn is_written(data_type: &DataType) -> bool
+    ensures { result ≡ is_written (base (type_view data_type.now)) }
+{
+    is_served(data_type, PhysicalType::Int32)
+        || is_served(data_type, PhysicalType::Int64)
+        || is_served(data_type, PhysicalType::ByteArray)
+}
+
+/// That pages of the array are written so.
+///
+/// # Errors
+///
+/// - `NotYetImplemented(N4)` exactly where statistics are asked for, or a flat path in another encoding than PLAIN.
+/// - `NotYetImplemented(N5)` exactly where not, and values of the array's type are not written.
+pub fn check_written(
+    array: &ArrayBox,
+    nested: &[Nested],
+    options: WriteOptions,
+    encoding: Encoding,
+) -> Result<()>
+    ensures ok { OnOk result ((¬ IsUnwritten options (parts_of nested.now) encoding) × (is_written (base (type_of (boxed array.now))) ≡ true)) }
+    ensures err { IfErr result (λ e. ((e ≡ NotYetImplemented N4) × IsUnwritten options (parts_of nested.now) encoding) ⊎ ((e ≡ NotYetImplemented N5) × (¬ IsUnwritten options (parts_of nested.now) encoding) × (is_written (base (type_of (boxed array.now))) ≡ false))) }
+{
+    if is_unwritten(options, nested, encoding) {
+        return Err(Error::NotYetImplemented(N::N4));
+    }
+    if !is_written(array.data_type()) {
+        return Err(Error::NotYetImplemented(N::N5));
+    }
+    Ok(())
+}
+
+// Whether the leaf of a path may be null.
+fn is_leaf_optional(nested: &[Nested]) -> bool
+    ensures { result ≡ is_leaf_optional (parts_of nested.now) }
+{
+    let mut parts = nested;
+    while let Some((part, rest)) = parts.split_first() {
+        if let Nested::Primitive(_, is_optional, _) = part {
+            return *is_optional;
+        }
+        parts = rest;
+    }
+    false
+}
+
+// Whether the leaf of a tree may be null.
+fn is_optional(type_: &PrimitiveType) -> bool
+    ensures { result ≡ is_optional (leaf_view type_.now) }
+{
+    type_.field_info.repetition != Repetition::Required
+}
+
+/// That the path is in bounds, and the path and the type fit the array, whose values are written.
+///
+/// # Errors
+///
+/// `InvalidArgumentError(A8)` exactly where not.
+pub fn check_fit(array: &ArrayBox, type_: &PrimitiveType, nested: &[Nested]) -> Result<()>
+    requires { is_written (base (type_of (boxed array.now))) ≡ true }
+    ensures in_bounds { OnOk result (IsInBounds (parts_of nested.now)) }
+    ensures fits { OnOk result (FitsColumn (parts_of nested.now) (rows_of (parts_of nested.now) (boxed array.now)) (leaf_view type_.now) (physical_view type_.now.physical_type) (boxed array.now)) }
+    ensures served { OnOk result (is_served (base (type_of (boxed array.now))) (physical_view type_.now.physical_type) ≡ true) }
+    ensures err { IfErr result (λ e. (e ≡ InvalidArgumentError A8) × ¬ (IsInBounds (parts_of nested.now) × FitsColumn (parts_of nested.now) (rows_of (parts_of nested.now) (boxed array.now)) (leaf_view type_.now) (physical_view type_.now.physical_type) (boxed array.now))) }
+{
+    array.know();
+    if !is_in_bounds(nested) {
+        return Err(MISFIT);
+    }
+    if !fits_leaf(array, nested) {
+        return Err(MISFIT);
+    }
+    if is_optional(type_) != is_leaf_optional(nested) {
+        return Err(MISFIT);
+    }
+    if !is_served(array.data_type(), type_.physical_type) {
+        return Err(MISFIT);
+    }
+    Ok(())
+}

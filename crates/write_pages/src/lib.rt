@@ -1,0 +1,15 @@
+//! From arrays to pages: one page of a path, and the pages of a column by the row rule (Parquet format, "Data Pages", "Nested Encoding").
+#![tactic(auto)]
+
+mod columns;
+mod cut_column;
+mod fit;
+mod options;
+mod page;
+mod pages;
+mod rule;
+
+pub use columns::array_to_columns;
+pub use options::WriteOptions;
+pub use page::array_to_page;
+pub use pages::{PageIter, array_to_pages};

@@ -1,0 +1,86 @@
+//! One page of a path.
+ghost use Rattle.std.specs.Prelude.{◌≡◌, ◌⊎◌, ◌≤◌, true, false, length, IfOk, IfErr, Some};
+ghost use Rattle.shredding.specs.Parts.{IsPath, path_way, path_slots};
+ghost use Rattle.shredding.specs.Shred.{column};
+ghost use Rattle.columns_base.specs.declared.error.Error.TheVariants.{Memory, Overflow, NotYetImplemented};
+ghost use Rattle.columns_base.specs.declared.error.N.TheVariants.{N4, N5};
+ghost use Rattle.columns_base.specs.declared.error.V.TheVariants.{V3};
+ghost use Rattle.columns_array.specs.Boxed.{boxed};
+ghost use Rattle.columns_core.specs.Shapes.{base, leaf_type};
+ghost use Rattle.columns_slots.specs.Slots.{tree_len, type_of};
+ghost use Rattle.levels.specs.Nested.{parts_of};
+ghost use Rattle.levels.specs.Ranges.{leaf_count_or};
+ghost use Rattle.nested_paths.specs.Seen.{leaf_slot};
+ghost use Rattle.pq_tree.specs.Reads.{ComesWhere};
+ghost use Rattle.pq_tree.specs.TreeViews.{leaf_view};
+ghost use Rattle.pq_tree.specs.Views.{physical_view};
+ghost use Rattle.pq_files.specs.Page.{Encoding as PageEncoding, plain};
+ghost use Rattle.pq_pages.specs.DataPages.{DataPageValue};
+ghost use Rattle.pq_pages.specs.declared.page.Page.TheVariants.{Data};
+ghost use Rattle.write_values.specs.Served.{is_served};
+ghost use Rattle.write_pages.specs.Fits.{FitsColumn, is_written};
+ghost use Rattle.write_pages.specs.Holds.{HoldsRows, written_encoding};
+ghost use Rattle.write_pages.specs.Refused.{IsPastRoom, IsUnwritten};
+
+use crate::fit::check_written;
+use crate::options::WriteOptions;
+use columns_array::ArrayBox;
+use columns_core::Result;
+use levels::Nested;
+use pq_pages::{DataPage, Page};
+use pq_tree::{Encoding, PrimitiveType};
+use std::alloc::Global;
+use write_values::plain_page;
+
+// A plain page without statistics of a well-formed path over an array whose values are written.
+pub fn page_of_rows(
+    alloc: Global,
+    array: &ArrayBox,
+    type_: PrimitiveType,
+    nested: &[Nested],
+    options: WriteOptions,
+) -> Result<DataPage>
+    requires well { IsPath (parts_of nested.now) }
+    requires parts { length nested.now ≤ 128 }
+    requires leaf { tree_len (boxed array.now) ≡ leaf_count_or 0 (parts_of nested.now) }
+    requires served { is_served (base (type_of (boxed array.now))) (physical_view type_.physical_type) ≡ true }
+    requires options { options.write_statistics ≡ false }
+    ensures ok { IfOk result (HoldsRows options plain (leaf_type (type_of (boxed array.now))) (leaf_view type_) (physical_view type_.physical_type) (path_way (parts_of nested.now)) (path_slots (leaf_slot (boxed array.now)) (parts_of nested.now))) }
+    ensures too_large { ComesWhere (Overflow V3) (IsPastRoom (leaf_type (type_of (boxed array.now))) (physical_view type_.physical_type) (column (path_way (parts_of nested.now)) (path_slots (leaf_slot (boxed array.now)) (parts_of nested.now)))) result }
+    ensures err { IfErr result (λ e. (e ≡ Memory) ⊎ (e ≡ Overflow V3)) }
+{
+    array.know();
+    plain_page(alloc, array, type_, nested, options.version)
+}
+
+/// One page of a well-formed path over its leaf array: of a flat path in the encoding that is asked for, of every other one in PLAIN (Parquet
+/// format, "Data Pages", "Nested Encoding" and Encodings). It denotes the column of the rows that are read along the path, whatever lies
+/// beneath nulls. The path and the type fit the array.
+///
+/// # Errors
+///
+/// - `NotYetImplemented(N4)` exactly where the page is not written so: statistics are asked for, or a flat path in another encoding than PLAIN.
+/// - `NotYetImplemented(N5)` exactly where it is, and values of the array's type are not written (`is_written`).
+/// - `Overflow(V3)` exactly where neither is so, and the room of the page passes 2^31 - 1.
+/// - `Memory`.
+pub fn array_to_page(
+    alloc: Global,
+    array: &ArrayBox,
+    type_: PrimitiveType,
+    nested: &[Nested],
+    options: WriteOptions,
+    encoding: Encoding,
+) -> Result<Page>
+    requires well { IsPath (parts_of nested.now) }
+    requires parts { length nested.now ≤ 128 }
+    requires fits { FitsColumn (parts_of nested.now) (path_slots (leaf_slot (boxed array.now)) (parts_of nested.now)) (leaf_view type_) (physical_view type_.physical_type) (boxed array.now) }
+    ensures ok { IfOk result (λ p. (page : DataPageValue) × (p ≡ Data page) × (e : PageEncoding) × (written_encoding (parts_of nested.now) encoding ≡ Some e) × HoldsRows options e (leaf_type (type_of (boxed array.now))) (leaf_view type_) (physical_view type_.physical_type) (path_way (parts_of nested.now)) (path_slots (leaf_slot (boxed array.now)) (parts_of nested.now)) page) }
+    ensures form { ComesWhere (NotYetImplemented N4) (IsUnwritten options (parts_of nested.now) encoding) result }
+    ensures unserved { ComesWhere (NotYetImplemented N5) ((¬ IsUnwritten options (parts_of nested.now) encoding) × (is_written (base (type_of (boxed array.now))) ≡ false)) result }
+    ensures too_large { ComesWhere (Overflow V3) ((¬ IsUnwritten options (parts_of nested.now) encoding) × (is_written (base (type_of (boxed array.now))) ≡ true) × IsPastRoom (leaf_type (type_of (boxed array.now))) (physical_view type_.physical_type) (column (path_way (parts_of nested.now)) (path_slots (leaf_slot (boxed array.now)) (parts_of nested.now)))) result }
+    ensures err { IfErr result (λ e. (e ≡ Memory) ⊎ (e ≡ NotYetImplemented N4) ⊎ (e ≡ NotYetImplemented N5) ⊎ (e ≡ Overflow V3)) }
+{
+    check_written(array, nested, options, encoding)?;
+    let page = page_of_rows(alloc, array, type_, nested, options)?;
+    Ok(Page::Data(page))
+}

@@ -1,0 +1,228 @@
+//! The pages of a column, one at a time.
+ghost use Rattle.std.specs.Prelude.{◌≡◌, ◌⊎◌, ◌+◌, ◌<◌, ◌≤◌, take, drop, true, false, length, IfOk, IfErr};
+ghost use Rattle.shredding.specs.Parts.{IsPath, path_way, path_slots, slot_count};
+ghost use Rattle.shredding.specs.Shred.{column};
+ghost use Rattle.columns_base.specs.declared.error.Error.TheVariants.{Memory, Overflow};
+ghost use Rattle.columns_base.specs.declared.error.V.TheVariants.{V3};
+ghost use Rattle.columns_array.specs.Boxed.{boxed};
+ghost use Rattle.columns_core.specs.Shapes.{base, leaf_type};
+ghost use Rattle.columns_slots.specs.Slots.{tree_len, type_of};
+ghost use Rattle.levels.specs.InBounds.{IsInBounds};
+ghost use Rattle.levels.specs.Nested.{parts_of};
+ghost use Rattle.levels.specs.Ranges.{leaf_count_or};
+ghost use Rattle.nested_paths.specs.Seen.{leaf_slot};
+ghost use Rattle.pq_tree.specs.TreeViews.{leaf_view};
+ghost use Rattle.pq_tree.specs.Views.{physical_view};
+ghost use Rattle.pq_files.specs.Page.{plain};
+ghost use Rattle.write_values.specs.Served.{is_served};
+ghost use Rattle.write_pages.specs.Holds.{HoldsRows, IsPagesOf, rows_of, to_give};
+ghost use Rattle.write_pages.specs.Refused.{AreWritten, Gives, IsPastRoom, RefusesPages};
+ghost use Rattle.write_pages.specs.Sized.{AreMeasured, IsByRule};
+
+use crate::cut_column::{copy_path, cut_column};
+use crate::fit::{check_fit, check_written};
+use crate::options::WriteOptions;
+use crate::page::page_of_rows;
+use crate::rule::rows_per_page;
+use columns_array::ArrayBox;
+use columns_core::Result;
+use levels::{Nested, slot_count};
+use pq_pages::{DataPage, Page};
+use pq_tree::{Encoding, PhysicalType, PrimitiveType};
+use std::alloc::Global;
+use std::marker::Model;
+use write_values::measure_values;
+
+/// Gives the pages of a column in order, each when it is asked for. It shares the array and its path, and keeps no page. After an error
+/// it gives nothing.
+#[derive(Drop)]
+pub struct PageIter {
+    alloc: Global,
+    array: ArrayBox,
+    nested: Vec<Nested>,
+    type_: PrimitiveType,
+    options: WriteOptions,
+    next: usize,
+    per_page: usize,
+    has_failed: bool,
+}
+
+impl Model for PageIter {
+    ghost use Rattle.std.specs.Coded.{codes};
+    ghost use Rattle.columns_array.specs.Boxed.{boxed};
+    ghost use Rattle.columns_slots.specs.Tree.{tree_code};
+    ghost use Rattle.levels.specs.Nested.{parts_of};
+    ghost use Rattle.pq_tree.specs.Views.{physical_view};
+    ghost use Rattle.write_pages.specs.Holds.{PageState};
+    ghost use Rattle.write_pages.specs.Sized.{IsReady};
+
+    ghost Value = { PageState };
+
+    ghost coded = { Prim.hlevel (codes, tree_code) };
+
+    ghost view = { λ s. record { options = s.options; type_ = s.type_; array = boxed s.array; parts = parts_of s.nested.items; next = s.next; per_page = s.per_page; has_failed = s.has_failed } };
+
+    ghost invariant = { λ s. IsReady s.options (boxed s.array) (parts_of s.nested.items) (physical_view s.type_.physical_type) s.per_page };
+}
+
+// The page of some rows of a path in bounds.
+fn page_at(
+    alloc: Global,
+    array: &ArrayBox,
+    type_: &PrimitiveType,
+    nested: &[Nested],
+    options: WriteOptions,
+    first: usize,
+    count: usize,
+) -> Result<DataPage>
+    requires in_bounds { IsInBounds (parts_of nested.now) }
+    requires parts { length nested.now ≤ 128 }
+    requires leaf { tree_len (boxed array.now) ≡ leaf_count_or 0 (parts_of nested.now) }
+    requires served { is_served (base (type_of (boxed array.now))) (physical_view type_.now.physical_type) ≡ true }
+    requires options { options.write_statistics ≡ false }
+    requires rows { first + count ≤ slot_count (parts_of nested.now) }
+    ensures ok { IfOk result (HoldsRows options plain (leaf_type (type_of (boxed array.now))) (leaf_view type_.now) (physical_view type_.now.physical_type) (path_way (parts_of nested.now)) (take count (drop first (rows_of (parts_of nested.now) (boxed array.now))))) }
+    ensures err { IfErr result (λ e. (e ≡ Memory) ⊎ ((e ≡ Overflow V3) × IsPastRoom (leaf_type (type_of (boxed array.now))) (physical_view type_.now.physical_type) (column (path_way (parts_of nested.now)) (take count (drop first (rows_of (parts_of nested.now) (boxed array.now))))))) }
+{
+    let rows = cut_column(alloc, array, nested, first, count)?;
+    let type_ = type_.clone(alloc)?;
+    let page = page_of_rows(alloc, &rows.array, type_, &rows.nested, options)?;
+    Ok(page)
+}
+
+impl PageIter {
+    /// The page of the next rows, and none at the end or after an error.
+    ///
+    /// # Errors
+    ///
+    /// - `Overflow(V3)` exactly where the room of the page passes 2^31 - 1.
+    /// - `Memory`.
+    pub fn next_page(&mut self) -> Option<Result<Page>>
+        ensures { Gives (to_give self.old) (to_give self.new) result }
+    {
+        let rows = slot_count(&self.nested);
+        if self.has_failed || self.next >= rows {
+            return None;
+        }
+        let count = self.per_page.min(rows - self.next);
+        match page_at(
+            self.alloc,
+            &self.array,
+            &self.type_,
+            &self.nested,
+            self.options,
+            self.next,
+            count,
+        ) {
+            Ok(page) => {
+                self.next += count;
+                Some(Ok(Page::Data(page)))
+            }
+            Err(error) => {
+                self.has_failed = true;
+                Some(Err(error))
+            }
+        }
+    }
+}
+
+// The plain bytes of the values that a well-formed path reaches, up to the largest number.
+fn plain_bytes(array: &ArrayBox, physical_type: PhysicalType, nested: &[Nested]) -> u128
+    requires well { IsPath (parts_of nested.now) }
+    requires leaf { tree_len (boxed array.now) ≡ leaf_count_or 0 (parts_of nested.now) }
+    requires served { is_served (base (type_of (boxed array.now))) (physical_view physical_type) ≡ true }
+    ensures { AreMeasured (leaf_type (type_of (boxed array.now))) (physical_view physical_type) (path_way (parts_of nested.now)) (path_slots (leaf_slot (boxed array.now)) (parts_of nested.now)) result }
+{
+    array.know();
+    match measure_values(array, physical_type, nested) {
+        Some(measured) => measured.plain,
+        None => unreachable!(),
+    }
+}
+
+// The plain bytes of the values of all rows of a path in bounds.
+fn all_bytes(
+    alloc: Global,
+    array: &ArrayBox,
+    physical_type: PhysicalType,
+    nested: &[Nested],
+    rows: usize,
+) -> Result<u128>
+    requires in_bounds { IsInBounds (parts_of nested.now) }
+    requires leaf { tree_len (boxed array.now) ≡ leaf_count_or 0 (parts_of nested.now) }
+    requires served { is_served (base (type_of (boxed array.now))) (physical_view physical_type) ≡ true }
+    requires rows { rows ≡ slot_count (parts_of nested.now) }
+    ensures ok { IfOk result (AreMeasured (leaf_type (type_of (boxed array.now))) (physical_view physical_type) (path_way (parts_of nested.now)) (rows_of (parts_of nested.now) (boxed array.now))) }
+    ensures err { IfErr result (λ e. e ≡ Memory) }
+{
+    let all = cut_column(alloc, array, nested, 0, rows)?;
+    Ok(plain_bytes(&all.array, physical_type, &all.nested))
+}
+
+// How many rows stand in a page by the row rule, and one where there is no row.
+fn page_rows(
+    alloc: Global,
+    array: &ArrayBox,
+    physical_type: PhysicalType,
+    nested: &[Nested],
+    limit: Option<usize>,
+) -> Result<usize>
+    requires in_bounds { IsInBounds (parts_of nested.now) }
+    requires leaf { tree_len (boxed array.now) ≡ leaf_count_or 0 (parts_of nested.now) }
+    requires served { is_served (base (type_of (boxed array.now))) (physical_view physical_type) ≡ true }
+    ensures some { IfOk result (λ n. 0 < n) }
+    ensures rule { IfOk result (IsByRule limit (leaf_type (type_of (boxed array.now))) (physical_view physical_type) (path_way (parts_of nested.now)) (rows_of (parts_of nested.now) (boxed array.now))) }
+    ensures err { IfErr result (λ e. e ≡ Memory) }
+{
+    let rows = slot_count(nested);
+    if rows == 0 {
+        return Ok(1);
+    }
+    let plain = all_bytes(alloc, array, physical_type, nested, rows)?;
+    Ok(rows_per_page(limit, plain, rows))
+}
+
+/// The pages of a column in order, each to be made when it is asked for: those of the rows that are read along the path over its leaf array,
+/// whatever lies beneath nulls, in pieces by the row rule; none of no rows (Parquet format, "Data Pages", "Nested Encoding").
+///
+/// # Errors
+///
+/// The first condition that holds is told.
+///
+/// - `NotYetImplemented(N4)`: statistics are asked for, or a flat path in another encoding than PLAIN.
+/// - `NotYetImplemented(N5)`: values of the array's type are not written (`is_written`).
+/// - `InvalidArgumentError(A8)`: the path is not in bounds, or the path and the type do not fit the array (`FitsColumn`).
+/// - `Memory`.
+pub fn array_to_pages(
+    alloc: Global,
+    primitive_array: &ArrayBox,
+    type_: PrimitiveType,
+    nested: &[Nested],
+    options: WriteOptions,
+    encoding: Encoding,
+) -> Result<PageIter>
+    requires parts { length nested.now ≤ 128 }
+    ensures ok { IfOk result (λ it. IsPagesOf options type_ (parts_of nested.now) (boxed primitive_array.now) (to_give it)) }
+    ensures fits { IfOk result (λ _. AreWritten options type_ (parts_of nested.now) (boxed primitive_array.now) encoding) }
+    ensures err { IfErr result (λ e. (e ≡ Memory) ⊎ RefusesPages options type_ (parts_of nested.now) (boxed primitive_array.now) encoding e) }
+{
+    check_written(primitive_array, nested, options, encoding)?;
+    check_fit(primitive_array, &type_, nested)?;
+    let per_page = page_rows(
+        alloc,
+        primitive_array,
+        type_.physical_type,
+        nested,
+        options.data_pagesize_limit,
+    )?;
+    Ok(PageIter {
+        alloc,
+        array: primitive_array.clone(alloc)?,
+        nested: copy_path(alloc, nested)?,
+        type_,
+        options,
+        next: 0,
+        per_page,
+        has_failed: false,
+    })
+}

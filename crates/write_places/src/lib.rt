@@ -1,0 +1,13 @@
+//! The places of a leaf array that a path reaches, taken stretch by stretch (Arrow columnar format, "Validity bitmaps",
+//! "Variable-size List Layout", "Struct Layout").
+#![tactic(auto)]
+
+mod alike;
+mod laws;
+mod reach;
+mod taker;
+mod walk;
+
+pub use laws::{columns_are_stored, values_are_at_places};
+pub use taker::Taker;
+pub use walk::take_places;

@@ -1,0 +1,132 @@
+-- Which types the arrays have whose values are written.
+use Rattle.std.proofs.Common.{◌≡◌, ◌≢◌, ◌<◌, Bool, true, false, true≢false, Some, refl, sym, arith, lit≤, inl, inr, pos}
+use Rattle.shredding.specs.Shape.{IsInRange}
+use Rattle.shredding.specs.Slot.{Value, number, bytes}
+use Rattle.columns_core.specs.Shapes.{base, leaf_type}
+use Rattle.columns_core.specs.Tree.{TypeTree, t_null, t_int8, t_int16, t_int32, t_int64, t_uint8, t_uint16, t_uint32, t_uint64, t_date32, t_date64, t_time32, t_time64, t_timestamp, t_duration, t_utf8, t_large_utf8, t_binary, t_large_binary, t_extension, t_list, t_large_list, t_map, t_fixed_size_list, t_struct, t_dictionary}
+use Rattle.columns_slots.specs.Tree.{ArrayTree, null_array, leaf_array, list_array, fixed_list_array, struct_array, dictionary_array, ArrayTrees, no_arrays, more_arrays}
+use Rattle.columns_slots.specs.Slots.{IsSound, AreTyped, count_arrays, type_of}
+use Rattle.columns_slots.specs.Types.{is_null_type, list_item, fixed_item, entry_type, part_types}
+use Rattle.pq_tree.specs.Physical.{Physical, boolean, int32, int64, int96, float, double, byte_array, fixed}
+use Rattle.pq_files.specs.Stored.{IsStored}
+use Rattle.write_values.specs.Served.{is_small, is_wide, is_string, is_served}
+use Rattle.write_values.specs.Stored.{stored_value}
+
+-- ---- values that are not written
+
+no_row : (t : TypeTree) → is_small t ≡ false → is_wide t ≡ false → is_string t ≡ false → (p : Physical) → is_served t p ≡ false
+no_row t a b c boolean = refl
+no_row t a b c int32 = a
+no_row t a b c int64 = b
+no_row t a b c int96 = refl
+no_row t a b c float = refl
+no_row t a b c double = refl
+no_row t a b c byte_array = c
+no_row t a b c (fixed n) = refl
+
+no_nulls : (t : TypeTree) (p : Physical) → is_null_type t ≡ true → is_served t p ≡ false
+no_nulls t_null p e = no_row t_null refl refl refl p
+no_nulls t p e = absurd (true≢false (sym e))
+
+no_items : (t i : TypeTree) (p : Physical) → list_item t ≡ Some i → is_served t p ≡ false
+no_items (t_list f) i p e = no_row (t_list f) refl refl refl p
+no_items (t_large_list f) i p e = no_row (t_large_list f) refl refl refl p
+no_items (t_map f s) i p e = no_row (t_map f s) refl refl refl p
+no_items t i p e = absurd cc
+
+no_fixed_items : (t i : TypeTree) (p : Physical) → fixed_item t ≡ Some i → is_served t p ≡ false
+no_fixed_items (t_fixed_size_list f k) i p e = no_row (t_fixed_size_list f k) refl refl refl p
+no_fixed_items t i p e = absurd cc
+
+no_entries : (t i : TypeTree) (p : Physical) → entry_type t ≡ Some i → is_served t p ≡ false
+no_entries (t_dictionary k v s) i p e = no_row (t_dictionary k v s) refl refl refl p
+no_entries t i p e = absurd cc
+
+no_parts : (t : TypeTree) (cs : ArrayTrees) (p : Physical) → AreTyped (part_types t) cs → 0 < count_arrays cs → is_served t p ≡ false
+no_parts (t_struct fs) cs p h k = no_row (t_struct fs) refl refl refl p
+no_parts t no_arrays p h k = absurd (omega (arith, k))
+no_parts t (more_arrays c cs) p h k = absurd h
+
+abbrev pub is_leaf_array : ArrayTree → Bool
+is_leaf_array (leaf_array t vs m) = true
+is_leaf_array a = false
+
+-- arrays that hold arrays, and nulls alone
+pub no_others : (a : ArrayTree) (p : Physical) → is_leaf_array a ≡ false → IsSound a → is_served (base (type_of a)) p ≡ false
+no_others (null_array t n) p e s = no_nulls (base t) p s
+no_others (leaf_array t vs m) p e s = absurd (true≢false e)
+no_others (list_array t os c m) p e s = no_items (base t) (type_of c) p s.3
+no_others (fixed_list_array t w n c m) p e s = no_fixed_items (base t) (type_of c) p s.3
+no_others (struct_array t cs m) p e s = no_parts (base t) cs p s.2 s.3
+no_others (dictionary_array t ks c m) p e s = no_entries (base t) (type_of c) p s.2
+
+-- ---- what is written
+
+small_stored : (t : TypeTree) (v : Value) → is_small t ≡ true → IsInRange (leaf_type t) v → IsStored (leaf_type t) int32 v (stored_value (leaf_type t) int32 v)
+small_stored t_int8 (number z) e h = (lit≤ tt, h, refl)
+small_stored t_int16 (number z) e h = (lit≤ tt, h, refl)
+small_stored t_int32 (number z) e h = (lit≤ tt, h, refl)
+small_stored t_date32 (number z) e h = (lit≤ tt, h, refl)
+small_stored (t_time32 u) (number z) e h = (lit≤ tt, h, refl)
+small_stored t_uint8 (number (pos n)) e h = (lit≤ tt, h, refl)
+small_stored t_uint16 (number (pos n)) e h = (lit≤ tt, h, refl)
+small_stored t_uint32 (number (pos n)) e h = (lit≤ tt, h, refl)
+small_stored t_int8 v e h = absurd h
+small_stored t_int16 v e h = absurd h
+small_stored t_int32 v e h = absurd h
+small_stored t_date32 v e h = absurd h
+small_stored (t_time32 u) v e h = absurd h
+small_stored t_uint8 v e h = absurd h
+small_stored t_uint16 v e h = absurd h
+small_stored t_uint32 v e h = absurd h
+small_stored t v e h = absurd (true≢false (sym e))
+
+wide_stored : (t : TypeTree) (v : Value) → is_wide t ≡ true → IsInRange (leaf_type t) v → IsStored (leaf_type t) int64 v (stored_value (leaf_type t) int64 v)
+wide_stored t_int64 (number z) e h = (refl, h, refl)
+wide_stored t_date64 (number z) e h = (refl, h, refl)
+wide_stored (t_time64 u) (number z) e h = (refl, h, refl)
+wide_stored (t_timestamp u zone_name) (number z) e h = (refl, h, refl)
+wide_stored (t_duration u) (number z) e h = (refl, h, refl)
+wide_stored t_uint32 (number (pos n)) e h = (inl refl, h, refl)
+wide_stored t_uint64 (number (pos n)) e h = (inr refl, h, refl)
+wide_stored t_int64 v e h = absurd h
+wide_stored t_date64 v e h = absurd h
+wide_stored (t_time64 u) v e h = absurd h
+wide_stored (t_timestamp u zone_name) v e h = absurd h
+wide_stored (t_duration u) v e h = absurd h
+wide_stored t_uint32 v e h = absurd h
+wide_stored t_uint64 v e h = absurd h
+wide_stored t v e h = absurd (true≢false (sym e))
+
+string_stored : (t : TypeTree) (v : Value) → is_string t ≡ true → IsInRange (leaf_type t) v → IsStored (leaf_type t) byte_array v (stored_value (leaf_type t) byte_array v)
+string_stored t_utf8 (bytes s) e h = (h, refl)
+string_stored t_large_utf8 (bytes s) e h = (h, refl)
+string_stored t_binary (bytes s) e h = refl
+string_stored t_large_binary (bytes s) e h = refl
+string_stored t_utf8 v e h = absurd h
+string_stored t_large_utf8 v e h = absurd h
+string_stored t_binary v e h = absurd h
+string_stored t_large_binary v e h = absurd h
+string_stored t v e h = absurd (true≢false (sym e))
+
+-- by the page table
+pub served_stored : (t : TypeTree) (p : Physical) (v : Value) → is_served t p ≡ true → IsInRange (leaf_type t) v → IsStored (leaf_type t) p v (stored_value (leaf_type t) p v)
+served_stored t int32 v e h = small_stored t v e h
+served_stored t int64 v e h = wide_stored t v e h
+served_stored t byte_array v e h = string_stored t v e h
+served_stored t p v e h = absurd (true≢false (sym e))
+
+pub leaf_base : (t : TypeTree) → leaf_type (base t) ≡ leaf_type t
+leaf_base (t_extension n t m) = leaf_base t
+leaf_base t = refl
+
+-- values that are written are spelled one behind the other
+pub served_in_a_row : (t : TypeTree) (p : Physical) → is_served t p ≡ true → p ≢ boolean
+served_in_a_row t boolean e = λ h. true≢false (sym e)
+served_in_a_row t int32 e = λ h. cc
+served_in_a_row t int64 e = λ h. cc
+served_in_a_row t int96 e = λ h. cc
+served_in_a_row t float e = λ h. cc
+served_in_a_row t double e = λ h. cc
+served_in_a_row t byte_array e = λ h. cc
+served_in_a_row t (fixed n) e = λ h. cc

@@ -1,0 +1,78 @@
+use Rattle.std.proofs.Common.{◌≡◌, ◌≤◌, ◌∙◌, length, ap, sym, subst, arith, refl, rules, inr, true≢false}
+use Rattle.columns_core.specs.Shapes.{base}
+use Rattle.columns_slots.specs.Slots.{tree_len, type_of}
+use Rattle.levels.specs.Nested.{parts_of, nested_column}
+use Rattle.pq_files.specs.Room.{room, max_size}
+use Rattle.pq_pages.specs.DataPages.{DataPageValue, is_named}
+use Rattle.write_places.specs.Places.{path_places}
+use Rattle.write_values.specs.Leaf.{leaf_tree, leaf_physical}
+use Rattle.write_values.specs.Pages.{IsPlainPage}
+use Rattle.write_values.specs.Stored.{stored_at}
+use Rattle.write_values.proofs.Made.{denotes, out_is, room_over, room_within, few_values, rows_few}
+use Rattle.write_values.proofs.ServedTypes.{served_in_a_row}
+use Rattle.write_values.proofs.page.leaf_page.Goals as goal
+
+pub returns-then-not-has_room-clause-err : goal.returns-then-not-has_room-clause-err
+returns-then-not-has_room-clause-err c =
+    let leaf = c.args.leaf in
+    let stored = stored_at (leaf_tree leaf) (leaf_physical leaf) in
+    let no : ¬ (room c.num_values-pairs.result c.measure-measured.result.plain ≤ max_size) = λ h. true≢false (sym (c.has_room.ensures.1 h) ∙ c.if-not-has_room.true) in
+    inr (refl, room_over (leaf_physical leaf) stored c.args.nested.now (tree_len (leaf_tree leaf)) c.num_values-pairs.result c.measure-measured.result (c.num_values-pairs.ensures stored) c.measure-measured.ensures no)
+
+pub plain_body-requires-clause-room : goal.plain_body-requires-clause-room
+plain_body-requires-clause-room c =
+    let leaf = c.args.leaf in
+    let stored = stored_at (leaf_tree leaf) (leaf_physical leaf) in
+    let yes : room c.num_values-pairs.result c.measure-measured.result.plain ≤ max_size = c.has_room.ensures.0 c.if-not-has_room.false in
+    room_within (leaf_physical leaf) stored c.args.nested.now (tree_len (leaf_tree leaf)) c.num_values-pairs.result c.measure-measured.result (c.num_values-pairs.ensures stored) c.measure-measured.ensures yes
+
+pub overflow_sub-counts : goal.overflow_sub-counts
+overflow_sub-counts c =
+    let leaf = c.args.leaf in
+    let stored = stored_at (leaf_tree leaf) (leaf_physical leaf) in
+    omega (arith, c.num_values-pairs.ensures stored, c.measure-measured.ensures.values, few_values (leaf_physical leaf) stored c.args.nested.now)
+
+pub overflow_cast-counts-3 : goal.overflow_cast-counts-3
+overflow_cast-counts-3 c =
+    let leaf = c.args.leaf in
+    let stored = stored_at (leaf_tree leaf) (leaf_physical leaf) in
+    let yes : room c.num_values-pairs.result c.measure-measured.result.plain ≤ max_size = c.has_room.ensures.0 c.if-not-has_room.false in
+    let rows : c.slot_count-rows.result ≤ 2147483647 = omega (arith, c.num_values-pairs.ensures stored, rows_few (leaf_physical leaf) stored c.args.nested.now, yes, c.slot_count-rows.ensures) in
+    omega arith
+
+pub plain_header-header-requires-clause-rows : goal.plain_header-header-requires-clause-rows
+plain_header-header-requires-clause-rows c =
+    let leaf = c.args.leaf in
+    let stored = stored_at (leaf_tree leaf) (leaf_physical leaf) in
+    let yes : room c.num_values-pairs.result c.measure-measured.result.plain ≤ max_size = c.has_room.ensures.0 c.if-not-has_room.false in
+    omega (arith, c.num_values-pairs.ensures stored, rows_few (leaf_physical leaf) stored c.args.nested.now, yes, c.slot_count-rows.ensures)
+
+pub new-requires : goal.new-requires
+new-requires c = record {
+  values = rw c.plain_header-header.ensures.values (search rules);
+  encoding = ap is_named c.plain_header-header.ensures.encoding;
+  definition = rw c.descriptor_of-descriptor.ensures.defines (search rules);
+  repetition = rw c.descriptor_of-descriptor.ensures.repeats (search rules);
+}
+
+pub returns-clause-ok : goal.returns-clause-ok
+returns-clause-ok c =
+    let leaf = c.args.leaf in
+    let p = leaf_physical leaf in
+    let stored = stored_at (leaf_tree leaf) p in
+    let nested = c.args.nested.now in
+    let yes : room c.num_values-pairs.result c.measure-measured.result.plain ≤ max_size = c.has_room.ensures.0 c.if-not-has_room.false in
+    let fits = room_within p stored nested (tree_len (leaf_tree leaf)) c.num_values-pairs.result c.measure-measured.result (c.num_values-pairs.ensures stored) c.measure-measured.ensures yes in
+    let few = few_values p stored nested in
+    let pairs : c.num_values-pairs.result ≡ length (nested_column stored nested) = omega (arith, c.num_values-pairs.ensures stored, yes) in
+    let count : c.measure-measured.result.values ≡ length (path_places (parts_of nested)) = omega (arith, c.measure-measured.ensures.values, few, fits) in
+    let out = out_is stored nested c.num_values-pairs.result c.measure-measured.result.values c.slot_count-rows.result c.requires.well pairs count c.slot_count-rows.ensures in
+    let row = served_in_a_row (base (type_of (leaf_tree leaf))) p c.requires.served in
+    subst (λ (x : DataPageValue). IsPlainPage c.args.version p stored c.args.type_ nested x) (sym c.new.ensures)
+    (record {
+      denotes = denotes c.args.version p stored nested c.in_ok-body.body c.plain_header-header.result c.descriptor_of-descriptor.result row c.requires.well c.in_ok-body.ensures.ok (c.plain_header-header.ensures.is _ out) fits;
+      within = fits;
+      about = c.descriptor_of-descriptor.ensures.about;
+      repeats = c.descriptor_of-descriptor.ensures.repeats;
+      defines = c.descriptor_of-descriptor.ensures.defines;
+    })

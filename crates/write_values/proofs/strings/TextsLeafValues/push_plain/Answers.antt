@@ -1,0 +1,7 @@
+use Rattle.write_values.proofs.StringPlaces.{place_within}
+use Rattle.write_values.proofs.strings.TextsLeafValues.push_plain.Goals as goal
+
+pub push_strings-requires-clause-within : goal.push_strings-requires-clause-within
+push_strings-requires-clause-within g c =
+    let a = c.args.self.now.array.now in
+    rw c.offsets.ensures (place_within a.1.0 a.1.1.0 c.args.to c.know.ensures.places c.requires.within)

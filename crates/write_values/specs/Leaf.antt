@@ -1,0 +1,49 @@
+-- The leaf arrays whose values are written, by what they stand for.
+use Rattle.std.specs.Prelude.{◌≡◌, true, map}
+use Rattle.columns_core.specs.Natives.{value_i8, value_i16, value_i32, value_i64, value_u8, value_u16, value_u32, value_u64}
+use Rattle.columns_core.specs.Shapes.{base}
+use Rattle.columns_slots.specs.Bytes.{pieces_values}
+use Rattle.columns_slots.specs.Slots.{type_of}
+use Rattle.columns_slots.specs.Tree.{ArrayTree, leaf_array}
+use Rattle.pq_tree.specs.Physical.{Physical, int32, int64, byte_array}
+use Rattle.write_values.specs.declared.leaf.Leaf.{Leaf}
+use Rattle.write_values.specs.declared.leaf.Leaf.TheVariants.{Int8, Int16, Int32, UInt8, UInt16, UInt32, WideUInt32, Int64, UInt64, Utf8, LargeUtf8, Binary, LargeBinary}
+use Rattle.write_values.specs.Served.{is_served}
+
+-- what the array stands for
+abbrev pub leaf_tree : Leaf → ArrayTree
+leaf_tree (Int8 a) = leaf_array a.now.0 (map (value_i8 (base a.now.0)) a.now.1.0) a.now.1.1
+leaf_tree (Int16 a) = leaf_array a.now.0 (map (value_i16 (base a.now.0)) a.now.1.0) a.now.1.1
+leaf_tree (Int32 a) = leaf_array a.now.0 (map (value_i32 (base a.now.0)) a.now.1.0) a.now.1.1
+leaf_tree (UInt8 a) = leaf_array a.now.0 (map (value_u8 (base a.now.0)) a.now.1.0) a.now.1.1
+leaf_tree (UInt16 a) = leaf_array a.now.0 (map (value_u16 (base a.now.0)) a.now.1.0) a.now.1.1
+leaf_tree (UInt32 a) = leaf_array a.now.0 (map (value_u32 (base a.now.0)) a.now.1.0) a.now.1.1
+leaf_tree (WideUInt32 a) = leaf_array a.now.0 (map (value_u32 (base a.now.0)) a.now.1.0) a.now.1.1
+leaf_tree (Int64 a) = leaf_array a.now.0 (map (value_i64 (base a.now.0)) a.now.1.0) a.now.1.1
+leaf_tree (UInt64 a) = leaf_array a.now.0 (map (value_u64 (base a.now.0)) a.now.1.0) a.now.1.1
+leaf_tree (Utf8 a) = leaf_array a.now.0 (pieces_values a.now.1.0 a.now.1.1.0) a.now.1.1.1
+leaf_tree (LargeUtf8 a) = leaf_array a.now.0 (pieces_values a.now.1.0 a.now.1.1.0) a.now.1.1.1
+leaf_tree (Binary a) = leaf_array a.now.0 (pieces_values a.now.1.0 a.now.1.1.0) a.now.1.1.1
+leaf_tree (LargeBinary a) = leaf_array a.now.0 (pieces_values a.now.1.0 a.now.1.1.0) a.now.1.1.1
+
+-- the physical type of its column
+abbrev pub leaf_physical : Leaf → Physical
+leaf_physical (Int8 a) = int32
+leaf_physical (Int16 a) = int32
+leaf_physical (Int32 a) = int32
+leaf_physical (UInt8 a) = int32
+leaf_physical (UInt16 a) = int32
+leaf_physical (UInt32 a) = int32
+leaf_physical (WideUInt32 a) = int64
+leaf_physical (Int64 a) = int64
+leaf_physical (UInt64 a) = int64
+leaf_physical (Utf8 a) = byte_array
+leaf_physical (LargeUtf8 a) = byte_array
+leaf_physical (Binary a) = byte_array
+leaf_physical (LargeBinary a) = byte_array
+
+-- The leaf is this array, whose values are written under this physical type.
+pub record IsLeafOf (a : ArrayTree) (p : Physical) (leaf : Leaf) : Type 0 where
+  pub tree : leaf_tree leaf ≡ a
+  pub physical : leaf_physical leaf ≡ p
+  pub served : is_served (base (type_of a)) p ≡ true

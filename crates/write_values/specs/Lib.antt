@@ -1,0 +1,7 @@
+pub mod Leaf
+pub mod Lengths
+pub mod Numbers
+pub mod Pages
+pub mod Rows
+pub mod Served
+pub mod Stored

@@ -1,0 +1,46 @@
+-- The types whose values are written, each with the physical types of its column (Parquet format, "Types" and LogicalTypes). Of the others
+-- that pages may have, truth values, fixed byte strings, decimals, intervals, nulls alone and dictionaries are not written yet.
+use Rattle.std.specs.Prelude.{Bool, true, false}
+use Rattle.columns_core.specs.declared.types.TimeUnit.TheVariants.{Second, Millisecond, Microsecond, Nanosecond}
+use Rattle.columns_core.specs.Tree.{TypeTree, t_int8, t_int16, t_int32, t_int64, t_uint8, t_uint16, t_uint32, t_uint64, t_timestamp, t_date32, t_date64, t_time32, t_time64, t_duration, t_binary, t_large_binary, t_utf8, t_large_utf8}
+use Rattle.pq_tree.specs.Physical.{Physical, int32, int64, byte_array}
+
+-- as numbers of 32 bits
+abbrev pub is_small : TypeTree → Bool
+is_small t_int8 = true
+is_small t_int16 = true
+is_small t_int32 = true
+is_small t_uint8 = true
+is_small t_uint16 = true
+is_small t_uint32 = true
+is_small t_date32 = true
+is_small (t_time32 Second) = true
+is_small (t_time32 Millisecond) = true
+is_small t = false
+
+-- as numbers of 64 bits
+abbrev pub is_wide : TypeTree → Bool
+is_wide t_uint32 = true
+is_wide t_int64 = true
+is_wide t_uint64 = true
+is_wide t_date64 = true
+is_wide (t_time64 Microsecond) = true
+is_wide (t_time64 Nanosecond) = true
+is_wide (t_timestamp unit zone_name) = true
+is_wide (t_duration unit) = true
+is_wide t = false
+
+-- as byte strings
+abbrev pub is_string : TypeTree → Bool
+is_string t_utf8 = true
+is_string t_large_utf8 = true
+is_string t_binary = true
+is_string t_large_binary = true
+is_string t = false
+
+-- values of a type, without its extensions, are written under this physical type
+abbrev pub is_served : TypeTree → Physical → Bool
+is_served t int32 = is_small t
+is_served t int64 = is_wide t
+is_served t byte_array = is_string t
+is_served t p = false

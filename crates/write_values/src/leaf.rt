@@ -1,0 +1,196 @@
+//! The leaf arrays whose values are written.
+ghost use Rattle.std.specs.Prelude.{◌≡◌, false, map, MatchOption};
+ghost use Rattle.columns_core.specs.Shapes.{base};
+ghost use Rattle.columns_core.specs.View.{type_view};
+ghost use Rattle.columns_core.specs.Natives.{value_u32};
+ghost use Rattle.columns_slots.specs.Tree.{leaf_array};
+ghost use Rattle.columns_slots.specs.Slots.{type_of};
+ghost use Rattle.columns_array.specs.Boxed.{boxed};
+ghost use Rattle.pq_tree.specs.Views.{physical_view};
+ghost use Rattle.write_values.specs.Served.{is_small, is_wide, is_string, is_served};
+ghost use Rattle.write_values.specs.Leaf.{IsLeafOf};
+
+use columns_array::ArrayBox;
+use columns_base::PhysicalType;
+use columns_core::{DataType, TimeUnit};
+use columns_leaf::{BinaryArray, PrimitiveArray, Utf8Array};
+
+// A leaf array whose values are written, and how.
+#[derive(Clone, Copy, Drop)]
+pub enum Leaf<'a> {
+    // as numbers of 32 bits
+    Int8(&'a PrimitiveArray<i8>),
+    Int16(&'a PrimitiveArray<i16>),
+    Int32(&'a PrimitiveArray<i32>),
+    UInt8(&'a PrimitiveArray<u8>),
+    UInt16(&'a PrimitiveArray<u16>),
+    UInt32(&'a PrimitiveArray<u32>),
+    // as numbers of 64 bits
+    WideUInt32(&'a PrimitiveArray<u32>),
+    Int64(&'a PrimitiveArray<i64>),
+    UInt64(&'a PrimitiveArray<u64>),
+    // as byte strings
+    Utf8(&'a Utf8Array<i32>),
+    LargeUtf8(&'a Utf8Array<i64>),
+    Binary(&'a BinaryArray<i32>),
+    LargeBinary(&'a BinaryArray<i64>),
+}
+
+fn is_small(data_type: &DataType) -> bool
+    ensures { result ≡ is_small (base (type_view data_type.now)) }
+{
+    match data_type.base() {
+        DataType::Int8 | DataType::Int16 | DataType::Int32 => true,
+        DataType::UInt8 | DataType::UInt16 | DataType::UInt32 => true,
+        DataType::Date32 | DataType::Time32(TimeUnit::Second | TimeUnit::Millisecond) => true,
+        _ => false,
+    }
+}
+
+fn is_wide(data_type: &DataType) -> bool
+    ensures { result ≡ is_wide (base (type_view data_type.now)) }
+{
+    match data_type.base() {
+        DataType::UInt32 | DataType::Int64 | DataType::UInt64 | DataType::Date64 => true,
+        DataType::Time64(TimeUnit::Microsecond | TimeUnit::Nanosecond) => true,
+        DataType::Timestamp(_, _) | DataType::Duration(_) => true,
+        _ => false,
+    }
+}
+
+fn is_string(data_type: &DataType) -> bool
+    ensures { result ≡ is_string (base (type_view data_type.now)) }
+{
+    match data_type.base() {
+        DataType::Utf8 | DataType::LargeUtf8 => true,
+        DataType::Binary | DataType::LargeBinary => true,
+        _ => false,
+    }
+}
+
+/// Whether values of the type are written under the physical type.
+pub fn is_served(data_type: &DataType, physical_type: PhysicalType) -> bool
+    ensures { result ≡ is_served (base (type_view data_type.now)) (physical_view physical_type) }
+{
+    match physical_type {
+        PhysicalType::Int32 => is_small(data_type),
+        PhysicalType::Int64 => is_wide(data_type),
+        PhysicalType::ByteArray => is_string(data_type),
+        _ => false,
+    }
+}
+
+// An array of numbers of 32 bits without a sign, which are stored as their bits or as numbers of 64 bits.
+fn uint32_leaf(array: &PrimitiveArray<u32>, physical_type: PhysicalType) -> Option<Leaf<'_>>
+    ensures { MatchOption result (is_served (base array.now.0) (physical_view physical_type) ≡ false) (IsLeafOf (leaf_array array.now.0 (map (value_u32 (base array.now.0)) array.now.1.0) array.now.1.1) (physical_view physical_type)) }
+{
+    array.know();
+    match physical_type {
+        PhysicalType::Int32 => Some(Leaf::UInt32(array)),
+        PhysicalType::Int64 => Some(Leaf::WideUInt32(array)),
+        PhysicalType::ByteArray => None,
+        PhysicalType::Boolean | PhysicalType::Int96 => None,
+        PhysicalType::Float | PhysicalType::Double => None,
+        PhysicalType::FixedLenByteArray(_) => None,
+    }
+}
+
+/// The array as one whose values are written under the physical type, and `None` where they are not.
+pub fn leaf_of(array: &ArrayBox, physical_type: PhysicalType) -> Option<Leaf<'_>>
+    ensures { MatchOption result (is_served (base (type_of (boxed array.now))) (physical_view physical_type) ≡ false) (IsLeafOf (boxed array.now) (physical_view physical_type)) }
+{
+    if !is_served(array.data_type(), physical_type) {
+        return None;
+    }
+    match array {
+        ArrayBox::Int8(a) => {
+            a.know();
+            Some(Leaf::Int8(a))
+        }
+        ArrayBox::Int16(a) => {
+            a.know();
+            Some(Leaf::Int16(a))
+        }
+        ArrayBox::Int32(a) => {
+            a.know();
+            Some(Leaf::Int32(a))
+        }
+        ArrayBox::UInt8(a) => {
+            a.know();
+            Some(Leaf::UInt8(a))
+        }
+        ArrayBox::UInt16(a) => {
+            a.know();
+            Some(Leaf::UInt16(a))
+        }
+        ArrayBox::Int64(a) => {
+            a.know();
+            Some(Leaf::Int64(a))
+        }
+        ArrayBox::UInt64(a) => {
+            a.know();
+            Some(Leaf::UInt64(a))
+        }
+        ArrayBox::Utf8(a) => {
+            a.know();
+            Some(Leaf::Utf8(a))
+        }
+        ArrayBox::LargeUtf8(a) => {
+            a.know();
+            Some(Leaf::LargeUtf8(a))
+        }
+        ArrayBox::Binary(a) => {
+            a.know();
+            Some(Leaf::Binary(a))
+        }
+        ArrayBox::LargeBinary(a) => {
+            a.know();
+            Some(Leaf::LargeBinary(a))
+        }
+        ArrayBox::UInt32(a) => uint32_leaf(a, physical_type),
+        ArrayBox::Null(a) => {
+            a.know();
+            None
+        }
+        ArrayBox::Boolean(a) => {
+            a.know();
+            None
+        }
+        ArrayBox::Int128(a) => {
+            a.know();
+            None
+        }
+        ArrayBox::DaysMs(a) => {
+            a.know();
+            None
+        }
+        ArrayBox::FixedSizeBinary(a) => {
+            a.know();
+            None
+        }
+        ArrayBox::Dictionary(a) => {
+            a.know();
+            None
+        }
+        ArrayBox::List(a) => {
+            a.know();
+            None
+        }
+        ArrayBox::LargeList(a) => {
+            a.know();
+            None
+        }
+        ArrayBox::FixedSizeList(a) => {
+            a.know();
+            None
+        }
+        ArrayBox::Struct(a) => {
+            a.know();
+            None
+        }
+        ArrayBox::Map(a) => {
+            a.know();
+            None
+        }
+    }
+}

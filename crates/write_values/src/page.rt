@@ -1,0 +1,215 @@
+//! Plain data pages.
+ghost use Rattle.std.specs.Prelude.{◌≡◌, ◌⊎◌, ◌↔◌, ◌<◌, ◌≤◌, ◌^◌, pos, true, false, All, length, map, IfOk, IfErr, IsTrue};
+ghost use Rattle.shredding.specs.Parts.{IsPath, path_way};
+ghost use Rattle.shredding.specs.Shred.{max_repetition, max_definition};
+ghost use Rattle.columns_base.specs.declared.error.Error.TheVariants.{Memory, Overflow, NotYetImplemented};
+ghost use Rattle.columns_base.specs.declared.error.N.TheVariants.{N5};
+ghost use Rattle.columns_base.specs.declared.error.V.TheVariants.{V3};
+ghost use Rattle.columns_array.specs.Boxed.{boxed};
+ghost use Rattle.columns_core.specs.Shapes.{base, leaf_type};
+ghost use Rattle.columns_slots.specs.Slots.{tree_len, type_of};
+ghost use Rattle.levels.specs.Nested.{parts_of};
+ghost use Rattle.levels.specs.Ranges.{leaf_count_or};
+ghost use Rattle.pq_tree.specs.Reads.{ComesWhere};
+ghost use Rattle.pq_tree.specs.Views.{physical_view};
+ghost use Rattle.pq_files.specs.Layout.{OutPage, plain_length};
+ghost use Rattle.pq_files.specs.Room.{room, max_size};
+ghost use Rattle.pq_files.specs.Stored.{AreStored};
+ghost use Rattle.pq_pages.specs.DataPages.{stated_values, stated_encoding};
+ghost use Rattle.write_places.specs.Places.{path_places};
+ghost use Rattle.write_values.specs.Leaf.{leaf_tree, leaf_physical};
+ghost use Rattle.write_values.specs.Pages.{column_room, stored_column, value_column, IsBody, IsHeader, IsPlainOut, IsPlainPage};
+ghost use Rattle.write_values.specs.Served.{is_served};
+ghost use Rattle.write_values.specs.Stored.{stored_at};
+
+use crate::leaf::{Leaf, leaf_of};
+use crate::values::{measure, push_values};
+use columns_array::ArrayBox;
+use columns_core::{Error, N, Result, V};
+use level_sections::write_rep_and_def;
+use levels::{Nested, max_def_level, max_rep_level, num_values, slot_count};
+use pq_pages::DataPage;
+use pq_tree::{
+    DataPageHeader, DataPageHeaderV1, DataPageHeaderV2, Descriptor, PrimitiveType, Version,
+};
+use std::alloc::Global;
+
+// The largest size that a header tells.
+const MAX_SIZE: usize = 2_147_483_647;
+
+// A body, and the lengths of its level sections.
+#[derive(Drop)]
+pub struct Body {
+    pub buffer: Vec<u8>,
+    pub repetition: usize,
+    pub definition: usize,
+}
+
+// What the header of a page counts.
+#[derive(Clone, Copy, Drop)]
+struct Counts {
+    pairs: u32,
+    nulls: u32,
+    rows: u32,
+}
+
+// Whether a page of so many pairs and bytes of values has room.
+fn has_room(pairs: usize, plain: u128) -> bool
+    ensures { IsTrue result ↔ (room pairs plain ≤ max_size) }
+{
+    if pairs > MAX_SIZE {
+        return false;
+    }
+    if plain > MAX_SIZE as u128 {
+        return false;
+    }
+    2048 + 14 * pairs + plain as usize <= MAX_SIZE
+}
+
+// The body of a plain page, whose values have so many bytes.
+fn plain_body(
+    alloc: Global,
+    leaf: Leaf<'_>,
+    nested: &[Nested],
+    version: Version,
+    plain: usize,
+) -> Result<Body>
+    requires well { IsPath (parts_of nested.now) }
+    requires parts { length nested.now ≤ 128 }
+    requires leaf { leaf_count_or 0 (parts_of nested.now) ≤ tree_len (leaf_tree leaf) }
+    requires served { is_served (base (type_of (leaf_tree leaf))) (leaf_physical leaf) ≡ true }
+    requires small { plain_length (leaf_physical leaf) (map (stored_at (leaf_tree leaf) (leaf_physical leaf)) (path_places (parts_of nested.now))) ≤ max_size }
+    requires room { column_room (leaf_physical leaf) (stored_column (leaf_tree leaf) (leaf_physical leaf) nested.now) ≤ max_size }
+    ensures ok { IfOk result (IsBody version (leaf_physical leaf.entry) nested.now (stored_at (leaf_tree leaf.entry) (leaf_physical leaf.entry))) }
+    ensures err { IfErr result (λ e. e ≡ Memory) }
+{
+    let mut buffer = Vec::new(alloc);
+    let (repetition, definition) = write_rep_and_def(version, nested, &mut buffer)?;
+    buffer.reserve(plain)?;
+    let buffer = push_values(leaf, nested, buffer)?;
+    Ok(Body {
+        buffer,
+        repetition,
+        definition,
+    })
+}
+
+// The header of a plain page without statistics.
+fn plain_header(version: Version, counts: Counts, body: &Body) -> DataPageHeader
+    requires pairs { counts.pairs < 2 ^ 31 }
+    requires nulls { counts.nulls < 2 ^ 31 }
+    requires rows { counts.rows < 2 ^ 31 }
+    requires repetition { body.now.repetition < 2 ^ 31 }
+    requires definition { body.now.definition < 2 ^ 31 }
+    ensures values { stated_values result ≡ pos counts.pairs }
+    ensures encoding { stated_encoding result ≡ pos 0 }
+    ensures is { (out : OutPage) → IsPlainOut out counts.pairs counts.nulls counts.rows → IsHeader version out body.now.repetition body.now.definition result }
+{
+    match version {
+        Version::V1 => DataPageHeader::V1(DataPageHeaderV1 {
+            num_values: counts.pairs as i32,
+            encoding: 0,
+            definition_level_encoding: Some(3),
+            repetition_level_encoding: Some(3),
+            statistics: None,
+        }),
+        Version::V2 => DataPageHeader::V2(DataPageHeaderV2 {
+            num_values: counts.pairs as i32,
+            num_nulls: Some(counts.nulls as i32),
+            num_rows: counts.rows as i32,
+            encoding: 0,
+            definition_levels_byte_length: body.definition as i32,
+            repetition_levels_byte_length: body.repetition as i32,
+            is_compressed: Some(false),
+            statistics: None,
+        }),
+    }
+}
+
+fn level_number(level: usize) -> i16
+    requires { level ≤ 256 }
+    ensures { result ≡ pos level }
+{
+    level as i16
+}
+
+// The leaf with the greatest levels of its path.
+fn descriptor_of(type_: PrimitiveType, nested: &[Nested]) -> Descriptor
+    requires well { IsPath (parts_of nested.now) }
+    requires parts { length nested.now ≤ 128 }
+    ensures about { result.primitive_type ≡ type_ }
+    ensures repeats { result.max_rep_level ≡ pos (max_repetition (path_way (parts_of nested.now))) }
+    ensures defines { result.max_def_level ≡ pos (max_definition (path_way (parts_of nested.now))) }
+{
+    Descriptor {
+        primitive_type: type_,
+        max_def_level: level_number(max_def_level(nested)),
+        max_rep_level: level_number(max_rep_level(nested)),
+    }
+}
+
+// A plain page of a leaf array whose values are written.
+fn leaf_page(
+    alloc: Global,
+    leaf: Leaf<'_>,
+    type_: PrimitiveType,
+    nested: &[Nested],
+    version: Version,
+) -> Result<DataPage>
+    requires well { IsPath (parts_of nested.now) }
+    requires parts { length nested.now ≤ 128 }
+    requires leaf { leaf_count_or 0 (parts_of nested.now) ≤ tree_len (leaf_tree leaf) }
+    requires served { is_served (base (type_of (leaf_tree leaf))) (leaf_physical leaf) ≡ true }
+    ensures ok { IfOk result (IsPlainPage version (leaf_physical leaf.entry) (stored_at (leaf_tree leaf.entry) (leaf_physical leaf.entry)) type_ nested.now) }
+    ensures places { All (λ i. i < tree_len (leaf_tree leaf.entry)) (path_places (parts_of nested.now)) }
+    ensures err { IfErr result (λ e. (e ≡ Memory) ⊎ ((e ≡ Overflow V3) × (max_size < column_room (leaf_physical leaf.entry) (stored_column (leaf_tree leaf.entry) (leaf_physical leaf.entry) nested.now)))) }
+{
+    let measured = measure(leaf, nested);
+    let pairs = num_values(nested);
+    if !has_room(pairs, measured.plain) {
+        return Err(Error::Overflow(V::V3));
+    }
+    let body = plain_body(alloc, leaf, nested, version, measured.plain as usize)?;
+    let rows = slot_count(nested);
+    let counts = Counts {
+        pairs: pairs as u32,
+        nulls: (pairs - measured.values) as u32,
+        rows: rows as u32,
+    };
+    let header = plain_header(version, counts, &body);
+    let descriptor = descriptor_of(type_, nested);
+    Ok(DataPage::new(header, body.buffer, descriptor, Some(rows)))
+}
+
+/// One plain data page of the values that a path reaches in its leaf array, in the version that is asked for (Parquet format, "Data Pages",
+/// "Nested Encoding"; Encodings, "Plain"). The page stands for the column of the slots of the path: its levels, and at each present value
+/// the one that the physical type stores for it, by the page table. What lies beneath nulls is not looked at. The path is well formed, and its nulls are those of
+/// its masks.
+///
+/// # Errors
+///
+/// - `NotYetImplemented(N5)` exactly where values of the array's type are not written under the physical type (`is_served`).
+/// - `Overflow(V3)` exactly where they are and the room of the page passes 2^31 - 1.
+/// - `Memory`.
+pub fn plain_page(
+    alloc: Global,
+    array: &ArrayBox,
+    type_: PrimitiveType,
+    nested: &[Nested],
+    version: Version,
+) -> Result<DataPage>
+    requires well { IsPath (parts_of nested.now) }
+    requires parts { length nested.now ≤ 128 }
+    requires leaf { tree_len (boxed array.now) ≡ leaf_count_or 0 (parts_of nested.now) }
+    ensures ok { IfOk result (IsPlainPage version (physical_view type_.physical_type) (stored_at (boxed array.now) (physical_view type_.physical_type)) type_ nested.now) }
+    ensures stored { is_served (base (type_of (boxed array.now))) (physical_view type_.physical_type) ≡ true → AreStored (leaf_type (type_of (boxed array.now))) (physical_view type_.physical_type) (value_column (boxed array.now) nested.now) (stored_column (boxed array.now) (physical_view type_.physical_type) nested.now) }
+    ensures unserved { ComesWhere (NotYetImplemented N5) (is_served (base (type_of (boxed array.now))) (physical_view type_.physical_type) ≡ false) result }
+    ensures too_large { ComesWhere (Overflow V3) ((is_served (base (type_of (boxed array.now))) (physical_view type_.physical_type) ≡ true) × (max_size < column_room (physical_view type_.physical_type) (stored_column (boxed array.now) (physical_view type_.physical_type) nested.now))) result }
+    ensures err { IfErr result (λ e. (e ≡ Memory) ⊎ (e ≡ NotYetImplemented N5) ⊎ (e ≡ Overflow V3)) }
+{
+    array.know();
+    match leaf_of(array, type_.physical_type) {
+        Some(leaf) => leaf_page(alloc, leaf, type_, nested, version),
+        None => Err(Error::NotYetImplemented(N::N5)),
+    }
+}
