@@ -3,3 +3,4 @@ pub mod Pieces
 pub mod Reading
 pub mod Standing
 pub mod PlainRead
+pub mod TextsStored

@@ -1,3 +1,5 @@
 pub mod Numbers
 pub mod Strings
 pub mod PlainValues
+pub mod Ranges
+pub mod Loads

@@ -1,5 +1,6 @@
 //! Facts about the definitions.
 ghost use Rattle.read_leaf.specs.PlainValues.{NumbersAreRead, StringsAreRead};
+ghost use Rattle.read_leaf.specs.Ranges.{LoadedIsStored, StringsAreStored};
 
 /// A text is the plain spelling of numbers exactly where they are all that is read, and no byte is left.
 pub fn numbers_are_read()
@@ -9,4 +10,14 @@ pub fn numbers_are_read()
 /// A text is the plain spelling of byte strings exactly where they are all that is read, and no byte is left.
 pub fn strings_are_read()
     ensures { StringsAreRead }
+{}
+
+/// A value is loaded for a stored number exactly where the page table stores the value so.
+pub fn loaded_is_stored()
+    ensures { LoadedIsStored }
+{}
+
+/// A byte string is loaded as a value exactly where the page table stores the value so.
+pub fn strings_are_stored()
+    ensures { StringsAreStored }
 {}

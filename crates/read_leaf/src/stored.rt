@@ -74,4 +74,18 @@ pub trait FromStored<P: StoredNumber>: NativeType {
 
     /// What stands in the place of a null.
     fn zero() -> Self;
+
+    ghost use Rattle.std.specs.Prelude.{◌≡◌, ◌*◌, true};
+    ghost use Rattle.shredding.specs.Slot.{number};
+    ghost use Rattle.columns_core.specs.Shapes.{leaf_type};
+    ghost use Rattle.columns_core.specs.Tree.{TypeTree};
+    ghost use Rattle.pq_tree.specs.Views.{physical_view};
+    ghost use Rattle.pq_files.specs.Statistics.{has_order};
+    ghost use Rattle.read_leaf.specs.Ranges.{LoadsStored};
+
+    // in each type of arrays of such numbers, the value that the number stands for
+    ghost valued: { (t : TypeTree) (x : Self) → Self.stores t ≡ true → has_order (leaf_type t) ≡ true → Self.value t x ≡ number (loaded_number x) };
+
+    // in each of them, the page table's value for the stored number
+    ghost loads: { (t : TypeTree) → Self.stores t ≡ true → has_order (leaf_type t) ≡ true → LoadsStored loaded (leaf_type t) (physical_view P.physical) (8 * P.byte_count) };
 }
