@@ -7,3 +7,6 @@ pub mod Pieces
 pub mod Depths
 pub mod Alike
 pub mod Passed
+pub mod Refused
+pub mod Settling
+pub mod Plain

@@ -12,14 +12,16 @@ use Rattle.pq_metadata.specs.Footer.{ChunkMeta, GroupMeta}
 use Rattle.pq_tree.specs.Tree.{Leaf, Schema, columns_of}
 use Rattle.pq_files.specs.Carried.{column_in, GroupPages}
 use Rattle.pq_files.specs.Layout.{OutGroup}
+use Rattle.schema_to_tree.specs.Table.{schema_of}
 use Rattle.pq_headline.specs.Columns.{schema_columns}
 use Rattle.pq_headline.specs.Lists.{AllZip3}
 use Rattle.pq_headline.specs.Opened.{AreOpened, AreItems, AreChunksFrom, AreAssembled, rows_in_chunks}
 use Rattle.pq_headline.specs.Arrays.{array_at, rows_of, all_entries, type_in, seen_in}
 use Rattle.pq_headline.specs.Openings.{Opening, piece_size}
+use Rattle.pq_headline.specs.Output.{IsLaidGroup, all_chosen}
 use Rattle.pq_headline.specs.Rewrites.{Asked, Piece, piece_in, all_pieces, IsPieceOut, Converts}
 use Rattle.pq_headline.specs.Rows.{AreAllEntries, HoldsRows, Seen, seen_from, field_slots}
-use Rattle.pq_headline.specs.Written.{IsWrittenAs, Group}
+use Rattle.pq_headline.specs.Written.{HasRead, IsPieceAs, IsWrittenAs}
 use Rattle.pq_headline.specs.Laws.{Steps}
 use Rattle.pq_headline.proofs.Cutting.{joined, cut_is}
 use Rattle.pq_headline.proofs.Groups.{AreSame, are_same, first_is, first_some, Each, Held, held, long}
@@ -95,37 +97,35 @@ all_seen bytes place rows n fs ls ms os before [] lt o h = refl
 all_seen bytes place rows n fs ls ms os before (cs ∷ chunks) lt o h =
     ap (λ s. s ∷ map seen_in chunks) (seen_is bytes place rows n fs ls ms os before cs lt o h.0) ∙ ap (λ ss. seen_from 0 fs (rows_of cs) ∷ ss) (all_seen bytes place rows n fs ls ms os (before + first_len cs) chunks lt o h.1)
 
--- ---- a group that is written
+-- ---- a group that is read
 
-pieces_out : (asked : Asked) (fs : FieldTrees) (tree : Schema) (g : GroupPages) (chunks : List ArrayTrees) (outs : List OutGroup) → Each (λ cs. AreAllEntries (schema_columns fs) (columns_of tree) (map column_in g.chunks) (all_entries cs)) chunks → AllZip (IsWrittenAs asked fs) chunks outs → AllZip (IsPieceOut asked fs tree) (map (piece_in g) (map rows_of chunks)) outs
-pieces_out asked fs tree g [] [] d w = tt
-pieces_out asked fs tree g [] (out ∷ outs) d w = absurd w
-pieces_out asked fs tree g (cs ∷ chunks) [] d w = absurd w
-pieces_out asked fs tree g (cs ∷ chunks) (out ∷ outs) d w = (record { entries = all_entries cs; of_source = d.0; laid = w.0 }, pieces_out asked fs tree g chunks outs d.1 w.1)
+pieces_read : (fs : FieldTrees) (tree : Schema) (g : GroupPages) (chunks : List ArrayTrees) → Each (λ cs. AreAllEntries (schema_columns fs) (columns_of tree) (map column_in g.chunks) (all_entries cs)) chunks → AllZip (IsPieceAs fs tree) (map (piece_in g) (map rows_of chunks)) chunks
+pieces_read fs tree g [] d = tt
+pieces_read fs tree g (cs ∷ chunks) d = (record { rows_are = refl; entries = d.0 }, pieces_read fs tree g chunks d.1)
 
 map_pieces : (fs : FieldTrees) (g : GroupPages) (rs : List (List Slots)) → map (λ p. seen_from 0 fs p.rows) (map (piece_in g) rs) ≡ map (seen_from 0 fs) rs
 map_pieces fs g [] = refl
 map_pieces fs g (r ∷ rs) = ap (λ q. seen_from 0 fs r ∷ q) (map_pieces fs g rs)
 
 pub group_of :
-    (asked : Asked) (fs : FieldTrees) (tree : Schema) (bytes : List ℕ) (place rows : ℕ) (m : GroupMeta) (os : List Opening) (chunks : List ArrayTrees) (outs : List OutGroup)
+    (n : Option ℕ) (fs : FieldTrees) (tree : Schema) (bytes : List ℕ) (place rows : ℕ) (m : GroupMeta) (os : List Opening) (chunks : List ArrayTrees)
     → m.num_rows ≡ pos rows → 0 < length os
-    → AreOpened bytes place rows asked.chunk_size fs (columns_of tree) m.chunks os → AreChunksFrom 0 os chunks → AreAssembled 0 os chunks → rows_in_chunks chunks ≡ rows
-    → AllZip (IsWrittenAs asked fs) chunks outs
-    → Group asked fs tree bytes place m outs (map seen_in chunks)
-group_of asked fs tree bytes place rows m os chunks outs e lt o c a total w =
-    let h : Held fs bytes place rows (columns_of tree) m chunks = held bytes place rows asked.chunk_size fs (columns_of tree) m os chunks e lt o c a in
+    → AreOpened bytes place rows n fs (columns_of tree) m.chunks os → AreChunksFrom 0 os chunks → AreAssembled 0 os chunks → rows_in_chunks chunks ≡ rows
+    → HasRead n fs tree bytes place (m ∷ []) chunks
+group_of n fs tree bytes place rows m os chunks e lt o c a total =
+    let h : Held fs bytes place rows (columns_of tree) m chunks = held bytes place rows n fs (columns_of tree) m os chunks e lt o c a in
     let g : GroupPages = record { rows = rows; chunks = h.gots } in
-    let cuts : cut (all_rows chunks) asked.chunk_size ≡ map rows_of chunks = pieces_are rows asked.chunk_size os chunks lt (are_same bytes place rows asked.chunk_size fs (columns_of tree) m.chunks os o) c total in
+    let cuts : cut (all_rows chunks) n ≡ map rows_of chunks = pieces_are rows n os chunks lt (are_same bytes place rows n fs (columns_of tree) m.chunks os o) c total in
+    let same : map (piece_in g) (map rows_of chunks) ≡ all_pieces n (g ∷ []) (all_rows chunks ∷ []) = ap (map (piece_in g)) (sym cuts) ∙ sym (append-nil (map (piece_in g) (cut (all_rows chunks) n))) in
     record {
-      pages = g;
-      rows = all_rows chunks;
-      hold = h.holds;
-      pieces = subst (λ (rs : List (List Slots)). AllZip (IsPieceOut asked fs tree) (map (piece_in g) rs) outs) (sym cuts) (pieces_out asked fs tree g chunks outs h.entries w);
+      groups = g ∷ [];
+      rows = all_rows chunks ∷ [];
+      hold = (h.holds, tt);
+      pieces = subst (λ (ps : List Piece). AllZip (IsPieceAs fs tree) ps chunks) same (pieces_read fs tree g chunks h.entries);
       shows =
-          all_seen bytes place rows asked.chunk_size fs (columns_of tree) m.chunks os 0 chunks lt o c
+          all_seen bytes place rows n fs (columns_of tree) m.chunks os 0 chunks lt o c
           ∙ sym (map_pieces fs g (map rows_of chunks))
-          ∙ ap (λ (rs : List (List Slots)). map (λ p. seen_from 0 fs p.rows) (map (piece_in g) rs)) (sym cuts);
+          ∙ ap (map (λ p. seen_from 0 fs p.rows)) same;
     }
 
 -- ---- group after group
@@ -136,37 +136,67 @@ zip_more R [] xs' (y ∷ ys) ys' p q = absurd p
 zip_more R (x ∷ xs) xs' [] ys' p q = absurd p
 zip_more R (x ∷ xs) xs' (y ∷ ys) ys' p q = (p.0, zip_more R xs xs' ys ys' p.1 q)
 
-all_more : (n : Option ℕ) (R : GroupMeta → GroupPages → List Slots → Type 0) (ms : List GroupMeta) (gs : List GroupPages) (rs : List (List Slots)) (g : GroupPages) (r : List Slots) → AllZip3 R ms gs rs → all_pieces n (gs ++ g ∷ []) (rs ++ r ∷ []) ≡ all_pieces n gs rs ++ map (piece_in g) (cut r n)
-all_more n R [] [] [] g r h = append-nil (map (piece_in g) (cut r n))
-all_more n R [] [] (r' ∷ rs) g r h = absurd h
-all_more n R [] (g' ∷ gs) rs g r h = absurd h
-all_more n R (m ∷ ms) [] rs g r h = absurd h
-all_more n R (m ∷ ms) (g' ∷ gs) [] g r h = absurd h
-all_more n R (m ∷ ms) (g' ∷ gs) (r' ∷ rs) g r h =
-    ap (λ q. map (piece_in g') (cut r' n) ++ q) (all_more n R ms gs rs g r h.1) ∙ sym (append_assoc (map (piece_in g') (cut r' n)) (all_pieces n gs rs) (map (piece_in g) (cut r n)))
+all_more : (n : Option ℕ) (R : GroupMeta → GroupPages → List Slots → Type 0) (ms : List GroupMeta) (gs hs : List GroupPages) (rs ts : List (List Slots)) → AllZip3 R ms gs rs → all_pieces n (gs ++ hs) (rs ++ ts) ≡ all_pieces n gs rs ++ all_pieces n hs ts
+all_more n R [] [] hs [] ts h = refl
+all_more n R [] [] hs (r ∷ rs) ts h = absurd h
+all_more n R [] (g ∷ gs) hs rs ts h = absurd h
+all_more n R (m ∷ ms) [] hs rs ts h = absurd h
+all_more n R (m ∷ ms) (g ∷ gs) hs [] ts h = absurd h
+all_more n R (m ∷ ms) (g ∷ gs) hs (r ∷ rs) ts h =
+    ap (λ q. map (piece_in g) (cut r n) ++ q) (all_more n R ms gs hs rs ts h.1) ∙ sym (append_assoc (map (piece_in g) (cut r n)) (all_pieces n gs rs) (all_pieces n hs ts))
+
+pub read_none : (n : Option ℕ) (fs : FieldTrees) (tree : Schema) (bytes : List ℕ) (place : ℕ) → HasRead n fs tree bytes place [] []
+read_none n fs tree bytes place = record { groups = []; rows = []; hold = tt; pieces = tt; shows = refl }
+
+pub read_more :
+    (n : Option ℕ) (fs : FieldTrees) (tree : Schema) (bytes : List ℕ) (place : ℕ) (ms others : List GroupMeta) (chunks next : List ArrayTrees)
+    → HasRead n fs tree bytes place ms chunks → HasRead n fs tree bytes place others next → HasRead n fs tree bytes place (ms ++ others) (chunks ++ next)
+read_more n fs tree bytes place ms others chunks next c g =
+    let e : all_pieces n c.groups c.rows ++ all_pieces n g.groups g.rows ≡ all_pieces n (c.groups ++ g.groups) (c.rows ++ g.rows) =
+    sym (all_more n (HoldsRows fs bytes place (columns_of tree)) ms c.groups g.groups c.rows g.rows c.hold) in
+    record {
+      groups = c.groups ++ g.groups;
+      rows = c.rows ++ g.rows;
+      hold = zip_append (HoldsRows fs bytes place (columns_of tree)) ms others c.groups g.groups c.rows g.rows c.hold g.hold;
+      pieces = subst (λ (ps : List Piece). AllZip (IsPieceAs fs tree) ps (chunks ++ next)) e (zip_more (IsPieceAs fs tree) (all_pieces n c.groups c.rows) (all_pieces n g.groups g.rows) chunks next c.pieces g.pieces);
+      shows =
+          map-append seen_in chunks next
+          ∙ ap (λ q. q ++ map seen_in next) c.shows
+          ∙ ap (λ q. map (λ p. seen_from 0 fs p.rows) (all_pieces n c.groups c.rows) ++ q) g.shows
+          ∙ sym (map-append (λ p. seen_from 0 fs p.rows) (all_pieces n c.groups c.rows) (all_pieces n g.groups g.rows))
+          ∙ ap (map (λ p. seen_from 0 fs p.rows)) e;
+    }
+
+-- ---- what is written of it
+
+pub piece_out : (asked : Asked) (fs : FieldTrees) (tree : Schema) (p : Piece) (cs : ArrayTrees) (out : OutGroup) → IsPieceAs fs tree p cs → IsWrittenAs asked fs cs out → IsPieceOut asked fs tree p out
+piece_out asked fs tree p cs out h w = record {
+  entries = all_entries cs;
+  of_source = h.entries;
+  laid = subst (λ (rs : List Slots). IsLaidGroup asked.style rs (schema_columns fs) (columns_of (schema_of fs)) (all_chosen asked.delta (schema_columns fs) (columns_of (schema_of fs))) (all_entries cs) out) (sym h.rows_are) w;
+}
+
+pub pieces_out : (asked : Asked) (fs : FieldTrees) (tree : Schema) (ps : List Piece) (chunks : List ArrayTrees) (outs : List OutGroup) → AllZip (IsPieceAs fs tree) ps chunks → AllZip (IsWrittenAs asked fs) chunks outs → AllZip (IsPieceOut asked fs tree) ps outs
+pieces_out asked fs tree [] [] [] h w = tt
+pieces_out asked fs tree [] [] (out ∷ outs) h w = absurd w
+pieces_out asked fs tree [] (cs ∷ chunks) outs h w = absurd h
+pieces_out asked fs tree (p ∷ ps) [] outs h w = absurd h
+pieces_out asked fs tree (p ∷ ps) (cs ∷ chunks) [] h w = absurd w
+pieces_out asked fs tree (p ∷ ps) (cs ∷ chunks) (out ∷ outs) h w = (piece_out asked fs tree p cs out h.0 w.0, pieces_out asked fs tree ps chunks outs h.1 w.1)
+
+pub converted :
+    (asked : Asked) (fs : FieldTrees) (tree : Schema) (bytes : List ℕ) (place : ℕ) (ms : List GroupMeta) (chunks : List ArrayTrees) (outs : List OutGroup)
+    → HasRead asked.chunk_size fs tree bytes place ms chunks → AllZip (IsWrittenAs asked fs) chunks outs → Converts asked fs tree bytes place ms outs (map seen_in chunks)
+converted asked fs tree bytes place ms chunks outs h w = record {
+  groups = h.groups;
+  rows = h.rows;
+  hold = h.hold;
+  pieces = pieces_out asked fs tree (all_pieces asked.chunk_size h.groups h.rows) chunks outs h.pieces w;
+  shows = h.shows;
+}
 
 pub converts_none : (asked : Asked) (fs : FieldTrees) (tree : Schema) (bytes : List ℕ) (place : ℕ) → Converts asked fs tree bytes place [] [] []
 converts_none asked fs tree bytes place = record { groups = []; rows = []; hold = tt; pieces = tt; shows = refl }
-
-pub converts_more :
-    (asked : Asked) (fs : FieldTrees) (tree : Schema) (bytes : List ℕ) (place : ℕ) (ms : List GroupMeta) (m : GroupMeta) (outs outs' : List OutGroup) (shown shown' : List (List Seen))
-    → Converts asked fs tree bytes place ms outs shown → Group asked fs tree bytes place m outs' shown'
-    → Converts asked fs tree bytes place (ms ++ m ∷ []) (outs ++ outs') (shown ++ shown')
-converts_more asked fs tree bytes place ms m outs outs' shown shown' c g =
-    let e : all_pieces asked.chunk_size (c.groups ++ g.pages ∷ []) (c.rows ++ g.rows ∷ []) ≡ all_pieces asked.chunk_size c.groups c.rows ++ map (piece_in g.pages) (cut g.rows asked.chunk_size) =
-    all_more asked.chunk_size (HoldsRows fs bytes place (columns_of tree)) ms c.groups c.rows g.pages g.rows c.hold in
-    record {
-      groups = c.groups ++ g.pages ∷ [];
-      rows = c.rows ++ g.rows ∷ [];
-      hold = zip_append (HoldsRows fs bytes place (columns_of tree)) ms (m ∷ []) c.groups (g.pages ∷ []) c.rows (g.rows ∷ []) c.hold (g.hold, tt);
-      pieces = subst (λ (ps : List Piece). AllZip (IsPieceOut asked fs tree) ps (outs ++ outs')) (sym e)
-          (zip_more (IsPieceOut asked fs tree) (all_pieces asked.chunk_size c.groups c.rows) (map (piece_in g.pages) (cut g.rows asked.chunk_size)) outs outs' c.pieces g.pieces);
-      shows =
-          ap (λ q. q ++ shown') c.shows
-          ∙ ap (λ q. map (λ p. seen_from 0 fs p.rows) (all_pieces asked.chunk_size c.groups c.rows) ++ q) g.shows
-          ∙ sym (map-append (λ p. seen_from 0 fs p.rows) (all_pieces asked.chunk_size c.groups c.rows) (map (piece_in g.pages) (cut g.rows asked.chunk_size)))
-          ∙ ap (map (λ p. seen_from 0 fs p.rows)) (sym e);
-    }
 
 -- ---- chunk after chunk
 

@@ -1,5 +1,5 @@
 -- Why no array of a field comes (Dremel paper, "Record assembly"; Arrow columnar format, "Variable-size List Layout" and "Dictionary-encoded Layout").
-use Rattle.std.specs.Prelude.{◌≡◌, ◌≢◌, ◌⊎◌, ℕ, suc, ◌*◌, ◌^◌, ◌<◌, IsTrue, List, [], ◌∷◌, ◌++◌, length, drop, sum_by, count_by, All, nat_le, false, ◌&&◌, Option, Some, None}
+use Rattle.std.specs.Prelude.{◌≡◌, ◌≢◌, ◌⊎◌, ℕ, suc, ◌*◌, ◌^◌, ◌<◌, pos, IsTrue, List, [], ◌∷◌, ◌++◌, length, drop, sum_by, count_by, All, nat_le, false, ◌&&◌, Option, Some, None}
 use Rattle.columns_base.specs.declared.error.Error.{Error}
 use Rattle.columns_base.specs.declared.error.Error.TheVariants.{Memory, OutOfSpec, NotYetImplemented, Overflow}
 use Rattle.columns_base.specs.declared.error.S.TheVariants.{S3, S4, S5, S6, S7, S9, S10}
@@ -9,7 +9,7 @@ use Rattle.columns_core.specs.declared.types.IntegerType.{IntegerType}
 use Rattle.columns_core.specs.declared.types.IntegerType.TheVariants as K
 use Rattle.columns_core.specs.Shapes.{base, leaf_type}
 use Rattle.columns_core.specs.Tree.{TypeTree, t_binary, t_large_binary, t_utf8, t_large_utf8, t_dictionary}
-use Rattle.pq_metadata.specs.Header.{Header}
+use Rattle.pq_metadata.specs.Header.{Header, data_page}
 use Rattle.pq_tree.specs.Tree.{Leaf}
 use Rattle.pq_files.specs.Chunk.{RawPage, IsData, count_in}
 use Rattle.pq_files.specs.Page.{HasEncoding, values_in, dictionary as by_dictionary, delta, delta_length}
@@ -188,6 +188,18 @@ SomeV2 _ _ = ⊥
 abbrev pub HasTooMany : Error → Opening → Type 0
 HasTooMany e o = ((e ≡ Overflow V1) × SomeV1 o.chunk_size (field_columns o.field) o.leaves o.outcomes) ⊎ ((e ≡ Overflow V2) × SomeV2 (field_columns o.field) o.outcomes)
 
+-- ---- what is not read yet
+
+-- pages of version 2 or in another encoding than PLAIN, and the entries of a dictionary
+abbrev pub IsUnserved : Outcome → Type 0
+IsUnserved (gives_dictionary n body) = Unit {0}
+IsUnserved (fails e) = ⊥
+IsUnserved (gives_page p levels) = of p.header
+  where
+    of : Header → Type 0
+    of (data_page h) = h.encoding ≢ pos 0
+    of h = Unit {0}
+
 -- ---- all of them
 
 -- Want of memory is free. Of the others each comes only so.
@@ -196,7 +208,7 @@ Refuses o e =
     (e ≡ Memory)
     ⊎ (((e ≡ OutOfSpec S3) ⊎ (e ≡ NotYetImplemented N4)) × SomeFails e o.outcomes)
     ⊎ ((e ≡ OutOfSpec S3) × AnyOf HasMisplaced o.outcomes)
-    ⊎ ((e ≡ NotYetImplemented N4) × SomeN4 (field_columns o.field) o.leaves o.outcomes)
+    ⊎ ((e ≡ NotYetImplemented N4) × (SomeN4 (field_columns o.field) o.leaves o.outcomes ⊎ AnyOf (AnyOf IsUnserved) o.outcomes))
     ⊎ ((e ≡ NotYetImplemented N8) × SomeN8 o.leaves o.outcomes)
     ⊎ HasTooMany e o
     ⊎ (IsOfRows e × (¬ HasRows o))

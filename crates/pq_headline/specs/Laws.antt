@@ -1,28 +1,37 @@
 -- What the definitions promise of themselves.
-use Rattle.std.specs.Prelude.{◌≡◌, ◌<◌, ◌-◌, ℕ, pos, List, [], ◌∷◌, ◌++◌, length, flat_map, map, All, Option, true}
+use Rattle.std.specs.Prelude.{◌≡◌, ◌≢◌, ◌⊎◌, ◌<◌, ◌-◌, ℕ, pos, List, [], ◌∷◌, ◌++◌, length, flat_map, map, All, Option, true, false}
 use Rattle.std.specs.List.{AllZip}
 use Rattle.columns_base.specs.declared.error.Error.{Error}
+use Rattle.columns_base.specs.declared.error.Error.TheVariants.{Overflow}
+use Rattle.columns_base.specs.declared.error.V.TheVariants.{V3}
 use Rattle.columns_core.specs.Shapes.{shape_of, shapes_of}
-use Rattle.columns_core.specs.Tree.{FieldTree, FieldTrees}
+use Rattle.columns_core.specs.Tree.{FieldTree, FieldTrees, no_fields}
 use Rattle.columns_core.specs.View.{SchemaTree}
 use Rattle.columns_slots.specs.Tree.{ArrayTrees}
 use Rattle.pq_metadata.specs.Footer.{Footer, GroupMeta}
-use Rattle.pq_tree.specs.Tree.{Schema, Tree, Trees, leaves, leaves_of, columns_of}
+use Rattle.pq_tree.specs.Tree.{Leaf, Schema, Tree, Trees, leaves, leaves_of, columns_of}
 use Rattle.pq_files.specs.Layout.{OutGroup}
 use Rattle.pq_files.specs.Packed.{Packed}
+use Rattle.pq_files.specs.Page.{plain}
 use Rattle.pq_files.specs.Reasons.{S1, S2, N1, N2, N3, N7}
-use Rattle.schema_fit.specs.Fits.{fits_to}
-use Rattle.schema_to_tree.specs.Table.{schema_of}
+use Rattle.pq_files.specs.Room.{max_size, footer_room, planned_footer}
+use Rattle.schema_fit.specs.Fits.{agrees_with, fits_to}
+use Rattle.schema_to_tree.specs.Conditions.{AreWritten}
+use Rattle.schema_map.specs.Rows.{HasRows as FieldHasRows}
+use Rattle.schema_to_tree.specs.Table.{schema_of, tree_of}
 use Rattle.shredding.specs.Cut.{cut}
 use Rattle.shredding.specs.Shape.{HasNoEmptyStruct, HaveNoEmptyStruct}
 use Rattle.shredding.specs.Slot.{Slots}
 use Rattle.pq_headline.specs.Arrays.{seen_in}
 use Rattle.pq_headline.specs.Opened.{AreOpened, GroupIsPlaced, AreChunksFrom, AreAssembled, rows_in_chunks}
-use Rattle.pq_headline.specs.Openings.{Opening, AreAlike, piece_size}
+use Rattle.pq_headline.specs.Openings.{Opening, AreAlike, CanBeWritten, piece_size}
+use Rattle.pq_headline.specs.Columns.{schema_columns}
+use Rattle.pq_headline.specs.Output.{all_chosen}
 use Rattle.pq_headline.specs.Rewrites.{Asked, Codec, Counts, HasFooterAt, InfersSchema, Converts, Rewrites, keys_out}
 use Rattle.pq_headline.specs.Rows.{Seen}
-use Rattle.pq_headline.specs.Stages.{AreAllAlike, Passes3, Refuses, Valid, list_fields, trees_with_columns}
-use Rattle.pq_headline.specs.Written.{IsWrittenAs, Group}
+use Rattle.pq_headline.specs.Served.{are_served_fields}
+use Rattle.pq_headline.specs.Stages.{AreAllAlike, HaveRows, Passes3, Passes6, Refuses, SchemaFits, Valid, fields_with_columns, list_fields, trees_with_columns}
+use Rattle.pq_headline.specs.Written.{HasRead, IsRefusedAt, IsWrittenAs}
 
 -- ---- cutting
 
@@ -37,22 +46,37 @@ PiecesAreCut = (n : Option ℕ) (left : ℕ) (ps : List (List Slots)) → Steps 
 
 -- ---- groups
 
--- The fields of a group, opened, and chunks of one array of each until all its rows came: where each field is whole, and each chunk is laid out, the group
--- is written as it should be, with the rows of the chunks.
-abbrev pub GroupsAreWritten : Type 0
-GroupsAreWritten =
-    (asked : Asked) (fs : FieldTrees) (tree : Schema) (bytes : List ℕ) (place rows : ℕ) (m : GroupMeta) (os : List Opening) (chunks : List ArrayTrees) (outs : List OutGroup)
+-- The fields of a group, opened, and chunks of one array of each until all its rows came: where each field is whole, the group is read, with the rows of
+-- the chunks.
+abbrev pub GroupsAreRead : Type 0
+GroupsAreRead =
+    (n : Option ℕ) (fs : FieldTrees) (tree : Schema) (bytes : List ℕ) (place rows : ℕ) (m : GroupMeta) (os : List Opening) (chunks : List ArrayTrees)
     → m.num_rows ≡ pos rows → 0 < length os
-    → AreOpened bytes place rows asked.chunk_size fs (columns_of tree) m.chunks os → AreChunksFrom 0 os chunks → AreAssembled 0 os chunks → rows_in_chunks chunks ≡ rows
-    → AllZip (IsWrittenAs asked fs) chunks outs
-    → Group asked fs tree bytes place m outs (map seen_in chunks)
+    → AreOpened bytes place rows n fs (columns_of tree) m.chunks os → AreChunksFrom 0 os chunks → AreAssembled 0 os chunks → rows_in_chunks chunks ≡ rows
+    → HasRead n fs tree bytes place (m ∷ []) chunks
 
--- no group, and one group more
+-- no group, and groups behind others
 pub record GroupsFollow : Type 0 where
-  pub none : (asked : Asked) (fs : FieldTrees) (tree : Schema) (bytes : List ℕ) (place : ℕ) → Converts asked fs tree bytes place [] [] []
+  pub none : (n : Option ℕ) (fs : FieldTrees) (tree : Schema) (bytes : List ℕ) (place : ℕ) → HasRead n fs tree bytes place [] []
   pub more :
-      (asked : Asked) (fs : FieldTrees) (tree : Schema) (bytes : List ℕ) (place : ℕ) (ms : List GroupMeta) (m : GroupMeta) (outs others : List OutGroup) (shown seen : List (List Seen))
-      → Converts asked fs tree bytes place ms outs shown → Group asked fs tree bytes place m others seen → Converts asked fs tree bytes place (ms ++ m ∷ []) (outs ++ others) (shown ++ seen)
+      (n : Option ℕ) (fs : FieldTrees) (tree : Schema) (bytes : List ℕ) (place : ℕ) (ms others : List GroupMeta) (chunks next : List ArrayTrees)
+      → HasRead n fs tree bytes place ms chunks → HasRead n fs tree bytes place others next → HasRead n fs tree bytes place (ms ++ others) (chunks ++ next)
+
+-- What was read, laid out chunk by chunk, is converted.
+abbrev pub WrittenIsConverted : Type 0
+WrittenIsConverted =
+    (asked : Asked) (fs : FieldTrees) (tree : Schema) (bytes : List ℕ) (place : ℕ) (ms : List GroupMeta) (chunks : List ArrayTrees) (outs : List OutGroup)
+    → HasRead asked.chunk_size fs tree bytes place ms chunks → AllZip (IsWrittenAs asked fs) chunks outs → Converts asked fs tree bytes place ms outs (map seen_in chunks)
+
+-- Where all groups were read, what refuses one of the chunks, or the footer behind all of them, refuses the input.
+pub record OutputsAreRefused : Type 0 where
+  pub chunk :
+      (codec : Codec) (asked : Asked) (bytes : List ℕ) (place : ℕ) (f : Footer) (s : SchemaTree) (chunks : List ArrayTrees) (e : Error)
+      → Passes6 codec asked bytes place f s → HasRead asked.chunk_size s.fields f.schema bytes place f.groups chunks → IsRefusedAt asked s.fields chunks e → Refuses codec asked bytes e
+  pub footer :
+      (codec : Codec) (asked : Asked) (bytes : List ℕ) (place : ℕ) (f : Footer) (s : SchemaTree) (chunks : List ArrayTrees) (outs : List OutGroup)
+      → Passes6 codec asked bytes place f s → HasRead asked.chunk_size s.fields f.schema bytes place f.groups chunks → AllZip (IsWrittenAs asked s.fields) chunks outs
+      → (max_size < length (codec.bytes_of s)) ⊎ (max_size < footer_room (planned_footer (schema_of s.fields) (keys_out codec s f.keys) outs)) → Refuses codec asked bytes (Overflow V3)
 
 -- ---- the whole
 
@@ -85,3 +109,19 @@ FittingFieldsAreAlike = (f : FieldTree) (t : Tree) → HasNoEmptyStruct (shape_o
 -- The same of the fields of a schema and the trees with a column.
 abbrev pub FittingSchemasAreAlike : Type 0
 FittingSchemasAreAlike = (fs : FieldTrees) (ts : Trees) → HaveNoEmptyStruct (shapes_of fs) → AllZip (λ f t. fits_to f t ≡ true) (list_fields fs) (trees_with_columns ts) → AreAllAlike fs (leaves_of ts)
+
+-- ---- a schema that is settled
+
+-- Where fields agree with trees one by one, are written, are in the page table and are served, no condition of the stage of the schema holds.
+abbrev pub SettledSchemasFit : Type 0
+SettledSchemasFit =
+    (fs : FieldTrees) (f : Footer) → fs ≢ no_fields → AllZip (λ g t. agrees_with g t ≡ true) (fields_with_columns fs) (trees_with_columns f.schema.fields)
+    → AreWritten fs → HaveRows fs → are_served_fields fs ≡ true → SchemaFits fs f
+
+-- As many leaves of a file go with a field as its own tree has.
+abbrev pub LeavesAreAsMany : Type 0
+LeavesAreAsMany = (f : FieldTree) (ls : List Leaf) → FieldHasRows f → HasNoEmptyStruct (shape_of f) → AreAlike f ls → length ls ≡ length (leaves (tree_of f))
+
+-- Where no deltas are asked for, all columns of fields that are served are written plain.
+abbrev pub ServedIsPlain : Type 0
+ServedIsPlain = (fs : FieldTrees) → CanBeWritten fs → are_served_fields fs ≡ true → all_chosen false (schema_columns fs) (columns_of (schema_of fs)) ≡ map (λ _. plain) (columns_of (schema_of fs))

@@ -11,3 +11,4 @@ pub mod Rows
 pub mod Stages
 pub mod Worked
 pub mod Written
+pub mod Served

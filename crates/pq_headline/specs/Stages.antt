@@ -1,7 +1,7 @@
 -- Why an input is refused, stage by stage. What is refused at a stage has passed those before it.
 -- The stages are: 1 the options, 2 how many bytes there are, 3 the frame and the footer, 4 how many pairs the footer claims, 5 where its chunks lie, 6 the schema, 7 pages and
 -- the rows that they hold, 8 how large the output is and whether it holds each decimal. Of the first two a caller knows before any byte is looked at.
-use Rattle.std.specs.Prelude.{◌≡◌, ◌≢◌, ◌⊎◌, ℕ, ◌+◌, ◌<◌, ◌≤◌, ℤ, pos, negsuc, List, [], ◌∷◌, ◌++◌, length, map, filter, sum_by, false, not, nat_eq, All, Option, Some, None}
+use Rattle.std.specs.Prelude.{◌≡◌, ◌≢◌, ◌⊎◌, ℕ, ◌+◌, ◌<◌, ◌≤◌, ℤ, pos, negsuc, List, [], ◌∷◌, ◌++◌, length, map, filter, sum_by, false, not, nat_eq, All, Option, Some, None, true}
 use Rattle.std.specs.List.{AllZip}
 use Rattle.shredding.specs.Slot.{Slots}
 use Rattle.columns_base.specs.declared.error.Error.{Error}
@@ -30,6 +30,7 @@ use Rattle.pq_headline.specs.Openings.{Opening, AreAlike, CanBeWritten}
 use Rattle.pq_headline.specs.Output.{HasWideDecimal, PieceIsTooLarge}
 use Rattle.pq_headline.specs.Rewrites.{Asked, Codec, HasFooterAt, InfersSchema, Piece, all_pieces, IsPieceOut, keys_out}
 use Rattle.pq_headline.specs.Rows.{HoldsRows, AreAllEntries}
+use Rattle.pq_headline.specs.Served.{are_served_fields}
 use Rattle.pq_headline.specs.Columns.{schema_columns}
 use Rattle.pq_files.specs.Carried.{GroupPages, column_in}
 use Rattle.pq_files.specs.FooterRecord.{RowGroup}
@@ -62,6 +63,7 @@ pub record SchemaFits (fs : FieldTrees) (f : Footer) : Type 0 where
   pub alike : AreAllAlike fs (columns_of f.schema)
   pub written : AreWritten fs
   pub held : CanBeWritten fs
+  pub served : are_served_fields fs ≡ true
 
 abbrev pub list_fields : FieldTrees → List FieldTree
 list_fields no_fields = []
@@ -84,6 +86,11 @@ Misfits fs ts =
     (length (fields_with_columns fs) ≢ length (trees_with_columns ts))
     ⊎ AnyZip (λ f t. agrees_with f t ≡ false) (fields_with_columns fs) (trees_with_columns ts)
 
+-- each leaf of each field is of a type whose values pages have at its nesting
+abbrev pub HaveRows : FieldTrees → Type 0
+HaveRows no_fields = Unit {0}
+HaveRows (more_fields f fs) = FieldHasRows f × HaveRows fs
+
 -- a text under the key counts
 abbrev pub HasKey : KeyRule → Footer → Type 0
 HasKey rule f = counting rule (gathered f.keys) ≢ None
@@ -93,7 +100,7 @@ RefusesSchema6 codec rule f (InvalidArgumentError A.A2) = inferred codec.reads r
 RefusesSchema6 codec rule f (InvalidArgumentError A.A3) = (s : SchemaTree) × InfersSchema codec rule f s × (s.fields ≡ no_fields)
 RefusesSchema6 codec rule f (OutOfSpec S.S8) = (s : SchemaTree) × InfersSchema codec rule f s × HasKey rule f × Misfits s.fields f.schema.fields
 RefusesSchema6 codec rule f (NotYetImplemented N.N6) = (s : SchemaTree) × InfersSchema codec rule f s × (¬ HasKey rule f) × Misfits s.fields f.schema.fields
-RefusesSchema6 codec rule f (NotYetImplemented N.N5) = (s : SchemaTree) × InfersSchema codec rule f s × (RefusesSchema s.fields (NotYetImplemented N.N5) ⊎ AnyOf (λ g. ¬ FieldHasRows g) (list_fields s.fields))
+RefusesSchema6 codec rule f (NotYetImplemented N.N5) = (s : SchemaTree) × InfersSchema codec rule f s × (RefusesSchema s.fields (NotYetImplemented N.N5) ⊎ AnyOf (λ g. ¬ FieldHasRows g) (list_fields s.fields) ⊎ (are_served_fields s.fields ≡ false))
 RefusesSchema6 codec rule f (NotYetImplemented N.N7) = (s : SchemaTree) × InfersSchema codec rule f s × RefusesSchema s.fields (NotYetImplemented N.N7)
 RefusesSchema6 codec rule f (InvalidArgumentError A.A4) = (s : SchemaTree) × InfersSchema codec rule f s × RefusesSchema s.fields (InvalidArgumentError A.A4)
 RefusesSchema6 codec rule f (InvalidArgumentError A.A5) = (s : SchemaTree) × InfersSchema codec rule f s × RefusesSchema s.fields (InvalidArgumentError A.A5)

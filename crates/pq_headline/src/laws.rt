@@ -1,21 +1,32 @@
 //! What is known of a rewrite.
-ghost use Rattle.pq_headline.specs.Laws.{FittingFieldsAreAlike, FittingSchemasAreAlike, GroupsAreWritten, GroupsFollow, PassedIsNotRefused, PiecesAreCut, RefusedIsNotValid, WithoutGroups};
+ghost use Rattle.pq_headline.specs.Laws.{FittingFieldsAreAlike, FittingSchemasAreAlike, GroupsAreRead, GroupsFollow, LeavesAreAsMany, OutputsAreRefused, PassedIsNotRefused, PiecesAreCut, RefusedIsNotValid, ServedIsPlain, SettledSchemasFit, WithoutGroups, WrittenIsConverted};
 ghost use Rattle.pq_headline.specs.Worked.{AreWorked};
+
+use schema_map::rows_decide;
 
 /// Pieces, each as long as the next one is to be until none is left, are the cut of their rows.
 pub fn pieces_are_cut()
     ensures { PiecesAreCut }
 {}
 
-/// Arrays side by side, chunk after chunk until each field is whole, are the rows of the group, and what is laid out of them is the group as it
-/// is to be written.
-pub fn groups_are_written()
-    ensures { GroupsAreWritten }
+/// Arrays side by side, chunk after chunk until each field is whole, are the rows of the group.
+pub fn groups_are_read()
+    ensures { GroupsAreRead }
 {}
 
-/// No groups, and one group more, are converted.
+/// No groups, and groups behind others, are read.
 pub fn groups_follow()
     ensures { GroupsFollow }
+{}
+
+/// What was read and is laid out chunk by chunk is converted.
+pub fn written_is_converted()
+    ensures { WrittenIsConverted }
+{}
+
+/// What refuses a chunk of what was read, or the footer behind all chunks, refuses the input.
+pub fn outputs_are_refused()
+    ensures { OutputsAreRefused }
 {}
 
 /// A file without groups is rewritten as the packed file of its schema without groups, and as no other.
@@ -47,3 +58,22 @@ pub fn fitting_fields_are_alike()
 pub fn fitting_schemas_are_alike()
     ensures { FittingSchemasAreAlike }
 {}
+
+/// Fields that agree with the trees of a file, and of which each can be written, fit the file.
+pub fn settled_schemas_fit()
+    ensures { SettledSchemasFit }
+{}
+
+/// As many leaves of a file go with a field as its own tree has.
+pub fn leaves_are_as_many()
+    ensures { LeavesAreAsMany }
+{
+    rows_decide();
+}
+
+/// Without deltas all columns of fields that are served are written plain.
+pub fn served_is_plain()
+    ensures { ServedIsPlain }
+{
+    rows_decide();
+}

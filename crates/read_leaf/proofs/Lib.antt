@@ -4,3 +4,4 @@ pub mod Reading
 pub mod Standing
 pub mod PlainRead
 pub mod TextsStored
+pub mod FrontsRead

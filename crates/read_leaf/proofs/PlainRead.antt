@@ -64,7 +64,7 @@ numbers-read = (
 )
 
 -- ---- strings
-front-string : (first s others : List ℕ) → IsPrefixed first s → string_at (first ++ others) ≡ Some (s, others)
+pub front-string : (first s others : List ℕ) → IsPrefixed first s → string_at (first ++ others) ≡ Some (s, others)
 front-string first s others h =
     let text = first ++ others in
     let parts : text ≡ h.head ++ (s ++ others) = ap (λ (t : List ℕ). t ++ others) h.parts ∙ append_assoc h.head s others in

@@ -14,7 +14,7 @@ use Rattle.shredding.specs.Slot.{bytes, Slot, null, value}
 use Rattle.pq_numbers.specs.Texts.{number_of}
 use Rattle.read_walk.specs.Values.{Stored, Decodes, CannotDecode, bytes_in, bytes_of}
 use Rattle.read_walk.proofs.Decoding.{slots-append, slots-values, slots-nulls, cannot-behind, cannot-more}
-use Rattle.read_leaf.specs.Strings.{string_at, strings_in, strings_behind, all_strings, stored_strings, total_bytes, string_slots, AreStrings, IsText}
+use Rattle.read_leaf.specs.Strings.{string_at, strings_in, strings_behind, all_strings, stored_strings, total_bytes, string_slots, AreStrings, AreAllowed, IsText}
 use Rattle.read_leaf.proofs.Pieces.{total-append}
 
 -- ---- the string at the front
@@ -105,6 +105,19 @@ are-nulls n ss ss' bs bs' a e f = rw (e, f) record {
   even = omega (arith, length-append ss (replicate n []), length-append bs (replicate n false), length-replicate {A = List ℕ} n [], length-replicate n false, a.even);
   all = ap bytes_in (nulls-more n ss bs a.even) ∙ omega (arith, slots-append (string_slots ss bs) (replicate n null), slots-nulls n, total-append ss (replicate n []), total-empty n, a.all);
 }
+
+-- ---- strings that are values
+pub allowed-more : (allows : List ℕ → Bool) (ss : List (List ℕ)) (s : List ℕ) → AreAllowed allows ss → allows s ≡ true → AreAllowed allows (ss ++ s ∷ [])
+allowed-more allows [] s a e = (e, tt)
+allowed-more allows (t ∷ ss) s a e = (a.0, allowed-more allows ss s a.1 e)
+
+all-allowed : (allows : List ℕ → Bool) (n : ℕ) → allows [] ≡ true → AreAllowed allows (replicate n [])
+all-allowed allows zero e = tt
+all-allowed allows (suc n) e = (e, all-allowed allows n e)
+
+pub allowed-nulls : (allows : List ℕ → Bool) (n : ℕ) (ss : List (List ℕ)) → AreAllowed allows ss → allows [] ≡ true → AreAllowed allows (ss ++ replicate n [])
+allowed-nulls allows n [] a e = all-allowed allows n e
+allowed-nulls allows n (t ∷ ss) a e = (a.0, allowed-nulls allows n ss a.1 e)
 
 -- ---- a string decoded
 pub allowed : (allows : List ℕ → Bool) (text s rest : List ℕ) → string_at text ≡ Some (s, rest) → allows s ≡ true → stored_strings allows text ≡ Some (bytes s) ∷ stored_strings allows rest

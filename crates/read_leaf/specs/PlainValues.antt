@@ -1,8 +1,8 @@
 -- What the decoders read is what the plain encoding spells (Parquet format, Encodings, "Plain").
-use Rattle.std.specs.Prelude.{◌≡◌, ◌↔◌, ℕ, ◌+◌, ◌*◌, ℤ, List, map, length}
+use Rattle.std.specs.Prelude.{◌≡◌, ◌↔◌, ℕ, ◌+◌, ◌*◌, ℤ, List, map, length, take}
 use Rattle.std.specs.Int.{w32, w64, cast_signed}
 use Rattle.shredding.specs.Slot.{number, bytes}
-use Rattle.pq_numbers.specs.Texts.{number_of}
+use Rattle.pq_numbers.specs.Texts.{number_of, Begins}
 use Rattle.pq_tree.specs.Physical.{Physical, int32, int64, byte_array}
 use Rattle.pq_files.specs.Plain.{IsPlain}
 use Rattle.read_leaf.specs.Numbers.{all_numbers}
@@ -27,3 +27,13 @@ NumbersAreRead = AreNumbersRead int32 spelled_32 4 × AreNumbersRead int64 spell
 abbrev pub StringsAreRead : Type 0
 StringsAreRead =
     (text : List ℕ) (ss : List (List ℕ)) → IsPlain byte_array text (map bytes ss) ↔ ((length text ≡ 4 * length ss + total_bytes ss) × (all_strings text ≡ ss))
+
+-- bytes begin with the plain spelling of numbers exactly where they are the first that are read
+abbrev pub AreFirstRead : Physical → (List ℕ → ℤ) → ℕ → Type 0
+AreFirstRead p spelled size = (text : List ℕ) (zs : List ℤ) → Begins (IsPlain p) text (map number zs) ↔ (take (length zs) (all_numbers spelled size text) ≡ zs)
+
+-- the same of numbers of four and of eight bytes, and of byte strings
+pub record FrontsAreRead : Type 0 where
+  pub small : AreFirstRead int32 spelled_32 4
+  pub wide : AreFirstRead int64 spelled_64 8
+  pub strings : (text : List ℕ) (ss : List (List ℕ)) → Begins (IsPlain byte_array) text (map bytes ss) ↔ (take (length ss) (all_strings text) ≡ ss)

@@ -1,5 +1,5 @@
 -- Plain byte strings, and what is decoded of them (Parquet format, Encodings, "Plain"; Arrow columnar format, "Variable-size Binary Layout").
-use Rattle.std.specs.Prelude.{◌≡◌, ℕ, zero, suc, ◌+◌, ◌<◌, ◌≤◌, Bool, nat_lt, Option, Some, None, List, [], ◌∷◌, map, length, take, drop, slice_index, if◌then◌else◌, IsUtf8}
+use Rattle.std.specs.Prelude.{◌≡◌, ℕ, zero, suc, ◌+◌, ◌<◌, ◌≤◌, Bool, true, nat_lt, Option, Some, None, List, [], ◌∷◌, map, length, take, drop, slice_index, if◌then◌else◌, IsUtf8}
 use Rattle.shredding.specs.Slot.{bytes, Slot, null, value}
 use Rattle.columns_core.specs.Rising.{last_place}
 use Rattle.columns_slots.specs.Bytes.{pieces}
@@ -55,6 +55,11 @@ pub record IsLaid (offsets content : List ℕ) : Type 0 where
 abbrev pub string_slots : List (List ℕ) → List Bool → List Slot
 string_slots (s ∷ ss) (b ∷ bs) = (if b then value (bytes s) else null) ∷ string_slots ss bs
 string_slots _ _ = []
+
+-- each string is a value of the leaf
+abbrev pub AreAllowed : (List ℕ → Bool) → List (List ℕ) → Type 0
+AreAllowed allows [] = Unit {0}
+AreAllowed allows (s ∷ ss) = (allows s ≡ true) × AreAllowed allows ss
 
 -- as many strings as validities, and nulls have no bytes
 pub record AreStrings (ss : List (List ℕ)) (bs : List Bool) : Type 0 where

@@ -11,7 +11,9 @@ mod stored;
 mod strings;
 
 pub use binary::Binary;
-pub use laws::{loaded_is_stored, numbers_are_read, strings_are_read, strings_are_stored};
+pub use laws::{
+    fronts_are_read, loaded_is_stored, numbers_are_read, strings_are_read, strings_are_stored,
+};
 pub use primitive::{NumberValues, PlainNumbers, PrimitiveDecoder};
 pub use stored::{FromStored, StoredNumber};
 pub use strings::{Bytes, PlainStrings, StringDecoder, StringKind, StringValues, Text};

@@ -5,7 +5,7 @@ ghost use Rattle.columns_base.specs.declared.error.V.{V};
 ghost use Rattle.shredding.specs.Slot.{bytes, null, value};
 ghost use Rattle.pq_numbers.specs.Texts.{number_of};
 ghost use Rattle.read_walk.specs.Values.{Decodes, CannotDecode, bytes_in};
-ghost use Rattle.read_leaf.specs.Strings.{string_at, stored_strings, string_slots, IsText};
+ghost use Rattle.read_leaf.specs.Strings.{string_at, stored_strings, string_slots, AreAllowed, IsText};
 
 use crate::binary::Binary;
 use crate::cut::skip;
@@ -25,6 +25,11 @@ pub trait StringKind {
     /// Whether the string is a value of the leaf.
     fn is_value(bytes: &[u8]) -> bool
         ensures { result ≡ allows bytes.now };
+
+    ghost use Rattle.std.specs.Prelude.{◌≡◌, [], true};
+
+    // the empty string, which stands in the place of a null, is one
+    ghost empty: { allows [] ≡ true };
 }
 
 /// Byte strings: all are values.
@@ -32,9 +37,11 @@ pub trait StringKind {
 pub struct Bytes;
 
 impl StringKind for Bytes {
-    ghost use Rattle.std.specs.Prelude.{true};
+    ghost use Rattle.std.specs.Prelude.{true, refl};
 
     ghost allows = { λ s. true };
+
+    ghost empty = { refl };
 
     fn is_value(_bytes: &[u8]) -> bool {
         true
@@ -56,9 +63,13 @@ fn is_text(bytes: &[u8]) -> bool
 pub struct Text;
 
 impl StringKind for Text {
+    ghost use Rattle.std.specs.Prelude.{[]};
     ghost use Rattle.std.specs.Str.{is_utf8};
+    ghost use Rattle.std.proofs.lemmas.Str.{is_utf8-from_IsUtf8, IsUtf8-nil};
 
     ghost allows = { is_utf8 };
+
+    ghost empty = { is_utf8-from_IsUtf8 [] IsUtf8-nil };
 
     fn is_value(bytes: &[u8]) -> bool {
         is_text(bytes)
@@ -71,25 +82,26 @@ pub struct PlainStrings<'a> {
     pub values: &'a [u8],
 }
 
-/// Strings, and which of them are there.
+/// Strings, each a value of the leaf by `K`, and which of them are there.
 #[derive(Debug, Drop)]
-pub struct StringValues<O: Offset> {
+pub struct StringValues<O: Offset, K: StringKind> {
     strings: Binary<O>,
     validity: MutableBitmap,
+    kind: PhantomData<K>,
 }
 
-impl<O: Offset> Model for StringValues<O> {
+impl<O: Offset, K: StringKind> Model for StringValues<O, K> {
     ghost use Rattle.std.specs.Prelude.{List, Bool, ℕ};
-    ghost use Rattle.read_leaf.specs.Strings.{AreStrings};
+    ghost use Rattle.read_leaf.specs.Strings.{AreStrings, AreAllowed};
 
     ghost Value = { List (List ℕ) × List Bool };
 
     ghost view = { λ d. (d.strings, d.validity.0) };
 
-    ghost invariant = { λ d. AreStrings d.strings d.validity.0 };
+    ghost invariant = { λ d. AreStrings d.strings d.validity.0 × AreAllowed K.allows d.strings };
 }
 
-impl<O: Offset> StringValues<O> {
+impl<O: Offset, K: StringKind> StringValues<O, K> {
     /// No string.
     ///
     /// # Errors
@@ -103,6 +115,7 @@ impl<O: Offset> StringValues<O> {
         Ok(StringValues {
             strings: Binary::with_capacity(alloc, 0)?,
             validity: MutableBitmap::new(alloc),
+            kind: PhantomData,
         })
     }
 
@@ -118,12 +131,14 @@ impl<O: Offset> StringValues<O> {
         ensures strings { result.0 ≡ self.0 }
         ensures validity { result.1.0 ≡ self.1 }
         ensures even { list_length self.0 ≡ list_length self.1 }
+        ensures allowed { AreAllowed K.allows result.0 }
     {
         (self.strings, self.validity)
     }
 
     // A string that is there.
     fn push(&mut self, string: &[u8]) -> Result<()>
+        requires { K.allows string.now ≡ true }
         ensures ok { OnOk result (string_slots self.new.0 self.new.1 ≡ string_slots self.old.0 self.old.1 ++ value (bytes string.now) ∷ []) }
         ensures err { IfErr result (λ e. (e ≡ Error.Memory) ⊎ ((e ≡ Error.Overflow V.V1) × (O.limit ≤ bytes_in (string_slots self.old.0 self.old.1) + list_length string.now))) }
     {
@@ -196,7 +211,7 @@ impl<O, K> StringDecoder<O, K> {
 // Takes the next string.
 fn push_next<'a, O: Offset, K: StringKind>(
     state: &mut PlainStrings<'a>,
-    decoded: &mut StringValues<O>,
+    decoded: &mut StringValues<O, K>,
 ) -> Result<()>
     ensures ok { OnOk result (Decodes 1 (stored_strings K.allows state.old.values.now) (stored_strings K.allows state.new.values.now) (string_slots decoded.old.0 decoded.old.1) (string_slots decoded.new.0 decoded.new.1)) }
     ensures err { IfErr result (CannotDecode O.limit 1 (stored_strings K.allows state.old.values.now) (string_slots decoded.old.0 decoded.old.1)) }
@@ -218,7 +233,7 @@ impl<'a, O: Offset, K: StringKind> NestedDecoder<'a> for StringDecoder<O, K> {
 
     type State = PlainStrings<'a>;
 
-    type DecodedState = StringValues<O>;
+    type DecodedState = StringValues<O, K>;
 
     ghost left = { λ s. stored_strings K.allows s.values.now };
 
@@ -229,7 +244,7 @@ impl<'a, O: Offset, K: StringKind> NestedDecoder<'a> for StringDecoder<O, K> {
     fn push_valid(
         &self,
         state: &mut PlainStrings<'a>,
-        decoded: &mut StringValues<O>,
+        decoded: &mut StringValues<O, K>,
         count: usize,
     ) -> Result<()>
         ensures ok { OnOk result (Decodes count (stored_strings K.allows state.old.values.now) (stored_strings K.allows state.new.values.now) (string_slots decoded.old.0 decoded.old.1) (string_slots decoded.new.0 decoded.new.1)) }
@@ -244,7 +259,7 @@ impl<'a, O: Offset, K: StringKind> NestedDecoder<'a> for StringDecoder<O, K> {
         Ok(())
     }
 
-    fn push_null(&self, decoded: &mut StringValues<O>, count: usize) -> Result<()>
+    fn push_null(&self, decoded: &mut StringValues<O, K>, count: usize) -> Result<()>
         ensures ok { OnOk result (string_slots decoded.new.0 decoded.new.1 ≡ string_slots decoded.old.0 decoded.old.1 ++ replicate count null) }
         ensures err { IfErr result (λ e. e ≡ Error.Memory) }
     {

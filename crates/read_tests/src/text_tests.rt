@@ -11,13 +11,13 @@ const DEFS: &[u8] = &[3, 0b0000_0101];
 const VALUES: &[u8] = &[1, 0, 0, 0, 97, 2, 0, 0, 0, 98, 99];
 
 // The walk of all rows of a required struct with a nullable text.
-fn walk(alloc: Global, values: &[u8]) -> Result<(NestedState, StringValues<i32>)> {
+fn walk(alloc: Global, values: &[u8]) -> Result<(NestedState, StringValues<i32, Text>)> {
     let mut nested = init_nested(
         alloc,
         &[InitNested::Struct(false), InitNested::Primitive(true)],
         0,
     )?;
-    let mut decoded = StringValues::<i32>::new(alloc)?;
+    let mut decoded = StringValues::<i32, Text>::new(alloc)?;
     let mut page = NestedPage::try_new(&[], 0, DEFS, 1, 3)?;
     let mut values = PlainStrings { values };
     let decoder = StringDecoder::<i32, Text>::new();

@@ -3,14 +3,15 @@ use Rattle.std.proofs.Common.{◌≡◌, ◌⊎◌, inl, inr, ℕ, ◌+◌, ◌<
 use Rattle.std.proofs.lemmas.List.{map-append}
 use Rattle.columns_base.specs.declared.error.Error.{Error}
 use Rattle.shredding.specs.Slot.{Slot}
+use Rattle.shredding.specs.Shape.{Way}
 use Rattle.shredding.specs.Shred.{Triple, max_definition}
 use Rattle.read_laws.specs.State.{Kept, kept_way}
 use Rattle.read_walk.specs.Gives.{called}
 use Rattle.read_walk.specs.Order.{zipped, last_level, OneMayNot}
 use Rattle.read_walk.specs.Pairs.{Pair, Item, pair_items, TakesBlock}
-use Rattle.read_walk.specs.Values.{Stored}
+use Rattle.read_walk.specs.Values.{Stored, AreThere}
 use Rattle.read_walk.specs.Blocks.{CannotTake}
-use Rattle.read_walk.specs.Walk.{pair_of, begun, values_of, AreWanted, GoesOn, Refuses, mark_pair}
+use Rattle.read_walk.specs.Walk.{pair_of, begun, values_of, AreWithin, AreWanted, GoesOn, Refuses, mark_pair}
 use Rattle.read_walk.proofs.Decoding.{cannot-behind, cannot-more}
 use Rattle.read_walk.proofs.Walking.{Progress, begun-append, begun-zipped, items-zipped, last-append, walk-append, marks-pairs, called-append, called-triples, length-zipped, second-zipped}
 
@@ -18,6 +19,18 @@ pub smaller : (reps defs : List ℕ) (old new : List Item) → old ≡ pair_item
 smaller [] defs old new e z some = absurd (omega (arith, some))
 smaller (r ∷ reps) [] old new e z some = absurd (omega (arith, z))
 smaller (r ∷ reps) (d ∷ defs) old new e z some = omega (arith, ap length e, length-append (pair_items reps defs) new)
+
+-- the values so far and those of the block
+called-all : (top : ℕ) (so-far : List Pair) (reps defs : List ℕ) → length defs ≡ length reps → called top (map (λ q. q.1) (so-far ++ zipped reps defs)) ≡ called top (map (λ q. q.1) so-far) + called top defs
+called-all top so-far reps defs z = ap (called top) (map-append (λ q. q.1) so-far (zipped reps defs)) ∙ (called-append top (map (λ q. q.1) so-far) (map (λ q. q.1) (zipped reps defs)) ∙ ap (λ (ds : List ℕ). called top (map (λ q. q.1) so-far) + called top ds) (second-zipped reps defs z))
+
+all-there : (w : Way) (ts : List Triple) (reps defs : List ℕ) (left left' : List Stored) → length defs ≡ length reps → AreWithin w ts → left ≡ map Some (values_of ts) ++ left' → AreThere (called (max_definition w) defs) left' → AreThere (called (max_definition w) (map (λ q. q.1) (map pair_of ts ++ zipped reps defs))) left
+all-there w ts reps defs left left' z within e there = record {
+  values = values_of ts ++ there.values;
+  rest = there.rest;
+  next = rw (map-append Some (values_of ts) there.values) (e ∙ (ap (λ (vs : List Stored). map Some (values_of ts) ++ vs) there.next ∙ sym (append_assoc (map Some (values_of ts)) (map Some there.values) there.rest)));
+  size = omega (arith, length-append (values_of ts) there.values, called-triples w ts within, there.size, called-all (max_definition w) (map pair_of ts) reps defs z);
+}
 
 -- the pairs so far and some of the block's are wanted
 some-wanted : (rows rest n : ℕ) (before : Option ℕ) (reps defs : List ℕ) (page page' page'' : List Item) (left left' : List Stored) (ks ks' : List Kept) (s s' : List Slot) (front back : List Pair) →
@@ -61,13 +74,14 @@ refused-block most rows rest n before reps defs page page' page'' left left' ks 
               wanted = wanted;
               some = omega (arith, length-append so-far block, length-zipped reps defs b.1, b.2);
               long = rw (map-append mark_pair so-far block, walk-append (map mark_pair so-far) (map mark_pair block) ks, ← marks-pairs p.triples, ← p.walked) long.1;
+              there = all-there (kept_way ks) p.triples reps defs left left' b.1 p.within p.values (rw p.way at long.2);
             },
           ))))
       | inr (inr values) ↦
           let wanted : AreWanted rows page (so-far ++ block) page'' = some-wanted rows rest n before reps defs page page' page'' left left' ks ks' s s' block [] p b (sym (append-nil block)) p.triples p.pairs p.wanted in
           let top = max_definition (kept_way ks) in
           let behind = cannot-behind most (called top defs) (values_of p.triples) left left' s s' e p.values p.sized (rw p.way at values) in
-          let all : called top (map (λ q. q.1) (so-far ++ block)) ≡ called top (map (λ q. q.1) so-far) + called top defs = ap (called top) (map-append (λ q. q.1) so-far block) ∙ (called-append top (map (λ q. q.1) so-far) (map (λ q. q.1) block) ∙ ap (λ (ds : List ℕ). called top (map (λ q. q.1) so-far) + called top ds) (second-zipped reps defs b.1)) in
+          let all = called-all top so-far reps defs b.1 in
           inr (inr (inr (inr (record {
             pairs = so-far ++ block;
             rest = page'';

@@ -131,6 +131,12 @@ present : (floor top d : ℕ) (s : Slot) (o : Option Value) → LeafIs floor top
 present floor top d s None l = sym (ne_eqb d top l.0)
 present floor top d s (Some v) l = sym (eq-eqb d top l.0)
 
+pub given-called : (floor top place : ℕ) (leaf : ℕ → Slot) (ds : List ℕ) (os : List (Option Value)) → Each floor top leaf place ds os → length (given os) ≡ called top ds
+given-called floor top place leaf [] [] e = refl
+given-called floor top place leaf [] (o ∷ os) e = absurd e
+given-called floor top place leaf (d ∷ ds) [] e = absurd e
+given-called floor top place leaf (d ∷ ds) (o ∷ os) e = given-one (nat_eq d top) o os (present floor top d (leaf place) o e.0) ∙ ap (λ (n : ℕ). bit (nat_eq d top) + n) (given-called floor top (place + bit (nat_le floor d)) leaf ds os e.1)
+
 within-triples : (w : Way) (before : Option ℕ) (floor place : ℕ) (leaf : ℕ → Slot) (rs ds : List ℕ) (os : List (Option Value)) → length ds ≡ length rs → Follows w before (zipped rs ds) → Each floor (max_definition w) leaf place ds os → AreWithin w (triples_of rs ds os)
 within-triples w before floor place leaf [] ds os z f e = tt
 within-triples w before floor place leaf (r ∷ rs) [] os z f e = tt
@@ -146,7 +152,7 @@ given-append [] ys = refl
 given-append (None ∷ xs) ys = given-append xs ys
 given-append (Some v ∷ xs) ys = ap (λ vs. v ∷ vs) (given-append xs ys)
 
-values-append : (xs ys : List Triple) → values_of (xs ++ ys) ≡ values_of xs ++ values_of ys
+pub values-append : (xs ys : List Triple) → values_of (xs ++ ys) ≡ values_of xs ++ values_of ys
 values-append xs ys = ap given (map-append (λ t. t.value) xs ys) ∙ given-append (map (λ t. t.value) xs) (map (λ t. t.value) ys)
 
 bytes-append : (xs ys : List Value) → bytes_of (xs ++ ys) ≡ bytes_of xs + bytes_of ys
@@ -202,6 +208,8 @@ finished rows rest before reps defs page page' page'' left left' ks ks' s s' p b
       way = p.way;
       fits = p.fits;
       decoded = p.decoded;
+      built = p.walked;
+      sized = p.sized;
       counted = p.counted;
       most = omega (arith, p.wanted);
       stops = rw (← more, b.0) b.1;

@@ -14,12 +14,12 @@ use Rattle.columns_base.specs.declared.error.V.TheVariants.{V1}
 use Rattle.read_walk.specs.Gives.{given, called, Each}
 use Rattle.read_walk.specs.Order.{zipped, last_level, EndedAt}
 use Rattle.read_walk.specs.Walk.{mark_pair}
-use Rattle.read_walk.specs.Values.{Stored, CannotDecode, bytes_of, bytes_in}
+use Rattle.read_walk.specs.Values.{Stored, AreThere, CannotDecode, bytes_of, bytes_in}
 
 -- an error for which a block cannot be taken, with its cause
 abbrev pub CannotTake : ℕ → List ℕ → List ℕ → List Kept → List Stored → List Slot → Error → Type 0
 CannotTake limit reps defs ks left slots e =
-    ((e ≡ Overflow V1) × HasLongItems (walk (map mark_pair (zipped reps defs)) ks)) ⊎ CannotDecode limit (called (max_definition (kept_way ks)) defs) left slots e
+    ((e ≡ Overflow V1) × HasLongItems (walk (map mark_pair (zipped reps defs)) ks) × AreThere (called (max_definition (kept_way ks)) defs) left) ⊎ CannotDecode limit (called (max_definition (kept_way ks)) defs) left slots e
 
 -- pairs with what they give
 abbrev pub triples_of : List ℕ → List ℕ → List (Option Value) → List Triple

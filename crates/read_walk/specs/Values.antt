@@ -17,6 +17,13 @@ pub record Decodes (n : ℕ) (left left' : List Stored) (slots slots' : List Slo
   pub taken : left ≡ map Some values ++ left'
   pub pushed : slots' ≡ slots ++ map value values
 
+-- the next n are values of the leaf
+pub record AreThere (n : ℕ) (left : List Stored) : Type 0 where
+  pub values : List Value
+  pub rest : List Stored
+  pub next : left ≡ map Some values ++ rest
+  pub size : length values ≡ n
+
 -- ---- why values cannot be decoded
 
 -- fewer than so many are stored

@@ -47,8 +47,8 @@ pub fn take_block<'a, D: NestedDecoder<'a>>(
     ensures err { IfErr result (CannotTake D.byte_limit reps.now defs.now nested.old (D.left values.old) (D.slots decoded.old)) }
 {
     let (floor, top) = leaf_levels(nested);
-    match nested.push_levels(reps, defs) {
-        Ok(()) => decode_levels(values, decoded, decoder, defs, floor, top),
+    match decode_levels(values, decoded, decoder, defs, floor, top) {
+        Ok(()) => nested.push_levels(reps, defs),
         Err(error) => Err(error),
     }
 }

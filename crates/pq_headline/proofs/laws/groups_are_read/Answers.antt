@@ -1,5 +1,5 @@
 use Rattle.pq_headline.proofs.Written.{group_of}
-use Rattle.pq_headline.proofs.laws.groups_are_written.Goals as goal
+use Rattle.pq_headline.proofs.laws.groups_are_read.Goals as goal
 
 pub returns : goal.returns
 returns c = group_of

@@ -1,0 +1,167 @@
+-- What is taken of a column is its front.
+use Rattle.std.proofs.Common.{◌≡◌, ℕ, ◌+◌, ◌-◌, ◌≤◌, Option, None, List, [], ◌∷◌, ◌++◌, length, take, drop, refl, arith, ap, sym, ◌∙◌, append_assoc}
+use Rattle.std.proofs.lemmas.List.{length-take}
+use Rattle.std.proofs.lemmas.List.Sums.{sum_by-cons}
+use Rattle.columns_core.specs.Shapes.{leaf_type}
+use Rattle.shredding.specs.Laws.{BeginsRow}
+use Rattle.shredding.specs.Shape.{LeafType, Way}
+use Rattle.shredding.specs.Shred.{Triple, column}
+use Rattle.shredding.specs.Slot.{Slot, Value}
+use Rattle.shredding.proofs.Counts.{counted}
+use Rattle.shredding.proofs.Splits.{splits}
+use Rattle.pq_files.specs.Chunk.{Chunk, IsPageIn, Page, RawPage}
+use Rattle.pq_files.specs.Page.{rows_in}
+use Rattle.pq_files.specs.Stored.{AreStored, IsStoredTriple}
+use Rattle.pq_files.proofs.PageOnce.{page_same}
+use Rattle.pq_files.proofs.StoredOnce.{are_unique}
+use Rattle.pq_pages.specs.Held.{ArePagesIn, HoldsChunk}
+use Rattle.pq_pages.specs.Outcomes.{Outcome, gives_page, gives_dictionary, fails}
+use Rattle.pq_tree.specs.Physical.{Physical}
+use Rattle.pq_tree.specs.Tree.{Leaf}
+use Rattle.read_pieces.specs.Columns.{AreColumnRows, ColumnOpening, rows_of_all}
+use Rattle.read_walk.specs.Values.{Stored}
+use Rattle.read_column.specs.Reading.{IsReading, Reading, stored_in}
+use Rattle.read_column.specs.Taken.{joined, AreSized}
+use Rattle.read_column.proofs.Taking.{begins-append, piece-few}
+use Rattle.read_column.proofs.Ways.{rows-append}
+
+-- ---- pages
+-- no dictionary page in front
+abbrev pub StartsPlain : List Outcome → Type 0
+StartsPlain [] = Unit {0}
+StartsPlain (gives_page p levels ∷ os) = Unit {0}
+StartsPlain (gives_dictionary n body ∷ os) = ⊥
+StartsPlain (fails e ∷ os) = Unit {0}
+
+pub starts-behind : (l : Leaf) (os left : List Outcome) (ps : List Page) → ArePagesIn l None os ps → StartsPlain left → StartsPlain (os ++ left)
+starts-behind l [] left ps a s = s
+starts-behind l (gives_page p levels ∷ os) left ps a s = tt
+starts-behind l (gives_dictionary n body ∷ os) left ps a s = absurd a
+starts-behind l (fails e ∷ os) left ps a s = absurd a
+
+pub holds-plain : (l : Leaf) (os : List Outcome) (c : Chunk) → StartsPlain os → HoldsChunk l os c → (c.entries ≡ None) × ArePagesIn l c.entries os c.pages
+holds-plain l [] c s h = h
+holds-plain l (gives_page p levels ∷ os) c s h = h
+holds-plain l (gives_dictionary n body ∷ os) c s h = absurd s
+holds-plain l (fails e ∷ os) c s h = h
+
+pub plain-holds : (l : Leaf) (os : List Outcome) (c : Chunk) → StartsPlain os → c.entries ≡ None → ArePagesIn l c.entries os c.pages → HoldsChunk l os c
+plain-holds l [] c s e a = (e, a)
+plain-holds l (gives_page p levels ∷ os) c s e a = (e, a)
+plain-holds l (gives_dictionary n body ∷ os) c s e a = absurd s
+plain-holds l (fails f ∷ os) c s e a = (e, a)
+
+page-in-same : (l : Leaf) (entries : Option (List Value)) (p : RawPage) (q r : Page) → IsPageIn l entries p q → IsPageIn l entries p r → q ≡ r
+page-in-same l entries p q r a b =
+    let h : q.header ≡ r.header = a.header ∙ sym b.header in
+    let t : q.triples ≡ r.triples = page_same l entries p.header p.body q.triples r.triples a.is b.is in
+    λ i. record { header = h i; triples = t i }
+
+pub pages-split : (l : Leaf) (os left : List Outcome) (ps qs : List Page) → ArePagesIn l None os ps → ArePagesIn l None (os ++ left) qs → (rest : List Page) × (qs ≡ ps ++ rest) × ArePagesIn l None left rest
+pages-split l [] left [] qs a b = (qs, refl, b)
+pages-split l [] left (p ∷ ps) qs a b = absurd a
+pages-split l (gives_page p levels ∷ os) left [] qs a b = absurd a
+pages-split l (gives_page p levels ∷ os) left (q ∷ ps) [] a b = absurd b
+pages-split l (gives_page p levels ∷ os) left (q ∷ ps) (r ∷ qs) a b =
+    let rest = pages-split l os left ps qs a.1 b.1 in
+    (rest.0, ap (λ (xs : List Page). r ∷ xs) rest.1 ∙ ap (λ (x : Page). x ∷ (ps ++ rest.0)) (page-in-same l None p r q b.0 a.0), rest.2)
+pages-split l (gives_dictionary n body ∷ os) left ps qs a b = absurd a
+pages-split l (fails e ∷ os) left ps qs a b = absurd a
+
+pub pages-push : (l : Leaf) (os left : List Outcome) (ps qs : List Page) → ArePagesIn l None os ps → ArePagesIn l None left qs → ArePagesIn l None (os ++ left) (ps ++ qs)
+pages-push l [] left [] qs a b = b
+pages-push l [] left (p ∷ ps) qs a b = absurd a
+pages-push l (gives_page p levels ∷ os) left [] qs a b = absurd a
+pages-push l (gives_page p levels ∷ os) left (q ∷ ps) qs a b = (a.0, pages-push l os left ps qs a.1 b)
+pages-push l (gives_dictionary n body ∷ os) left ps qs a b = absurd a
+pages-push l (fails e ∷ os) left ps qs a b = absurd a
+
+pub stored-append : (ps qs : List Page) → stored_in (ps ++ qs) ≡ stored_in ps ++ stored_in qs
+stored-append [] qs = refl
+stored-append (p ∷ ps) qs = ap (λ (ts : List Triple). p.triples ++ ts) (stored-append ps qs) ∙ sym (append_assoc p.triples (stored_in ps) (stored_in qs))
+
+-- ---- stored triples
+head-same : (t : LeafType) (p : Physical) (x y z : Triple) → IsStoredTriple t p x z → IsStoredTriple t p y z → x ≡ y
+head-same t p x y z a b = let e : x ∷ [] ≡ y ∷ [] = are_unique.triples t p (x ∷ []) (y ∷ []) (z ∷ []) (a, tt) (b, tt) in cc
+
+pub stored-front : (t : LeafType) (p : Physical) (xs ys zs ws : List Triple) → AreStored t p xs zs → AreStored t p ys (zs ++ ws) → (others : List Triple) × (ys ≡ xs ++ others) × AreStored t p others ws
+stored-front t p [] ys [] ws a b = (ys, refl, b)
+stored-front t p [] ys (z ∷ zs) ws a b = absurd a
+stored-front t p (x ∷ xs) ys [] ws a b = absurd a
+stored-front t p (x ∷ xs) [] (z ∷ zs) ws a b = absurd b
+stored-front t p (x ∷ xs) (y ∷ ys) (z ∷ zs) ws a b =
+    let rest = stored-front t p xs ys zs ws a.1 b.1 in
+    (rest.0, ap (λ (us : List Triple). y ∷ us) rest.1 ∙ ap (λ (u : Triple). u ∷ (xs ++ rest.0)) (head-same t p y x z b.0 a.0), rest.2)
+
+pub stored-both : (t : LeafType) (p : Physical) (xs ys zs ws : List Triple) → AreStored t p xs zs → AreStored t p ys ws → AreStored t p (xs ++ ys) (zs ++ ws)
+stored-both t p [] ys [] ws a b = b
+stored-both t p [] ys (z ∷ zs) ws a b = absurd a
+stored-both t p (x ∷ xs) ys [] ws a b = absurd a
+stored-both t p (x ∷ xs) ys (z ∷ zs) ws a b = (a.0, stored-both t p xs ys zs ws a.1 b)
+
+-- stored triples of a list in two parts
+pub stored-parts : (t : LeafType) (p : Physical) (xs ys zs : List Triple) → AreStored t p (xs ++ ys) zs → (a : List Triple) × (b : List Triple) × (zs ≡ a ++ b) × AreStored t p xs a × AreStored t p ys b
+stored-parts t p [] ys zs s = ([], zs, refl, tt, s)
+stored-parts t p (x ∷ xs) ys [] s = absurd s
+stored-parts t p (x ∷ xs) ys (z ∷ zs) s =
+    let r = stored-parts t p xs ys zs s.1 in
+    (z ∷ r.0, r.1, ap (λ (us : List Triple). z ∷ us) r.2, (s.0, r.3), r.4)
+
+pub stored-begins : (t : LeafType) (p : Physical) (xs zs : List Triple) → AreStored t p xs zs → BeginsRow zs → BeginsRow xs
+stored-begins t p [] zs a b = tt
+stored-begins t p (x ∷ xs) [] a b = absurd a
+stored-begins t p (x ∷ xs) (z ∷ zs) a b = sym a.0.repetition ∙ b
+
+pub begins-stored : (t : LeafType) (p : Physical) (xs zs : List Triple) → AreStored t p xs zs → BeginsRow xs → BeginsRow zs
+begins-stored t p xs [] a b = tt
+begins-stored t p [] (z ∷ zs) a b = absurd a
+begins-stored t p (x ∷ xs) (z ∷ zs) a b = a.0.repetition ∙ b
+
+pub pages-begin : (l : Leaf) (os : List Outcome) (ps : List Page) → ArePagesIn l None os ps → BeginsRow (stored_in ps)
+pages-begin l os [] a = tt
+pages-begin l [] (p ∷ ps) a = absurd a
+pages-begin l (gives_page r levels ∷ os) (p ∷ ps) a = begins-append p.triples (stored_in ps) a.0.is.begins_row (λ _. pages-begin l os ps a.1)
+pages-begin l (gives_dictionary n body ∷ os) (p ∷ ps) a = absurd a
+pages-begin l (fails e ∷ os) (p ∷ ps) a = absurd a
+
+-- ---- rows
+pub rows-sized : (n : Option ℕ) (left rest : ℕ) (pieces : List (List Triple)) → AreSized n left pieces rest → rows_of_all pieces + rest ≡ left
+rows-sized n left rest [] s = omega (arith, s)
+rows-sized n left rest (ts ∷ pieces) s =
+    omega (arith, sum_by-cons rows_in ts pieces, rows-sized n (left - rows_in ts) rest pieces s.3, s.0, piece-few n left)
+
+pub rows-joined : (pieces : List (List Triple)) → rows_in (joined pieces) ≡ rows_of_all pieces
+rows-joined [] = refl
+rows-joined (ts ∷ pieces) = omega (arith, sum_by-cons rows_in ts pieces, rows-append ts (joined pieces), rows-joined pieces)
+
+-- the rows behind a part of a column
+pub rows-behind : (w : Way) (rows : List Slot) (a b : List Triple) → column w rows ≡ a ++ b → BeginsRow b → (rows_in a ≤ length rows) × (a ≡ column w (take (rows_in a) rows)) × (b ≡ column w (drop (rows_in a) rows))
+rows-behind w rows a b e begins =
+    let s = splits w rows a b e begins in
+    let n : rows_in a ≡ s.0 = ap rows_in s.2 ∙ (counted w (take s.0 rows) ∙ omega (arith, length-take s.0 rows, s.1)) in
+    (omega (arith, n, s.1), s.2 ∙ ap (λ (k : ℕ). column w (take k rows)) (sym n), s.3 ∙ ap (λ (k : ℕ). column w (drop k rows)) (sym n))
+
+pub rows-between : (w : Way) (rows : List Slot) (a ts c : List Triple) → column w rows ≡ a ++ (ts ++ c) → BeginsRow (ts ++ c) → BeginsRow c → ts ≡ column w (take (rows_in ts) (drop (rows_in a) rows))
+rows-between w rows a ts c e b d =
+    let behind = rows-behind w rows a (ts ++ c) e b in
+    (rows-behind w (drop (rows_in a) rows) ts c (sym behind.2) d).1
+
+-- ---- the rest of a column
+pub record Continues (o : ColumnOpening) (rows : List Slot) (front : List Triple) (left : List Outcome) : Type 0 where
+  pub others : List Triple
+  pub rest : List Page
+  pub pages : ArePagesIn o.leaf None left rest
+  pub stored : AreStored (leaf_type o.column.data_type) o.leaf.physical others (stored_in rest)
+  pub parts : column o.column.way rows ≡ front ++ others
+
+pub continues : (stored : List ℕ → List Stored) (limit : ℕ) (o : ColumnOpening) (pieces : List (List Triple)) (now : Reading) (rows : List Slot) → StartsPlain now.outcomes → (r : IsReading stored limit o pieces now) → AreColumnRows o rows → Continues o rows (joined pieces ++ (joined r.whole ++ r.last)) now.outcomes
+continues stored limit o pieces now rows s r a =
+    let t = leaf_type o.column.data_type in
+    let c = a.chunk in
+    let holds : HoldsChunk o.leaf (r.taken ++ now.outcomes) c = rw r.outcomes at a.holds.holds in
+    let h = holds-plain o.leaf (r.taken ++ now.outcomes) c (starts-behind o.leaf r.taken now.outcomes r.pages r.are s) holds in
+    let are : ArePagesIn o.leaf None (r.taken ++ now.outcomes) c.pages = rw h.0 at h.1 in
+    let split = pages-split o.leaf r.taken now.outcomes r.pages c.pages r.are are in
+    let shred : AreStored t o.leaf.physical (column o.column.way rows) (stored_in r.pages ++ stored_in split.0) = rw (← stored-append r.pages split.0, ← split.1) a.holds.shred in
+    let front = stored-front t o.leaf.physical (joined pieces ++ (joined r.whole ++ r.last)) (column o.column.way rows) (stored_in r.pages) (stored_in split.0) r.triples shred in
+    record { others = front.0; rest = split.0; pages = split.2; stored = front.2; parts = front.1 }

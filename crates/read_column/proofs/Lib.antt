@@ -1,0 +1,13 @@
+pub mod Ways
+pub mod Taking
+pub mod Widths
+pub mod Columns
+pub mod Long
+pub mod Pages
+pub mod CanRead
+pub mod Foreseen
+pub mod Fronts
+pub mod Passes
+pub mod Refusals
+pub mod Refused
+pub mod Readings

@@ -1,0 +1,237 @@
+-- Why a page is refused.
+use Rattle.std.proofs.Common.{◌≡◌, inl, inr, ℕ, ◌<◌, Bool, true, false, not, nat_eq, nat_lt, cond, Option, Some, None, Ok, List, [], ◌∷◌, ◌++◌, map, length, All, refl, arith, ap, sym, subst, ◌∙◌, append_assoc}
+use Rattle.std.proofs.lemmas.Bool.{cases_lt}
+use Rattle.columns_base.specs.declared.error.Error.{Error}
+use Rattle.columns_core.specs.Shapes.{leaf_type}
+use Rattle.shredding.specs.Laws.{BeginsRow}
+use Rattle.shredding.specs.Local.{IsInOrder, IsWithin}
+use Rattle.shredding.specs.Shape.{Way}
+use Rattle.shredding.specs.Shred.{Triple, column}
+use Rattle.shredding.specs.Slot.{Slot}
+use Rattle.shredding.proofs.Counts.{counted}
+use Rattle.shredding.proofs.Levels.{levels_are_within}
+use Rattle.shredding.proofs.Order.{columns_are_local}
+use Rattle.pq_files.specs.Chunk.{IsData, IsPageIn, Page, RawPage}
+use Rattle.pq_files.specs.Page.{LevelsAreRuns, rows_in}
+use Rattle.pq_files.specs.Stored.{AreStored}
+use Rattle.pq_headline.specs.FieldReasons.{HasN4Page, IsUnserved}
+use Rattle.pq_headline.specs.Openings.{leaf_levels, piece_size}
+use Rattle.pq_pages.specs.Held.{ArePagesIn}
+use Rattle.pq_pages.specs.Outcomes.{Levels, Outcome, gives_page, IsOfLevels}
+use Rattle.pq_tree.specs.Headers.{Header, data_page, data_page_2, dictionary_page}
+use Rattle.pq_tree.specs.Tree.{Leaf}
+use Rattle.read_items.specs.Items.{ItemsAreCounted}
+use Rattle.read_pieces.specs.Columns.{AreColumnRows, ColumnOpening, RefusesPiece}
+use Rattle.read_walk.specs.Pairs.{Pair, Item}
+use Rattle.read_walk.specs.Values.{Stored}
+use Rattle.read_walk.specs.Walk.{pair_of, values_of}
+use Rattle.read_column.specs.Opened.{IsServed, SayRuns, first_goes_on}
+use Rattle.read_column.specs.Queues.{Waiting}
+use Rattle.read_column.specs.Reading.{HasItems, IsReading, RefusesPage, goes_on_error, reading, stored_in}
+use Rattle.read_column.specs.Taken.{joined, BeginsPair, StopsPage, TakesPairs}
+use Rattle.read_column.proofs.Columns.{continues, rows-joined, rows-sized, stored-begins}
+use Rattle.read_column.proofs.Long.{goes-on-in, is-version-1, lists-long, texts-long}
+use Rattle.read_column.proofs.Foreseen.{all-behind, all-front, behind-taken, foreseen, stored-cut}
+use Rattle.read_column.proofs.Readings.{any-left, holds-left, of-rows, queue-is}
+use Rattle.read_column.proofs.Refused.{Chained, chained-behind, chained-front, no-fault-left, not-on, not-out-of-order, not-outside, not-too-few, not-unreadable, order-chained}
+use Rattle.read_column.proofs.Taking.{first-begins, lt-holds, piece-some}
+use Rattle.read_column.proofs.Ways.{rows-append, rows-cons}
+
+-- ---- a page that is not served
+unserved : (h : Header) (body : List ℕ) (levels : Levels) → (IsServed h → ⊥) → IsUnserved (gives_page (record { header = h; body = body }) levels)
+unserved (data_page h) body levels n = n
+unserved (data_page_2 h) body levels n = tt
+unserved (dictionary_page h) body levels n = tt
+
+no-runs : (l : Leaf) (h : Header) (levels : Levels) → levels ≡ leaf_levels l → (SayRuns levels h → ⊥) → IsData h × (LevelsAreRuns l h → ⊥)
+no-runs l (data_page h) levels e n = (tt, λ runs. n (rw e runs))
+no-runs l (data_page_2 h) levels e n = absurd (n tt)
+no-runs l (dictionary_page h) levels e n = absurd (n tt)
+
+-- ---- the page of rows
+first-page : (l : Leaf) (p : RawPage) (levels : Levels) (os : List Outcome) (rest : List Page) → ArePagesIn l None (gives_page p levels ∷ os) rest → (q : Page) × (more : List Page) × (rest ≡ q ∷ more) × IsPageIn l None p q
+first-page l p levels os [] a = absurd a
+first-page l p levels os (q ∷ more) a = (q, more, refl, a.0)
+
+-- the triples of the page that comes, where the column is one of rows
+pub record PageOfRows (o : ColumnOpening) (front : List Triple) (p : RawPage) (rows : List Slot) : Type 0 where
+  pub page : Page
+  pub is : IsPageIn o.leaf None p page
+  pub own : List Triple
+  pub others : List Triple
+  pub stored : AreStored (leaf_type o.column.data_type) o.leaf.physical own page.triples
+  pub parts : column o.column.way rows ≡ front ++ (own ++ others)
+  pub within : All (IsWithin o.column.way) own
+  pub chained : Chained o.column.way own
+  pub begins : BeginsRow own
+
+pub page-of-rows : (stored : List ℕ → List Stored) (limit : ℕ) (o : ColumnOpening) (pieces : List (List Triple)) (p : RawPage) (levels : Levels) (os : List Outcome) (q : Waiting) (b : Bool) (rows : List Slot) → (r : IsReading stored limit o pieces (reading (gives_page p levels ∷ os) q b)) → AreColumnRows o rows → PageOfRows o (joined pieces ++ (joined r.whole ++ r.last)) p rows
+page-of-rows stored limit o pieces p levels os q b rows r a =
+    let w = o.column.way in
+    let t = leaf_type o.column.data_type in
+    let c = continues stored limit o pieces (reading (gives_page p levels ∷ os) q b) rows tt r a in
+    let first = first-page o.leaf p levels os c.rest c.pages in
+    let cut = stored-cut t o.leaf.physical c.others (first.0).triples (stored_in first.1) (subst (λ (ps : List Page). AreStored t o.leaf.physical c.others (stored_in ps)) first.2 c.stored) in
+    let front = joined pieces ++ (joined r.whole ++ r.last) in
+    let parts : column w rows ≡ front ++ (cut.0 ++ cut.1) = c.parts ∙ ap (λ (xs : List Triple). front ++ xs) cut.2 in
+    let within : All (IsWithin w) (front ++ (cut.0 ++ cut.1)) = subst (λ (ts : List Triple). All (IsWithin w) ts) parts (levels_are_within w rows a.along) in
+    let order : IsInOrder w (column w rows) = ((columns_are_local w (column w rows)).1 (rows, a.along, refl)).1 in
+    let chained : Chained w (front ++ (cut.0 ++ cut.1)) = subst (λ (ts : List Triple). Chained w ts) parts (order-chained w (column w rows) order) in
+    record {
+      page = first.0;
+      is = first.3;
+      own = cut.0;
+      others = cut.1;
+      stored = cut.3;
+      parts = parts;
+      within = all-front (IsWithin w) cut.0 cut.1 (all-behind (IsWithin w) front (cut.0 ++ cut.1) within);
+      chained = chained-front w cut.0 cut.1 (chained-behind w front (cut.0 ++ cut.1) chained);
+      begins = stored-begins t o.leaf.physical cut.0 (first.0).triples cut.3 first.3.is.begins_row;
+    }
+
+pub levels-of : (stored : List ℕ → List Stored) (limit : ℕ) (o : ColumnOpening) (pieces : List (List Triple)) (p : RawPage) (levels : Levels) (os : List Outcome) (q : Waiting) (b : Bool) → (r : IsReading stored limit o pieces (reading (gives_page p levels ∷ os) q b)) → levels ≡ leaf_levels o.leaf
+levels-of stored limit o pieces p levels os q b r = holds-left stored limit o pieces (gives_page p levels) os q b (IsOfLevels (leaf_levels o.leaf)) r r.readable.levels
+
+-- ---- the first pair
+not-first : (items : List Item) (us : List Triple) → items ≡ map Ok (map pair_of us) → BeginsRow us → first_goes_on items ≡ true → ⊥
+not-first items [] e b h = (let f : first_goes_on [] ≡ true = subst (λ (is : List Item). first_goes_on is ≡ true) e h in cc f)
+not-first items (u ∷ us) e b h = (let f : nat_lt 0 u.repetition ≡ true = subst (λ (is : List Item). first_goes_on is ≡ true) e h in omega (arith, lt-holds 0 u.repetition f, b))
+
+-- ---- behind some of the page
+pub record StillComes (w : Way) (page' : List Item) (left' : List Stored) (us : List Triple) : Type 0 where
+  pub pairs : page' ≡ map Ok (map pair_of us)
+  pub rest : List Stored
+  pub values : left' ≡ map Some (values_of us) ++ rest
+  pub within : All (IsWithin w) us
+  pub chained : Chained w us
+  pub taken : List Triple
+
+-- of rows: what still comes of the page, behind what was taken of it
+pub record ComesOfRows (o : ColumnOpening) (front taken : List Triple) (page' : List Item) (left' : List Stored) (rows : List Slot) : Type 0 where
+  pub own : List Triple
+  pub others : List Triple
+  pub parts : column o.column.way rows ≡ front ++ (taken ++ (own ++ others))
+  pub comes : StillComes o.column.way page' left' own
+
+pub comes-of-rows : (stored : List ℕ → List Stored) (limit : ℕ) (o : ColumnOpening) (pieces : List (List Triple)) (p : RawPage) (levels : Levels) (os : List Outcome) (q : Waiting) (b : Bool) (items : List Item) (values : List ℕ) (n : Option ℕ) (queue : Waiting) (page' : List Item) (left' : List Stored) (rows : List Slot) → (r : IsReading stored limit o pieces (reading (gives_page p levels ∷ os) q b)) → HasItems p levels items values → (takes : TakesPairs n o.column.way r.middle (joined r.whole ++ r.last) queue items page' (stored values) left') → AreColumnRows o rows → ComesOfRows o (joined pieces ++ (joined r.whole ++ r.last)) takes.taken page' left' rows
+comes-of-rows stored limit o pieces p levels os q b items values n queue page' left' rows r has takes a =
+    let w = o.column.way in
+    let t = leaf_type o.column.data_type in
+    let x = page-of-rows stored limit o pieces p levels os q b rows r a in
+    let f = foreseen t o.leaf w stored p levels items values x.page x.own r.readable.values.plain (levels-of stored limit o pieces p levels os q b r) has x.is x.stored x.within in
+    let behind = behind-taken w x.own takes.taken page' left' f.rest x.within takes.within (sym f.pairs ∙ takes.pairs) (sym f.values ∙ takes.values) in
+    let front = joined pieces ++ (joined r.whole ++ r.last) in
+    record {
+      own = behind.others;
+      others = x.others;
+      parts = x.parts ∙ ap (λ (ts : List Triple). front ++ ts) (ap (λ (ts : List Triple). ts ++ x.others) behind.parts ∙ append_assoc takes.taken behind.others x.others);
+      comes = record {
+        pairs = behind.pairs;
+        rest = f.rest;
+        values = behind.values;
+        within = all-behind (IsWithin w) takes.taken behind.others (subst (λ (ts : List Triple). All (IsWithin w) ts) behind.parts x.within);
+        chained = chained-behind w takes.taken behind.others (subst (λ (ts : List Triple). Chained w ts) behind.parts x.chained);
+        taken = takes.taken;
+      };
+    }
+
+-- ---- no row is left
+rest-none : (n : Option ℕ) (rows rest : ℕ) → (n ≡ Some 0 → ⊥) → rows ≡ piece_size n rest → rows ≡ 0 → rest ≡ 0
+rest-none n rows rest some e none = elim (cases_lt 0 rest) [
+  | inl h ↦ absurd (omega (arith, none, e, piece-some n rest some h))
+  | inr h ↦ omega (arith, h)
+]
+
+row-begins : (us : List Triple) (p : Pair) (is page' : List Item) → page' ≡ map Ok (map pair_of us) → page' ≡ Ok p ∷ is → BeginsPair page' → 0 < rows_in us
+row-begins [] p is page' e f b = absurd (let h = sym e ∙ f in cc)
+row-begins (u ∷ us) p is page' e f b =
+    let z : u.repetition ≡ 0 = subst BeginsPair e b in
+    let one : ◌≡◌ {A = ℕ} (cond (nat_eq u.repetition 0) 1 0) 1 = rw z refl in
+    omega (arith, rows-cons u us, one)
+
+too-many : (stored : List ℕ → List Stored) (limit : ℕ) (o : ColumnOpening) (pieces : List (List Triple)) (p : RawPage) (levels : Levels) (os : List Outcome) (q : Waiting) (b : Bool) (items : List Item) (values : List ℕ) (n : Option ℕ) (queue : Waiting) (page' : List Item) (left' : List Stored) (rows : List Slot) (pair : Pair) (is : List Item) → (r : IsReading stored limit o pieces (reading (gives_page p levels ∷ os) q b)) → HasItems p levels items values → (takes : TakesPairs n o.column.way r.middle (joined r.whole ++ r.last) queue items page' (stored values) left') → queue.rows ≡ 0 → page' ≡ Ok pair ∷ is → AreColumnRows o rows → ⊥
+too-many stored limit o pieces p levels os q b items values n queue page' left' rows pair is r has takes none next a =
+    let w = o.column.way in
+    let c = comes-of-rows stored limit o pieces p levels os q b items values n queue page' left' rows r has takes a in
+    let k = takes.queued in
+    let rest : k.rest ≡ 0 = rest-none queue.chunk_size queue.rows k.rest k.some k.rows none in
+    let total : rows_in (column w rows) ≡ length rows = counted w rows in
+    let front = joined pieces ++ (joined r.whole ++ r.last) in
+    omega (
+      arith,
+      total,
+      ap rows_in c.parts,
+      rows-append front (takes.taken ++ (c.own ++ c.others)),
+      rows-append takes.taken (c.own ++ c.others),
+      rows-append c.own c.others,
+      row-begins c.own pair is page' c.comes.pairs next takes.begins,
+      rows-append (joined pieces) (joined r.whole ++ r.last),
+      rows-joined pieces,
+      rows-sized o.chunk_size o.rows r.middle pieces r.sized,
+      ap rows_in takes.all,
+      rows-append (joined takes.whole) takes.last,
+      rows-append (joined r.whole ++ r.last) takes.taken,
+      rows-joined takes.whole,
+      rows-sized queue.chunk_size r.middle k.rest takes.whole k.sized,
+      rest,
+      a.count,
+    )
+
+-- ---- V1 and N8
+
+stops : (counts : ItemsAreCounted) (stored : List ℕ → List Stored) (limit : ℕ) (o : ColumnOpening) (pieces : List (List Triple)) (p : RawPage) (levels : Levels) (os : List Outcome) (q : Waiting) (b : Bool) (items : List Item) (values : List ℕ) (n : Option ℕ) (e : Error) → (r : IsReading stored limit o pieces (reading (gives_page p levels ∷ os) q b)) → HasItems p levels items values → BeginsPair items → n ≡ o.chunk_size → StopsPage limit n o.column.way r.middle (joined r.whole ++ r.last) items (stored values) e → RefusesPiece o e
+stops counts stored limit o pieces p levels os q b items values n e r has first size s =
+    let of-leaf = levels-of stored limit o pieces p levels os q b r in
+    let w = o.column.way in
+    let way = s.takes.queued.is.way in
+    let comes = λ (rows : List Slot) (a : AreColumnRows o rows). comes-of-rows stored limit o pieces p levels os q b items values n s.queue s.page' s.left' rows r has s.takes a in
+    elim s.why [
+      | inl (some, inl unread) ↦ of-rows o e (inl unread.0) (λ rows a. let c = comes rows a in not-unreadable w _ c.own _ s.page' way c.comes.within c.comes.pairs unread.1)
+      | inl (some, inr (inl on)) ↦ absurd (not-on s.page' s.takes.begins on.1)
+      | inl (some, inr (inr (inl order))) ↦ of-rows o e (inr (inr (inr (inr (inr order.0))))) (λ rows a. let c = comes rows a in not-out-of-order w _ c.own _ s.page' way c.comes.chained c.comes.pairs order.1)
+      | inl (some, inr (inr (inr (inl long)))) ↦ inr (inr (inr (inr (inr (inl (long.0, lists-long counts stored limit o pieces p levels os q b items values n s.queue s.page' s.left' r has of-leaf first size s.takes some long.1))))))
+      | inl (some, inr (inr (inr (inr fill)))) ↦ elim fill.why [
+        | inl memory ↦ inl memory
+        | inr (inl few) ↦ of-rows o e (inr (inr (inl few.0))) (λ rows a. let c = comes rows a in not-too-few w _ c.own fill.pairs s.page' fill.rest s.left' c.comes.rest way c.comes.within c.comes.pairs fill.wanted.pairs c.comes.values few.1)
+        | inr (inr (inl out)) ↦ of-rows o e (inr (inr (inr (inl out.0)))) (λ rows a. let c = comes rows a in not-outside w _ c.own fill.pairs s.page' fill.rest s.left' c.comes.rest way c.comes.within c.comes.pairs fill.wanted.pairs c.comes.values out.1)
+        | inr (inr (inr long)) ↦ inr (inr (inr (inr (inr (inl (long.0, texts-long stored limit o pieces p levels os q b items values n s.queue s.page' s.left' fill.pairs fill.rest r has of-leaf first size s.takes some fill.wanted long.1))))))
+      ]
+      | inr x ↦ elim x.1 [
+        | inl more ↦ of-rows o e (inr (inr (inr (inr (inl more.0))))) (λ rows a. too-many stored limit o pieces p levels os q b items values n s.queue s.page' s.left' rows more.1.0 more.1.1 r has s.takes x.0 more.1.2 a)
+        | inr bad ↦ of-rows o e (inl bad.0) (λ rows a. let c = comes rows a in no-fault-left c.own s.page' bad.1.0 c.comes.pairs bad.1.1)
+      ]
+    ]
+
+goes-on : (stored : List ℕ → List Stored) (limit : ℕ) (o : ColumnOpening) (pieces : List (List Triple)) (p : RawPage) (levels : Levels) (os : List Outcome) (q : Waiting) (is_first b : Bool) (items : List Item) (values : List ℕ) (e : Error) → b ≡ not is_first → (r : IsReading stored limit o pieces (reading (gives_page p levels ∷ os) q b)) → HasItems p levels items values → first_goes_on items ≡ true → e ≡ goes_on_error is_first → RefusesPiece o e
+goes-on stored limit o pieces p levels os q true b items values e same r has on is = of-rows o e (inr (inl is)) (λ rows a.
+    let x = page-of-rows stored limit o pieces p levels os q b rows r a in
+    let f = foreseen (leaf_type o.column.data_type) o.leaf o.column.way stored p levels items values x.page x.own r.readable.values.plain (levels-of stored limit o pieces p levels os q b r) has x.is x.stored x.within in
+    not-first items x.own f.pairs x.begins on)
+goes-on stored limit o pieces p levels os q false b items values e same r has on is = inr (inr (inr (inr (inl (
+  is,
+  record {
+    before = r.taken;
+    page = p;
+    levels = levels;
+    rest = os;
+    parts = r.outcomes;
+    later = elim r.began [ inl x ↦ x.1 | inr x ↦ absurd (let h = sym same ∙ x.0 in cc) ];
+    version = is-version-1 p.header has.opened.served;
+    goes_on = goes-on-in o.leaf p levels items values (levels-of stored limit o pieces p levels os q b r) has on;
+  },
+)))))
+
+pub page-refused : (counts : ItemsAreCounted) (stored : List ℕ → List Stored) (limit : ℕ) (o : ColumnOpening) (pieces : List (List Triple)) (p : RawPage) (levels : Levels) (os : List Outcome) (q : Waiting) (is_first : Bool) (b : Bool) (e : Error) → b ≡ not is_first → (r : IsReading stored limit o pieces (reading (gives_page p levels ∷ os) q b)) → RefusesPage stored limit is_first q.chunk_size o.column.way r.middle (joined r.whole ++ r.last) p levels e → RefusesPiece o e
+page-refused counts stored limit o pieces p levels os q is_first b e same r why = elim why [
+  | inl (inl n4) ↦ elim n4.1 [
+    | inl n ↦ inr (inr (inr (inl (n4.0, inr (any-left stored limit o pieces (gives_page p levels) os q b IsUnserved r (unserved p.header p.body levels n))))))
+    | inr n ↦ (let x = no-runs o.leaf p.header levels (levels-of stored limit o pieces p levels os q b r) n in inr (inr (inr (inl (n4.0, inl (any-left stored limit o pieces (gives_page p levels) os q b (HasN4Page o.column o.leaf) r (inl (inl (x.0, inr x.1)))))))))
+  ]
+  | inl (inr s4) ↦ (
+      let of-leaf = levels-of stored limit o pieces p levels os q b r in
+      of-rows o e (inl s4.0) (λ rows a. let x = page-of-rows stored limit o pieces p levels os q b rows r a in s4.1 o.leaf (sym (ap (λ (v : Levels). v.repetition) of-leaf)) (sym (ap (λ (v : Levels). v.definition) of-leaf)) x.is.is.sections x.is.is.split))
+  | inr x ↦ elim x.why [
+    | inl on ↦ goes-on stored limit o pieces p levels os q is_first b x.items x.values e same r x.has on.0 on.1
+    | inr s ↦ stops counts stored limit o pieces p levels os q b x.items x.values q.chunk_size e r x.has (first-begins x.items s.0) (ap (λ (v : Waiting). v.chunk_size) (sym (queue-is stored limit o pieces (gives_page p levels ∷ os) q b r)) ∙ r.chunk) s.1
+  ]
+]

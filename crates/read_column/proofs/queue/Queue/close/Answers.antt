@@ -1,0 +1,7 @@
+use Rattle.read_column.proofs.Ways.{sound-begun}
+use Rattle.read_column.proofs.queue.Queue.close.Goals as goal
+
+pub invariant_of-result : goal.invariant_of-result
+invariant_of-result g c =
+    let begun = rw c.deref.ensures.value at c.in_ok-next.ensures.ok in
+    sound-begun c.self.inside.parts.items _ _ c.piece_rows-rows.result c.self.invariant.way begun.0 begun.1

@@ -1,0 +1,13 @@
+use Rattle.std.proofs.Common.{◌-◌, subst}
+use Rattle.read_laws.specs.State.{count}
+use Rattle.read_walk.specs.Walk.{Refuses}
+use Rattle.read_column.specs.Queues.{Waiting}
+use Rattle.read_column.proofs.Ways.{sound-extended}
+use Rattle.read_column.proofs.queue.Queue.extend.Goals as goal
+
+pub invariant_of-result : goal.invariant_of-result
+invariant_of-result g c = sound-extended c.self.inside.parts.items c.self.inside.rows _ _ _ _ _ _ _ _ c.self.invariant (rw c.len.ensures at c.in-Ok.ensures.ok)
+
+pub returns-in-Err-clause-err : goal.returns-in-Err-clause-err
+returns-in-Err-clause-err g c =
+    subst (λ (q : Waiting). Refuses g.L.LeafReader.byte_limit (q.rows - count q.state) c.args.page.now (g.L.LeafReader.stored c.args.bytes.now.values.now) q.state q.leaf c.in-Err.error) c.self.view_is (rw c.len.ensures at c.in-Err.ensures.err)

@@ -1,0 +1,12 @@
+use Rattle.std.proofs.Common.{List, length}
+use Rattle.shredding.specs.Shred.{Triple}
+use Rattle.read_pieces.specs.Columns.{ColumnOpening}
+use Rattle.read_column.specs.Reading.{IsReading, reading}
+use Rattle.read_column.proofs.reader.fill.Given as goal
+
+abbrev pub invariant-pages : goal.invariant-pages
+invariant-pages g l =
+    (o : ColumnOpening) (pieces : List (List Triple)) → IsReading g.L.LeafReader.stored g.L.LeafReader.byte_limit o pieces (reading (g.I.Pages.outcomes l.initial.pages) l.initial.queue l.initial.began) → IsReading g.L.LeafReader.stored g.L.LeafReader.byte_limit o pieces (reading (g.I.Pages.outcomes l.pages) l.queue l.began)
+
+abbrev pub decreases-pages : goal.decreases-pages
+decreases-pages g l = length (g.I.Pages.outcomes l.pages)

@@ -1,0 +1,5 @@
+pub mod Opened
+pub mod Queues
+pub mod Reading
+pub mod SlotCode
+pub mod Taken

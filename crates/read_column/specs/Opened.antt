@@ -1,0 +1,59 @@
+-- A data page that is opened for reading (Parquet format, "Data Pages").
+use Rattle.std.specs.Prelude.{◌≡◌, ◌⊎◌, ℕ, ◌<◌, ◌^◌, Bool, false, nat_lt, pos, Ok, Err, List, [], ◌∷◌}
+use Rattle.columns_base.specs.declared.error.Error.{Error}
+use Rattle.columns_base.specs.declared.error.Error.TheVariants.{NotYetImplemented, OutOfSpec}
+use Rattle.columns_base.specs.declared.error.N.TheVariants.{N4}
+use Rattle.columns_base.specs.declared.error.S.TheVariants.{S4}
+use Rattle.pq_numbers.specs.Bits.{IsWidth}
+use Rattle.pq_tree.specs.Headers.{Header, data_page}
+use Rattle.pq_tree.specs.Tree.{Leaf, max_definition, max_repetition}
+use Rattle.pq_files.specs.Chunk.{RawPage, count_in}
+use Rattle.pq_files.specs.Page.{Sections, IsSplit, SaysRuns}
+use Rattle.pq_pages.specs.Outcomes.{Levels, Outcome, gives_page}
+use Rattle.read_walk.specs.Pairs.{Item, page_items}
+
+-- a page that is read today: of version 1, PLAIN
+abbrev pub IsServed : Header → Type 0
+IsServed (data_page h) = h.encoding ≡ pos 0
+IsServed h = ⊥
+
+abbrev pub IsServedPage : Outcome → Type 0
+IsServedPage (gives_page p levels) = IsServed p.header
+IsServedPage o = ⊥
+
+-- its levels are runs, in a column with these greatest levels
+abbrev pub SayRuns : Levels → Header → Type 0
+SayRuns levels (data_page h) = SaysRuns levels.repetition h.repetition_encoding × SaysRuns levels.definition h.definition_encoding
+SayRuns levels h = Unit {0}
+
+-- of each leaf with these greatest levels
+abbrev pub IsCutInto : RawPage → Levels → Sections → Type 0
+IsCutInto p levels s = (l : Leaf) → max_repetition l ≡ levels.repetition → max_definition l ≡ levels.definition → IsSplit l p.header p.body s
+
+-- The page is served, and these are its sections, its column's greatest levels, and how many pairs it has.
+pub record IsOpened (p : RawPage) (levels : Levels) (s : Sections) (repetition definition n : ℕ) : Type 0 where
+  pub served : IsServed p.header
+  pub runs : SayRuns levels p.header
+  pub split : IsCutInto p levels s
+  pub repetitions : repetition ≡ levels.repetition
+  pub definitions : definition ≡ levels.definition
+  pub count : n ≡ count_in p.header
+  pub few : repetition < 2 ^ 32
+  pub low : definition < 2 ^ 32
+
+-- an error for which it is not opened, with its cause
+abbrev pub CannotOpen : RawPage → Levels → Error → Type 0
+CannotOpen p levels e =
+    ((e ≡ NotYetImplemented N4) × ((IsServed p.header → ⊥) ⊎ (SayRuns levels p.header → ⊥)))
+    ⊎ ((e ≡ OutOfSpec S4) × ((l : Leaf) → max_repetition l ≡ levels.repetition → max_definition l ≡ levels.definition → (s : Sections) → IsSplit l p.header p.body s → ⊥))
+
+-- the items of so many pairs of two sections, whatever the widths of their levels are called
+abbrev pub ArePairsOf : Sections → ℕ → ℕ → ℕ → List Item → Type 0
+ArePairsOf s repetition definition n items =
+    (v w : ℕ) → IsWidth repetition v → IsWidth definition w → items ≡ page_items repetition v definition w n s.repetition s.definition
+
+-- whether the first pair goes on with a row
+abbrev pub first_goes_on : List Item → Bool
+first_goes_on [] = false
+first_goes_on (Ok p ∷ is) = nat_lt 0 p.0
+first_goes_on (Err e ∷ is) = false

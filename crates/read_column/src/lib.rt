@@ -1,0 +1,10 @@
+//! One column of a row group, read piece by piece from its pages.
+#![tactic(auto)]
+
+mod page;
+mod parts;
+mod queue;
+mod reader;
+mod take;
+
+pub use reader::ColumnReader;

@@ -1,0 +1,187 @@
+//! A data page as it is read.
+ghost use Rattle.std.specs.Prelude.{◌≡◌, ◌⊎◌, ◌↔◌, ◌<◌, ◌≤◌, ◌^◌, ℕ, ℤ, List, Option, Some, None, IfErr, IfOk, IsTrue, MatchResult};
+ghost use Rattle.columns_base.specs.declared.error.Error.TheVariants.{OutOfSpec};
+ghost use Rattle.columns_base.specs.declared.error.S.TheVariants.{S4};
+ghost use Rattle.pq_tree.specs.declared.types.DataPageHeader.TheVariants.{V1};
+ghost use Rattle.pq_tree.specs.Tree.{Leaf, max_definition as leaf_definition, max_repetition as leaf_repetition};
+ghost use Rattle.pq_tree.specs.Views.{natural_part};
+ghost use Rattle.pq_files.specs.Page.{Sections, IsSplit, SaysRuns};
+ghost use Rattle.pq_pages.specs.Outcomes.{levels_in, raw_page};
+ghost use Rattle.pq_pages.specs.Split.{sections};
+ghost use Rattle.read_walk.specs.Pairs.{Item};
+ghost use Rattle.read_column.specs.Opened.{ArePairsOf, CannotOpen, IsCutInto, IsOpened, first_goes_on};
+ghost use Rattle.read_column.specs.Reading.{HasItems};
+
+use columns_base::{Error, N, Result, S};
+use pq_pages::{DataPage, split_buffer, splits_are_of_pages};
+use pq_tree::{DataPageHeader, DataPageHeaderV1, Descriptor};
+use read_pieces::PlainBytes;
+use read_walk::NestedPage;
+
+/// The sections of a data page that is served, the greatest levels of its column, and how many pairs it has.
+#[derive(Debug, Drop)]
+pub struct OpenPage<'a> {
+    pub repetitions: &'a [u8],
+    pub definitions: &'a [u8],
+    pub values: &'a [u8],
+    pub max_repetition: usize,
+    pub max_definition: usize,
+    pub count: usize,
+}
+
+// Levels up to this maximum are runs.
+fn says_runs(maximum: usize, encoding: Option<i32>) -> bool
+    ensures { IsTrue result ↔ SaysRuns maximum encoding }
+{
+    if maximum == 0 {
+        return true;
+    }
+    encoding == Some(3)
+}
+
+// Both levels are.
+fn say_runs(max_repetition: usize, max_definition: usize, header: &DataPageHeaderV1) -> bool
+    ensures { IsTrue result ↔ (SaysRuns max_repetition header.now.repetition_level_encoding × SaysRuns max_definition header.now.definition_level_encoding) }
+{
+    says_runs(max_repetition, header.repetition_level_encoding)
+        && says_runs(max_definition, header.definition_level_encoding)
+}
+
+// The greatest repetition and definition level of a page's column.
+fn greatest_levels(page: &DataPage) -> (usize, usize)
+    ensures repetition { result.0 ≡ natural_part page.now.descriptor.max_rep_level }
+    ensures definition { result.1 ≡ natural_part page.now.descriptor.max_def_level }
+    ensures few { result.0 < 2 ^ 32 }
+    ensures low { result.1 < 2 ^ 32 }
+{
+    let descriptor = page.descriptor();
+    (
+        descriptor.max_rep_level as usize,
+        descriptor.max_def_level as usize,
+    )
+}
+
+// The sections of a page of version 1.
+fn cut<'a>(page: &'a DataPage, _header: &DataPageHeaderV1) -> Result<(&'a [u8], &'a [u8], &'a [u8])>
+    requires { page.now.header ≡ V1 _header.now }
+    ensures ok { IfOk result (λ x. IsCutInto (raw_page page.now) (levels_in page.now.descriptor) (sections x.0.now x.1.now x.2.now)) }
+    ensures err { IfErr result (λ e. (e ≡ OutOfSpec S4) × ((l : Leaf) → leaf_repetition l ≡ natural_part page.now.descriptor.max_rep_level → leaf_definition l ≡ natural_part page.now.descriptor.max_def_level → (s : Sections) → IsSplit l (raw_page page.now).header page.now.buffer s → ⊥)) }
+{
+    splits_are_of_pages();
+    let _counted = page.header();
+    split_buffer(page)
+}
+
+/// Opens a data page of version 1, PLAIN.
+///
+/// # Errors
+///
+/// N4 for a page of version 2, another encoding, or levels that are no runs; S4 where a section of levels lies outside of the body.
+pub fn open_page(page: &DataPage) -> Result<OpenPage<'_>>
+    ensures ok { IfOk result (λ x. IsOpened (raw_page page.now) (levels_in page.now.descriptor) (sections x.repetitions.now x.definitions.now x.values.now) x.max_repetition x.max_definition x.count) }
+    ensures err { IfErr result (CannotOpen (raw_page page.now) (levels_in page.now.descriptor)) }
+{
+    let DataPageHeader::V1(header) = page.header() else {
+        return Err(Error::NotYetImplemented(N::N4));
+    };
+    if header.encoding != 0 {
+        return Err(Error::NotYetImplemented(N::N4));
+    }
+    let (max_repetition, max_definition) = greatest_levels(page);
+    if !say_runs(max_repetition, max_definition, header) {
+        return Err(Error::NotYetImplemented(N::N4));
+    }
+    let count = page.num_values();
+    match cut(page, header) {
+        Ok((repetitions, definitions, values)) => Ok(OpenPage {
+            repetitions,
+            definitions,
+            values,
+            max_repetition,
+            max_definition,
+            count,
+        }),
+        Err(error) => Err(error),
+    }
+}
+
+impl<'a> OpenPage<'a> {
+    /// Its pairs.
+    ///
+    /// # Errors
+    ///
+    /// S4 where a greatest level has more than 32 bits.
+    pub fn pairs(&self) -> Result<NestedPage<'a>>
+        ensures { MatchResult result (λ items. ArePairsOf (sections self.now.repetitions.now self.now.definitions.now self.now.values.now) self.now.max_repetition self.now.max_definition self.now.count items) (λ e. (e ≡ OutOfSpec S4) × ((2 ^ 32 ≤ self.now.max_repetition) ⊎ (2 ^ 32 ≤ self.now.max_definition))) }
+    {
+        NestedPage::try_new(
+            self.repetitions,
+            self.max_repetition,
+            self.definitions,
+            self.max_definition,
+            self.count,
+        )
+    }
+
+    /// Its pairs, and whether the first goes on with a row.
+    ///
+    /// # Errors
+    ///
+    /// S4 where a greatest level has more than 32 bits.
+    pub fn pairs_and_first(&self) -> Result<(NestedPage<'a>, bool)>
+        ensures { MatchResult result (λ x. ArePairsOf (sections self.now.repetitions.now self.now.definitions.now self.now.values.now) self.now.max_repetition self.now.max_definition self.now.count x.0 × (x.1 ≡ first_goes_on x.0)) (λ e. (e ≡ OutOfSpec S4) × ((2 ^ 32 ≤ self.now.max_repetition) ⊎ (2 ^ 32 ≤ self.now.max_definition))) }
+    {
+        let mut first = match self.pairs() {
+            Ok(first) => first,
+            Err(error) => return Err(error),
+        };
+        let goes_on = goes_on(&mut first);
+        match self.pairs() {
+            Ok(pairs) => Ok((pairs, goes_on)),
+            Err(error) => Err(error),
+        }
+    }
+}
+
+/// Whether the first pair goes on with a row.
+pub fn goes_on(pairs: &mut NestedPage<'_>) -> bool
+    ensures { result ≡ first_goes_on pairs.old }
+{
+    match pairs.next_run(1) {
+        Some(Ok((repetition, _, _))) => 0 < repetition,
+        _ => false,
+    }
+}
+
+/// The pairs of a data page that is served, the bytes of its values, and whether the first pair goes on with a row.
+#[derive(Drop)]
+pub struct PagePairs<'a> {
+    pub pairs: NestedPage<'a>,
+    pub bytes: PlainBytes<'a>,
+    pub goes_on: bool,
+}
+
+/// Opens a data page of version 1, PLAIN, for its pairs.
+///
+/// # Errors
+///
+/// Those of `open_page`.
+pub fn open_pairs(page: &DataPage) -> Result<PagePairs<'_>>
+    ensures ok { IfOk result (λ x. HasItems (raw_page page.now) (levels_in page.now.descriptor) x.pairs x.bytes.values.now × (x.goes_on ≡ first_goes_on x.pairs)) }
+    ensures err { IfErr result (CannotOpen (raw_page page.now) (levels_in page.now.descriptor)) }
+{
+    let open = match open_page(page) {
+        Ok(open) => open,
+        Err(error) => return Err(error),
+    };
+    match open.pairs_and_first() {
+        Ok((pairs, goes_on)) => Ok(PagePairs {
+            pairs,
+            bytes: PlainBytes {
+                values: open.values,
+            },
+            goes_on,
+        }),
+        Err(error) => Err(error),
+    }
+}

@@ -1,0 +1,159 @@
+//! The reader of a column.
+ghost use Rattle.std.specs.Prelude.{◌≡◌, ◌⊎◌, ◌<◌, [], length, not, IfErr, IfOk, IsTrue, List, false};
+ghost use Rattle.columns_base.specs.declared.error.Error.TheVariants.{Memory, OutOfSpec};
+ghost use Rattle.columns_base.specs.declared.error.S.TheVariants.{S9};
+ghost use Rattle.shredding.specs.Along.{thin};
+ghost use Rattle.shredding.specs.Shred.{Triple};
+ghost use Rattle.read_pieces.specs.Columns.{ColumnOpening, GivesPiece, IsReadable, RefusesPiece};
+ghost use Rattle.read_pieces.specs.Pieces.{IsPiece};
+ghost use Rattle.read_state.specs.Initial.{IsWay};
+ghost use Rattle.read_column.specs.Reading.{IsFilled, IsReading, Steps, reading};
+
+use crate::queue::Queue;
+use crate::take::take_page;
+use columns_base::{Error, N, Result, S};
+use pq_pages::{Page, Pages};
+use read_items::items_are_counted;
+use read_pieces::LeafReader;
+use read_state::{InitNested, NestedState};
+use std::alloc::Global;
+use std::marker::Model;
+
+/// Reads one column of a row group in pieces of whole rows, from any source of its pages. Today's pages are those of version 1, PLAIN.
+///
+/// After an error it gives nothing more.
+#[derive(Drop)]
+pub struct ColumnReader<I: Pages, L: LeafReader> {
+    pages: I,
+    queue: Option<Queue<L>>,
+    // Whether a data page was taken.
+    began: bool,
+}
+
+impl<I: Pages, L: LeafReader> Model for ColumnReader<I, L> {
+    ghost use Rattle.std.specs.Coded.{codes};
+    ghost use Rattle.read_column.specs.SlotCode.{slot_code};
+    ghost use Rattle.read_column.specs.Reading.{Reading};
+
+    ghost Value = { Reading };
+
+    ghost coded = { Prim.hlevel (codes, slot_code) };
+
+    ghost view = { λ r. record { outcomes = I.outcomes r.pages; queue = r.queue; began = r.began } };
+}
+
+// Nothing is left; no row may be wanting then.
+fn end<L: LeafReader>(queue: Queue<L>) -> Result<(Queue<L>, bool)>
+    ensures ok { IfOk result (λ x. (x.0 ≡ queue) × (x.1 ≡ false) × (queue.rows ≡ 0)) }
+    ensures err { IfErr result (λ e. (e ≡ OutOfSpec S9) × (0 < queue.rows)) }
+{
+    if queue.is_wanting() {
+        return Err(Error::OutOfSpec(S::S9));
+    }
+    Ok((queue, false))
+}
+
+// Takes the next page whole. Answers whether there was one.
+fn take_next<I: Pages, L: LeafReader>(
+    pages: &mut I,
+    is_first: bool,
+    queue: Queue<L>,
+) -> Result<(Queue<L>, bool)>
+    ensures ok { (o : ColumnOpening) (pieces : List (List Triple)) → IsReading L.stored L.byte_limit o pieces (reading (I.outcomes pages.old) queue (not is_first)) → IfOk result (λ x. Steps L.stored L.byte_limit o pieces (not is_first) x.1 x.0 (I.outcomes pages.new)) }
+    ensures less { IfOk result (λ x. IsTrue x.1 → length (I.outcomes pages.new) < length (I.outcomes pages.old)) }
+    ensures err { (o : ColumnOpening) (pieces : List (List Triple)) → IsReading L.stored L.byte_limit o pieces (reading (I.outcomes pages.old) queue (not is_first)) → IfErr result (RefusesPiece o) }
+{
+    items_are_counted();
+    match pages.advance() {
+        Ok(()) => {}
+        Err(error) => return Err(error),
+    }
+    match pages.get() {
+        None => end(queue),
+        Some(Page::Dict(_)) => Err(Error::NotYetImplemented(N::N4)),
+        Some(Page::Data(page)) => match take_page(queue, page, is_first) {
+            Ok(queue) => Ok((queue, true)),
+            Err(error) => Err(error),
+        },
+    }
+}
+
+// Takes pages until a piece is whole, or they end.
+fn fill<I: Pages, L: LeafReader>(
+    pages: &mut I,
+    began: &mut bool,
+    queue: Queue<L>,
+) -> Result<Queue<L>>
+    ensures ok { (o : ColumnOpening) (pieces : List (List Triple)) → IsReading L.stored L.byte_limit o pieces (reading (I.outcomes pages.old) queue began.old) → IfOk result (λ q. IsFilled L.stored L.byte_limit o pieces q (I.outcomes pages.new) began.new) }
+    ensures err { (o : ColumnOpening) (pieces : List (List Triple)) → IsReading L.stored L.byte_limit o pieces (reading (I.outcomes pages.old) queue began.old) → IfErr result (RefusesPiece o) }
+{
+    let mut queue = queue;
+    'pages: while !queue.has_whole() {
+        let (next, is_taken) = match take_next(pages, !*began, queue) {
+            Ok(step) => step,
+            Err(error) => return Err(error),
+        };
+        if !is_taken {
+            return Ok(next);
+        }
+        queue = next;
+        *began = true;
+    }
+    Ok(queue)
+}
+
+impl<I: Pages, L: LeafReader> ColumnReader<I, L> {
+    /// The reader of a column whose pages the source gives, of so many rows, along the parts of the way to its leaf; with a chunk size each piece
+    /// has as many rows, or as are left. Parts that are no way to a leaf have no piece.
+    ///
+    /// # Errors
+    ///
+    /// `Memory`.
+    pub fn new(
+        alloc: Global,
+        pages: I,
+        nested: Vec<InitNested>,
+        chunk_size: Option<usize>,
+        num_rows: usize,
+    ) -> Result<Self>
+        ensures ok { (o : ColumnOpening) → IsReadable o L.stored L.byte_limit → o.outcomes ≡ I.outcomes pages → IsWay nested.items (thin o.column.way) → o.rows ≡ num_rows → o.chunk_size ≡ chunk_size → IfOk result (λ r. IsReading L.stored L.byte_limit o [] r) }
+        ensures err { IfErr result (λ e. e ≡ Memory) }
+    {
+        let queue = Queue::new(alloc, nested, chunk_size, num_rows)?;
+        Ok(ColumnReader {
+            pages,
+            queue,
+            began: false,
+        })
+    }
+
+    /// The next piece: of exactly as many rows as go into a piece, or as are left. None once all rows were given and the pages have ended; after an
+    /// error nothing is said of further calls.
+    ///
+    /// # Errors
+    ///
+    /// S3 or N4 of the source; N4 for a page that is not read yet; S5 or N8 where a page's first pair goes on with a row; S4, S6, S7 and S10 where a
+    /// page's levels or values are not those of rows; S9 where the pages have more or fewer rows than the group; V1 where a piece passes the
+    /// offsets of its array; `Memory`.
+    pub fn next_piece(&mut self) -> Option<Result<(NestedState, L::Values)>>
+        ensures { (o : ColumnOpening) (pieces : List (List Triple)) → IsReading L.stored L.byte_limit o pieces self.old → GivesPiece (IsReading L.stored L.byte_limit) (λ v ts. IsPiece o.column.way ts v.0 (L.slots v.1)) o pieces result self.new }
+    {
+        let Some(queue) = self.queue.take() else {
+            return None;
+        };
+        let mut queue = match fill(&mut self.pages, &mut self.began, queue) {
+            Ok(queue) => queue,
+            Err(error) => return Some(Err(error)),
+        };
+        match queue.pop() {
+            Some(piece) => {
+                self.queue = Some(queue);
+                Some(Ok(piece))
+            }
+            None => {
+                self.queue = Some(queue);
+                None
+            }
+        }
+    }
+}

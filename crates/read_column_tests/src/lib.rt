@@ -1,0 +1,7 @@
+//! Tests of the column reader, in a crate of their own so that it is not proved twice.
+#![tactic(auto)]
+
+#[cfg(test)]
+mod numbers;
+#[cfg(test)]
+mod reader_tests;

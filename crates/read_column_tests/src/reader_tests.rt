@@ -1,0 +1,209 @@
+//! A nullable list of nullable numbers, in pages of its own.
+ghost use Rattle.std.specs.Prelude.{IfOk};
+ghost use Rattle.pq_pages.specs.Outcomes.{HasLevels};
+
+use crate::numbers::Numbers;
+use columns_base::{Error, N, PhysicalType, Result, S};
+use pq_pages::{DataPage, Page, VecPages};
+use pq_tree::{DataPageHeader, DataPageHeaderV1, Descriptor, FieldInfo, PrimitiveType, Repetition};
+use read_column::ColumnReader;
+use read_state::InitNested;
+use std::alloc::Global;
+
+// The rows [1, null], null, [], [2]: repetition levels, definition levels and values (Parquet format, "Data Pages" and "Nested Encoding").
+const BODY: &[u8] = &[
+    2,
+    0,
+    0,
+    0,
+    3,
+    0b0000_0010,
+    3,
+    0,
+    0,
+    0,
+    3,
+    75,
+    3,
+    1,
+    0,
+    0,
+    0,
+    2,
+    0,
+    0,
+    0,
+];
+
+// The same levels, but the first pair repeats.
+const GOES_ON: &[u8] = &[
+    2,
+    0,
+    0,
+    0,
+    3,
+    0b0000_0011,
+    3,
+    0,
+    0,
+    0,
+    3,
+    75,
+    3,
+    1,
+    0,
+    0,
+    0,
+    2,
+    0,
+    0,
+    0,
+];
+
+// One value is cut.
+const CUT: &[u8] = &[
+    2,
+    0,
+    0,
+    0,
+    3,
+    0b0000_0010,
+    3,
+    0,
+    0,
+    0,
+    3,
+    75,
+    3,
+    1,
+    0,
+    0,
+    0,
+    2,
+    0,
+    0,
+];
+
+fn descriptor(alloc: Global) -> Result<Descriptor>
+    ensures { IfOk result HasLevels }
+{
+    Ok(Descriptor {
+        primitive_type: PrimitiveType {
+            field_info: FieldInfo {
+                name: String::new(alloc),
+                repetition: Repetition::Optional,
+                id: None,
+            },
+            logical_type: None,
+            converted_type: None,
+            physical_type: PhysicalType::Int32,
+        },
+        max_def_level: 3,
+        max_rep_level: 1,
+    })
+}
+
+// A page of five pairs, in PLAIN or another encoding.
+fn page(alloc: Global, encoding: bool, body: &[u8]) -> Result<Page> {
+    let header = DataPageHeaderV1 {
+        num_values: 5,
+        encoding: if encoding { 0 } else { 8 },
+        definition_level_encoding: Some(3),
+        repetition_level_encoding: Some(3),
+        statistics: None,
+    };
+    let body = Vec::from_slice(alloc, body)?;
+    let descriptor = descriptor(alloc)?;
+    Ok(Page::Data(DataPage::new(DataPageHeader::V1(header), body, descriptor, None)))
+}
+
+// The reader of two pages, of so many rows, in pieces of three.
+fn reader(
+    alloc: Global,
+    is_plain: bool,
+    first: &[u8],
+    second: &[u8],
+    rows: usize,
+) -> Result<ColumnReader<VecPages, Numbers<i32, i32>>> {
+    let mut pages = Vec::new(alloc);
+    pages.push(Ok(page(alloc, true, first)?))?;
+    pages.push(Ok(page(alloc, is_plain, second)?))?;
+    let mut parts = Vec::new(alloc);
+    parts.push(InitNested::List(true))?;
+    parts.push(InitNested::Primitive(true))?;
+    ColumnReader::new(alloc, VecPages::new(pages), parts, Some(3), rows)
+}
+
+// The next piece's leaf has so many slots.
+fn gives(reader: &mut ColumnReader<VecPages, Numbers<i32, i32>>, slots: usize) -> bool {
+    match reader.next_piece() {
+        Some(Ok((nested, values))) => nested.leaf_len() == slots && values.len() == slots,
+        _ => false,
+    }
+}
+
+// Nothing more comes.
+fn ends(reader: &mut ColumnReader<VecPages, Numbers<i32, i32>>) -> bool {
+    match reader.next_piece() {
+        None => true,
+        Some(_) => false,
+    }
+}
+
+fn reads_pieces(alloc: Global) -> Result<bool> {
+    let mut reader = reader(alloc, true, BODY, BODY, 8)?;
+    // [1, null], null, []; [2], [1, null], null; [], [2]
+    Ok(gives(&mut reader, 2) && gives(&mut reader, 3) && gives(&mut reader, 1) && ends(&mut reader))
+}
+
+#[test]
+fn pieces_go_over_pages(rt: HostRuntime) -> Result<()> {
+    assert!(rt; reads_pieces(rt.alloc())?);
+    Ok(())
+}
+
+// The first error, behind the pieces.
+fn refuses(reader: &mut ColumnReader<VecPages, Numbers<i32, i32>>, want: Error) -> bool {
+    for _ in 0..4 {
+        match reader.next_piece() {
+            Some(Ok(_)) => {}
+            Some(Err(error)) => return error == want,
+            None => return false,
+        }
+    }
+    false
+}
+
+fn refuses_pages(
+    alloc: Global,
+    is_plain: bool,
+    first: &[u8],
+    second: &[u8],
+    rows: usize,
+    want: Error,
+) -> Result<bool> {
+    let mut reader = reader(alloc, is_plain, first, second, rows)?;
+    Ok(refuses(&mut reader, want))
+}
+
+#[test]
+fn faults_are_told(rt: HostRuntime) -> Result<()> {
+    let alloc = rt.alloc();
+    // the group says one row more, or one less
+    assert!(rt; refuses_pages(alloc, true, BODY, BODY, 9, Error::OutOfSpec(S::S9))?);
+    assert!(rt; refuses_pages(alloc, true, BODY, BODY, 7, Error::OutOfSpec(S::S9))?);
+    assert!(rt; refuses_pages(alloc, true, GOES_ON, BODY, 8, Error::OutOfSpec(S::S5))?);
+    assert!(rt;
+        refuses_pages(
+            alloc,
+            true,
+            BODY,
+            GOES_ON,
+            8,
+            Error::NotYetImplemented(N::N8)
+        )?
+    );
+    assert!(rt; refuses_pages(alloc, true, BODY, CUT, 8, Error::OutOfSpec(S::S6))?);
+    assert!(rt; refuses_pages(alloc, false, BODY, BODY, 8, Error::NotYetImplemented(N::N4))?);
+    Ok(())
+}

@@ -1,0 +1,133 @@
+//! Arrays of a value, a null and a value, read from plain bytes (Parquet format, Encodings, "Plain").
+ghost use Rattle.std.specs.Prelude.{◌≡◌, true};
+ghost use Rattle.columns_core.specs.Shapes.{base};
+ghost use Rattle.columns_core.specs.View.{type_view};
+
+use columns_array::ArrayBox;
+use columns_base::{Error, PhysicalType, Result, S};
+use columns_core::{DataType, TimeUnit};
+use read_leaf::{Bytes, Text};
+use read_pieces::PlainBytes;
+use read_state::{InitNested, init_nested};
+use read_types::{LeafArray, LeafKind, Numbers, Strings};
+use read_walk::NestedPage;
+use std::alloc::Global;
+
+// A packed run of the definition levels 1, 0, 1.
+const DEFS: &[u8] = &[3, 0b0000_0101];
+
+fn three<L: LeafArray>(alloc: Global, bytes: &[u8], data_type: DataType) -> Result<ArrayBox>
+    requires { L.makes (base (type_view data_type)) ≡ true }
+{
+    let mut nested = init_nested(alloc, &[InitNested::Primitive(true)], 0)?;
+    let mut values = L::begin(alloc)?;
+    let mut page = NestedPage::try_new(&[], 0, DEFS, 1, 3)?;
+    let mut bytes = PlainBytes { values: bytes };
+    L::extend(&mut page, &mut bytes, &mut nested, &mut values, 3)?;
+    L::into_array(alloc, values, data_type)
+}
+
+fn makes_small_numbers(alloc: Global) -> Result<bool> {
+    let bytes = &[200, 0, 0, 0, 7, 0, 0, 0];
+    match three::<Numbers<u8, i32>>(alloc, bytes, DataType::UInt8)? {
+        ArrayBox::UInt8(array) => {
+            Ok(array.values() == [200, 0, 7].as_slice() && array.null_count() == 1)
+        }
+        _ => Ok(false),
+    }
+}
+
+fn makes_wide_numbers(alloc: Global) -> Result<bool> {
+    let bytes = &[
+        254, 255, 255, 255, 255, 255, 255, 255, 0, 1, 0, 0, 0, 0, 0, 0,
+    ];
+    match three::<Numbers<i64, i64>>(alloc, bytes, DataType::Duration(TimeUnit::Second))? {
+        ArrayBox::Int64(array) => {
+            Ok(array.values() == [-2, 0, 256].as_slice() && array.null_count() == 1)
+        }
+        _ => Ok(false),
+    }
+}
+
+#[test]
+fn numbers_are_made(rt: HostRuntime) -> Result<()> {
+    assert!(rt; makes_small_numbers(rt.alloc())?);
+    assert!(rt; makes_wide_numbers(rt.alloc())?);
+    Ok(())
+}
+
+fn makes_texts(alloc: Global) -> Result<bool> {
+    let bytes = &[1, 0, 0, 0, 97, 2, 0, 0, 0, 195, 164];
+    match three::<Strings<i64, Text>>(alloc, bytes, DataType::LargeUtf8)? {
+        ArrayBox::LargeUtf8(array) => Ok(
+            array.offsets().buffer() == [0, 1, 1, 3].as_slice()
+                && array.values() == [97, 195, 164].as_slice()
+                && array.null_count() == 1,
+        ),
+        _ => Ok(false),
+    }
+}
+
+fn makes_strings(alloc: Global) -> Result<bool> {
+    let bytes = &[1, 0, 0, 0, 255, 0, 0, 0, 0];
+    match three::<Strings<i32, Bytes>>(alloc, bytes, DataType::Binary)? {
+        ArrayBox::Binary(array) => Ok(
+            array.offsets().buffer() == [0, 1, 1, 1].as_slice()
+                && array.values() == [255].as_slice()
+                && array.null_count() == 1,
+        ),
+        _ => Ok(false),
+    }
+}
+
+#[test]
+fn strings_are_made(rt: HostRuntime) -> Result<()> {
+    assert!(rt; makes_texts(rt.alloc())?);
+    assert!(rt; makes_strings(rt.alloc())?);
+    Ok(())
+}
+
+// 256 is no number of eight bits.
+fn refuses_numbers(alloc: Global) -> bool {
+    let bytes = &[0, 1, 0, 0, 7, 0, 0, 0];
+    match three::<Numbers<u8, i32>>(alloc, bytes, DataType::UInt8) {
+        Ok(_) => false,
+        Err(error) => error == Error::OutOfSpec(S::S7),
+    }
+}
+
+#[test]
+fn numbers_outside_the_type_are_refused(rt: HostRuntime) {
+    assert!(rt; refuses_numbers(rt.alloc()));
+}
+
+fn has_kind(data_type: &DataType, physical_type: PhysicalType, want: Option<LeafKind>) -> bool {
+    LeafKind::of(data_type, physical_type) == want
+}
+
+#[test]
+fn kinds_are_told(rt: HostRuntime) {
+    assert!(rt;
+        has_kind(
+            &DataType::Date32,
+            PhysicalType::Int32,
+            Some(LeafKind::Int32)
+        )
+    );
+    assert!(rt;
+        has_kind(
+            &DataType::UInt32,
+            PhysicalType::Int64,
+            Some(LeafKind::WideUInt32)
+        )
+    );
+    assert!(rt;
+        has_kind(
+            &DataType::Binary,
+            PhysicalType::ByteArray,
+            Some(LeafKind::Binary)
+        )
+    );
+    assert!(rt; has_kind(&DataType::Int64, PhysicalType::Int32, None));
+    assert!(rt; has_kind(&DataType::Boolean, PhysicalType::Boolean, None));
+}

@@ -1,0 +1,5 @@
+//! Tests of the readers of leaves, in a crate of their own so that no crate is proved twice.
+#![tactic(auto)]
+
+#[cfg(test)]
+mod array_tests;

@@ -1,0 +1,10 @@
+pub mod Fronts
+pub mod Keeps
+pub mod Goes
+pub mod Stood
+pub mod Built
+pub mod Slots
+pub mod Array
+pub mod Failed
+pub mod Each
+pub mod Places

@@ -1,0 +1,4 @@
+pub mod NumbersRead
+pub mod StringsRead
+pub mod Slots
+pub mod KindsRead

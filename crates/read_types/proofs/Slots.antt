@@ -1,0 +1,101 @@
+-- The slots of arrays of what is decoded.
+use Rattle.std.proofs.Common.{◌≡◌, ℕ, zero, suc, ◌+◌, ◌-◌, ◌≤◌, ℤ, Bool, true, false, List, [], ◌∷◌, map, length, refl, arith, ap, sym, ◌∙◌, true≢false}
+use Rattle.std.proofs.lemmas.List.{length-map}
+use Rattle.std.proofs.lemmas.Str.{IsUtf8-from_is_utf8}
+use Rattle.std.specs.Str.{is_utf8}
+use Rattle.shredding.specs.Parts.{slots_from}
+use Rattle.shredding.specs.Slot.{Value, number, bytes, Slot, null, value}
+use Rattle.columns_core.specs.Rising.{RisesFrom, IsRising, last_place}
+use Rattle.columns_core.specs.Shapes.{leaf_type}
+use Rattle.columns_core.specs.Tree.{TypeTree}
+use Rattle.columns_leaf.specs.Texts.{IsText, AreTexts}
+use Rattle.columns_slots.proofs.Strings.{pieces_len}
+use Rattle.columns_slots.specs.Bytes.{pieces, pieces_values}
+use Rattle.columns_slots.specs.Slots.{slots, slot_at, AreUpTo, IsPlaces}
+use Rattle.pq_files.specs.Statistics.{has_order}
+use Rattle.read_leaf.specs.Numbers.{number_slots}
+use Rattle.read_leaf.specs.Strings.{string_slots, AreAllowed}
+use Rattle.read_types.specs.Arrays.{IsLeafArray, masked_leaf, makes_numbers}
+
+-- ---- a value or null at each position
+
+value_slots : List Value → List Bool → List Slot
+value_slots (v ∷ vs) (true ∷ bs) = value v ∷ value_slots vs bs
+value_slots (v ∷ vs) (false ∷ bs) = null ∷ value_slots vs bs
+value_slots [] bs = []
+value_slots (v ∷ vs) [] = []
+
+shifted : (f g : ℕ → Slot) (place n : ℕ) → ((i : ℕ) → f (suc i) ≡ g i) → slots_from f (suc place) n ≡ slots_from g place n
+unfolding slots_from
+shifted f g place zero same = refl
+shifted f g place (suc n) same =
+    let e : suc place + 1 ≡ suc (place + 1) = omega arith in
+    rw (e, same place, shifted f g (place + 1) n same) refl
+
+masked-slots : (t : TypeTree) (vs : List Value) (bs : List Bool) → length vs ≡ length bs → slots (masked_leaf t vs bs) ≡ value_slots vs bs
+unfolding slots_from value_slots
+masked-slots t [] bs e = refl
+masked-slots t (v ∷ vs) [] e = absurd (omega (arith, e))
+masked-slots t (v ∷ vs) (true ∷ bs) e =
+    ap (λ (ss : List Slot). value v ∷ ss) (shifted (slot_at (masked_leaf t (v ∷ vs) (true ∷ bs))) (slot_at (masked_leaf t vs bs)) 0 (length vs) (λ i. refl) ∙ masked-slots t vs bs (omega (arith, e)))
+masked-slots t (v ∷ vs) (false ∷ bs) e =
+    ap (λ (ss : List Slot). null ∷ ss) (shifted (slot_at (masked_leaf t (v ∷ vs) (false ∷ bs))) (slot_at (masked_leaf t vs bs)) 0 (length vs) (λ i. refl) ∙ masked-slots t vs bs (omega (arith, e)))
+
+-- ---- numbers
+
+of-numbers : {X : Type 0} (worth : X → Value) (num : X → ℤ) → ((x : X) → worth x ≡ number (num x)) → (xs : List X) (bs : List Bool) → value_slots (map worth xs) bs ≡ number_slots (map num xs) bs
+unfolding value_slots
+of-numbers worth num valued [] bs = refl
+of-numbers worth num valued (x ∷ xs) [] = refl
+of-numbers worth num valued (x ∷ xs) (true ∷ bs) = rw (valued x, of-numbers worth num valued xs bs) refl
+of-numbers worth num valued (x ∷ xs) (false ∷ bs) = rw (of-numbers worth num valued xs bs) refl
+
+pub number-array : {X : Type 0} (t : TypeTree) (worth : X → Value) (num : X → ℤ) → ((x : X) → worth x ≡ number (num x)) → (numbers xs : List X) (bits bs : List Bool) → numbers ≡ xs → bits ≡ bs → length xs ≡ length bs → IsLeafArray t (number_slots (map num xs) bs) (masked_leaf t (map worth numbers) bits)
+number-array t worth num valued numbers xs bits bs n b e = rw (n, b) record {
+  typed = refl;
+  same = masked-slots t (map worth xs) bs (length-map xs worth ∙ e) ∙ of-numbers worth num valued xs bs;
+  entries = refl;
+}
+
+-- a type of such arrays stores the numbers, and has an order
+pub stores-so : (stores : TypeTree → Bool) (t : TypeTree) → makes_numbers stores t ≡ true → stores t ≡ true
+stores-so stores t e = of (stores t) refl
+  where
+    of : (b : Bool) → stores t ≡ b → stores t ≡ true
+    of true h = h
+    of false h = absurd (true≢false (sym (rw h at e)))
+
+pub ordered-so : (stores : TypeTree → Bool) (t : TypeTree) → makes_numbers stores t ≡ true → has_order (leaf_type t) ≡ true
+ordered-so stores t e = rw (stores-so stores t e) at e
+
+-- ---- strings
+
+of-strings : (ss : List (List ℕ)) (bs : List Bool) → value_slots (map bytes ss) bs ≡ string_slots ss bs
+unfolding value_slots
+of-strings [] bs = refl
+of-strings (s ∷ ss) [] = refl
+of-strings (s ∷ ss) (true ∷ bs) = rw (of-strings ss bs) refl
+of-strings (s ∷ ss) (false ∷ bs) = rw (of-strings ss bs) refl
+
+pub string-array : (t : TypeTree) (offsets content : List ℕ) (ss : List (List ℕ)) (bits bs : List Bool) → pieces offsets content ≡ ss → bits ≡ bs → length ss ≡ length bs → IsLeafArray t (string_slots ss bs) (masked_leaf t (pieces_values offsets content) bits)
+string-array t offsets content ss bits bs are b e = rw (are, b) record {
+  typed = refl;
+  same = masked-slots t (map bytes ss) bs (length-map ss bytes ∙ e) ∙ of-strings ss bs;
+  entries = refl;
+}
+
+pub mask-fits : (offsets content : List ℕ) (ss : List (List ℕ)) (bs : List Bool) → pieces offsets content ≡ ss → length ss ≡ length bs → length bs ≡ length offsets - 1
+mask-fits offsets content ss bs are e = sym e ∙ (sym (ap length are) ∙ pieces_len offsets content)
+
+pub all_texts : (ss : List (List ℕ)) → AreAllowed is_utf8 ss → AreTexts ss
+unfolding IsText
+all_texts [] a = tt
+all_texts (s ∷ ss) a = (IsUtf8-from_is_utf8 s a.0, all_texts ss a.1)
+
+up : (o : ℕ) (os : List ℕ) (n : ℕ) → RisesFrom o os → last_place (o ∷ os) ≤ n → AreUpTo o os n
+up o [] n r h = h
+up o (p ∷ os) n r h = (r.0, up p os n r.1 h)
+
+pub rising-places : (os : List ℕ) (n : ℕ) → IsRising os → last_place os ≡ n → IsPlaces os n
+rising-places [] n r h = absurd r
+rising-places (o ∷ os) n r h = up o os n r (omega (arith, h))

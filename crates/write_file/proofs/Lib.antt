@@ -1,0 +1,10 @@
+mod Grown
+mod Going
+mod Places
+mod Encoded
+mod Headed
+mod Columns
+mod Whole
+mod Footed
+mod Passed
+mod Reasons

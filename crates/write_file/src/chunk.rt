@@ -1,0 +1,152 @@
+//! One column of a group.
+ghost use Rattle.std.specs.Prelude.{◌≡◌, ◌⊎◌, ℕ, ◌+◌, ◌<◌, ◌≤◌, List, Some, length, map, option_map, pos, string_bytes, false, IfOk, IfErr, IsErrOf};
+ghost use Rattle.std.specs.Io.KnownBytes.{Appends};
+ghost use Rattle.columns_base.specs.declared.error.Error.TheVariants.{Memory, Overflow, WriteFault};
+ghost use Rattle.columns_base.specs.declared.error.V.TheVariants.{V3};
+ghost use Rattle.footer_write.specs.FooterView.{chunk_view};
+ghost use Rattle.pq_tree.specs.Paths.{names_of};
+ghost use Rattle.pq_tree.specs.Physical.{number_of_physical};
+ghost use Rattle.pq_tree.specs.Tree.{Leaf};
+ghost use Rattle.pq_tree.specs.Views.{physical_view, statistics_view};
+ghost use Rattle.pq_tree.specs.declared.version.Version.{Version};
+ghost use Rattle.pq_files.specs.Layout.{OutChunk};
+ghost use Rattle.pq_files.specs.Packed.{IsWrittenChunk};
+ghost use Rattle.pq_files.specs.Page.{Encoding as PageEncoding};
+ghost use Rattle.pq_files.specs.Room.{max_count};
+ghost use Rattle.pq_files.specs.Written.{Place, chunk_record, encodings_of};
+ghost use Rattle.pq_io.specs.Causes.{Rose};
+ghost use Rattle.write_file.specs.Pages.{encoding_view};
+ghost use Rattle.write_file.specs.Passing.{ColumnPasses};
+
+use crate::push::push_pages;
+use crate::{ChunkPages, Count};
+use columns_base::Result;
+use footer_write::{ThriftColumnChunk, ThriftColumnMetaData};
+use pq_io::Sink;
+use pq_tree::{Encoding, PhysicalType, Statistics};
+use std::alloc::Global;
+
+// The encodings of levels and of data, ascending (Parquet format, `ColumnMetaData.encodings`), of a chunk without a dictionary.
+fn encodings_from(alloc: Global, encoding: Encoding) -> Result<Vec<i32>>
+    ensures ok { IfOk result (λ v. (e : PageEncoding) → encoding_view encoding ≡ Some e → v.items ≡ map (λ n. pos n) (encodings_of e false)) }
+    ensures err { IfErr result (λ e. e ≡ Memory) }
+{
+    let numbers = match encoding {
+        Encoding::Plain => [0, 3],
+        Encoding::DeltaBinaryPacked => [3, 5],
+        Encoding::DeltaLengthByteArray => [3, 6],
+        _ => [3, 8],
+    };
+    let encodings = Vec::from_slice(alloc, &numbers)?;
+    Ok(encodings)
+}
+
+fn number_from(physical: PhysicalType) -> i32
+    ensures { result ≡ pos (number_of_physical (physical_view physical)) }
+{
+    match physical {
+        PhysicalType::Boolean => 0,
+        PhysicalType::Int32 => 1,
+        PhysicalType::Int64 => 2,
+        PhysicalType::Int96 => 3,
+        PhysicalType::Float => 4,
+        PhysicalType::Double => 5,
+        PhysicalType::ByteArray => 6,
+        PhysicalType::FixedLenByteArray(_) => 7,
+    }
+}
+
+fn copy_bytes(alloc: Global, bytes: &Option<Vec<u8>>) -> Result<Option<Vec<u8>>>
+    ensures ok { IfOk result (λ b. option_map (λ v. v.items) b ≡ option_map (λ v. v.items) bytes.now) }
+    ensures err { IfErr result (λ e. e ≡ Memory) }
+{
+    match bytes {
+        None => Ok(None),
+        Some(bytes) => Ok(Some(Vec::from_slice(alloc, bytes)?)),
+    }
+}
+
+fn copy_statistics(alloc: Global, statistics: &Option<Statistics>) -> Result<Option<Statistics>>
+    ensures ok { IfOk result (λ s. option_map statistics_view s ≡ option_map statistics_view statistics.now) }
+    ensures err { IfErr result (λ e. e ≡ Memory) }
+{
+    match statistics {
+        None => Ok(None),
+        Some(s) => Ok(Some(Statistics {
+            null_count: s.null_count,
+            max_value: copy_bytes(alloc, &s.max_value)?,
+            min_value: copy_bytes(alloc, &s.min_value)?,
+        })),
+    }
+}
+
+fn copy_path(alloc: Global, path: &[String]) -> Result<Vec<String>>
+    ensures ok { IfOk result (λ p. map string_bytes p.items ≡ map string_bytes path.now) }
+    ensures err { IfErr result (λ e. e ≡ Memory) }
+{
+    let mut names = Vec::new(alloc);
+    for name in path {
+        names.push(String::from_str(alloc, name.as_str())?)?;
+    }
+    Ok(names)
+}
+
+/// A chunk that has gone to the sink: what the footer states of it, the place after it, and its number of pages.
+#[derive(Drop)]
+pub(crate) struct Chunk {
+    pub meta: ThriftColumnChunk,
+    pub end: Count,
+    pub pages: Count,
+}
+
+/// Pushes the pages of a column that starts at a place (Parquet format, "Column chunks").
+///
+/// # Errors
+///
+/// Those of `push_pages`; `Overflow(V3)` also where the place after it passes 2^63 - 1.
+pub(crate) fn push_chunk<W: Sink, P: ChunkPages>(
+    alloc: Global,
+    sink: &mut W,
+    physical: PhysicalType,
+    path: &[String],
+    pages: &mut P,
+    start: Count,
+) -> Result<Chunk>
+    ensures ok { IfOk result (λ k. (version : Version) (l : Leaf) (c : OutChunk) → physical_view physical ≡ l.physical → map string_bytes path.now ≡ names_of l → P.gives pages.old version l c → 0 < length c.pages → (text : List ℕ) × (w : Place) × Appends (W.taken sink.old) (W.taken sink.new) text × (w.start ≡ start) × IsWrittenChunk version l c w text × (chunk_view k.meta ≡ chunk_record l c w) × (k.end ≡ start + length text) × (k.pages ≡ length c.pages)) }
+    ensures few { IfOk result (λ k. start + k.pages ≤ k.end) }
+    ensures most { IfOk result (λ k. k.end ≤ max_count) }
+    ensures later { W.faults sink.old ≤ W.faults sink.new }
+    ensures fault { IsErrOf result WriteFault → Rose (W.faults sink.old) (W.faults sink.new) ⊎ P.refuses pages.old WriteFault }
+    ensures refused { IfErr result (λ e. (e ≡ Memory) ⊎ (e ≡ WriteFault) ⊎ ((e ≡ Overflow V3) × ((version : Version) (l : Leaf) (c : OutChunk) → P.gives pages.old version l c → ColumnPasses version l c start)) ⊎ P.refuses pages.old e) }
+{
+    let path_in_schema = copy_path(alloc, path)?;
+    let statistics = copy_statistics(alloc, pages.statistics())?;
+    let encodings = encodings_from(alloc, pages.encoding())?;
+    let pushed = match push_pages(alloc, sink, pages) {
+        Ok(pushed) => pushed,
+        Err(error) => return Err(error),
+    };
+    let end = match start.plus(pushed.bytes.get()) {
+        Ok(end) => end,
+        Err(error) => return Err(error),
+    };
+    Ok(Chunk {
+        meta: ThriftColumnChunk {
+            file_offset: start.stated(),
+            meta_data: ThriftColumnMetaData {
+                type_: number_from(physical),
+                encodings,
+                path_in_schema,
+                codec: 0,
+                num_values: pushed.pairs.stated(),
+                total_uncompressed_size: pushed.bytes.stated(),
+                total_compressed_size: pushed.bytes.stated(),
+                data_page_offset: start.stated(),
+                dictionary_page_offset: None,
+                statistics,
+            },
+        },
+        end,
+        pages: pushed.pages,
+    })
+}

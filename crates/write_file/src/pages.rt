@@ -1,0 +1,43 @@
+//! The pages of one column of a group, one at a time.
+ghost use Rattle.std.specs.Prelude.{◌≡◌, ◌<◌, ℕ, None, Some, All, option_map, IfSome, IfErr};
+ghost use Rattle.columns_base.specs.declared.error.Error.{Error as Fault};
+ghost use Rattle.pq_tree.specs.Tree.{Leaf};
+ghost use Rattle.pq_tree.specs.Views.{statistics_view};
+ghost use Rattle.pq_tree.specs.declared.version.Version.{Version};
+ghost use Rattle.pq_files.specs.Layout.{OutChunk};
+ghost use Rattle.pq_files.specs.Written.{statistics_of};
+ghost use Rattle.write_file.specs.Pages.{GivesNext, encoding_view};
+
+use columns_base::Result;
+use pq_pages::DataPage;
+use pq_tree::{Encoding, Statistics};
+
+/// Gives the data pages of a column of a group, each when it is asked for.
+pub trait ChunkPages {
+    /// It still gives the pages of this chunk of a leaf, in this version.
+    ghost gives: { Self → Version → Leaf → OutChunk → Type 0 };
+
+    /// So many steps are left at most.
+    ghost left: { Self → ℕ };
+
+    /// Why a page may be refused.
+    ghost refuses: { Self → Fault → Type 0 };
+
+    /// A chunk without a dictionary.
+    ghost no_entries: { (s : Self) (version : Version) (l : Leaf) (c : OutChunk) → gives s version l c → c.entries ≡ None };
+
+    /// The next page; none at the end.
+    fn next_page(&mut self) -> Option<Result<DataPage>>
+        ensures page { (version : Version) (l : Leaf) (c : OutChunk) → gives self.old version l c → GivesNext gives version l c result self.new }
+        ensures fewer { IfSome result (λ _. left self.new < left self.old) }
+        ensures refused { IfSome result (λ r. IfErr r (refuses self.old)) }
+        ensures later { (e : Fault) → refuses self.new e → refuses self.old e };
+
+    /// The encoding of the values in all its pages.
+    fn encoding(&self) -> Encoding
+        ensures { (version : Version) (l : Leaf) (c : OutChunk) → gives self.now version l c → All (λ o. encoding_view result ≡ Some o.encoding) c.pages };
+
+    /// The statistics of the whole chunk, where they are written.
+    fn statistics(&self) -> &Option<Statistics>
+        ensures { (version : Version) (l : Leaf) (c : OutChunk) → gives self.now version l c → option_map statistics_view result.now ≡ option_map statistics_of c.statistics };
+}

@@ -1,0 +1,130 @@
+//! The pages of one column as they go to a sink, one at a time.
+ghost use Rattle.std.specs.Prelude.{◌≡◌, ◌⊎◌, ℕ, ◌+◌, ◌<◌, ◌≤◌, List, None, length, IfOk, IfErr, IsErrOf};
+ghost use Rattle.std.specs.Io.KnownBytes.{Appends};
+ghost use Rattle.columns_base.specs.declared.error.Error.TheVariants.{Memory, Overflow, WriteFault};
+ghost use Rattle.columns_base.specs.declared.error.V.TheVariants.{V3};
+ghost use Rattle.pq_tree.specs.Tree.{Leaf};
+ghost use Rattle.pq_tree.specs.declared.version.Version.{Version};
+ghost use Rattle.pq_files.specs.Layout.{OutPage, OutChunk};
+ghost use Rattle.pq_files.specs.Packed.{IsWrittenPage, ArePages};
+ghost use Rattle.pq_files.specs.Room.{max_count};
+ghost use Rattle.pq_files.specs.Written.{pairs_in};
+ghost use Rattle.pq_io.specs.Causes.{Rose};
+ghost use Rattle.pq_pages.specs.HeaderValue.{body_of as body_bytes};
+ghost use Rattle.write_file.specs.Pages.{IsGiven};
+ghost use Rattle.write_file.specs.Passing.{ColumnPasses};
+
+use crate::{ChunkPages, Count};
+use columns_base::Result;
+use pq_io::{Sink, push_all};
+use pq_pages::{DataPage, Page, pages_are_written, write_page_header};
+use std::alloc::Global;
+
+/// What went to the sink: its bytes, its level pairs and its pages.
+#[derive(Clone, Copy, Drop)]
+pub(crate) struct Pushed {
+    pub bytes: Count,
+    pub pairs: Count,
+    pub pages: Count,
+}
+
+// The body of a page.
+fn body_of(page: &Page) -> &[u8]
+    ensures { result.now ≡ body_bytes page.now }
+{
+    match page {
+        Page::Data(page) => page.buffer(),
+        Page::Dict(page) => &page.buffer,
+    }
+}
+
+// How many bytes two texts have.
+fn bytes_of(head: &[u8], body: &[u8]) -> Result<Count>
+    ensures ok { IfOk result (λ n. n ≡ length head.now + length body.now) }
+    ensures err { IfErr result (λ e. (e ≡ Overflow V3) × (max_count < length head.now + length body.now)) }
+{
+    let first = Count::zero().plus(head.len() as u64)?;
+    first.plus(body.len() as u64)
+}
+
+// Pushes a page after its header.
+fn push_page<W: Sink>(alloc: Global, sink: &mut W, page: DataPage) -> Result<Pushed>
+    ensures ok { IfOk result (λ n. (text : List ℕ) × Appends (W.taken sink.old) (W.taken sink.new) text × (n.bytes ≡ length text) × ((version : Version) (l : Leaf) (o : OutPage) → IsGiven version l o page → (n.pairs ≡ length o.triples) × IsWrittenPage version l None o text)) }
+    ensures one { IfOk result (λ n. n.pages ≡ 1) }
+    ensures some { IfOk result (λ n. 1 ≤ n.bytes) }
+    ensures later { W.faults sink.old ≤ W.faults sink.new }
+    ensures fault { IsErrOf result WriteFault → Rose (W.faults sink.old) (W.faults sink.new) }
+    ensures refused { IfErr result (λ e. (e ≡ Memory) ⊎ (e ≡ WriteFault) ⊎ ((e ≡ Overflow V3) × ((version : Version) (l : Leaf) (o : OutPage) → IsGiven version l o page → (max_count < length o.triples) ⊎ ((text : List ℕ) × IsWrittenPage version l None o text × (max_count < length text))))) }
+{
+    let pairs = Count::zero().plus(page.num_values() as u64)?;
+    let pages = Count::zero().plus(1)?;
+    pages_are_written();
+    let page = Page::Data(page);
+    let mut head = Vec::new(alloc);
+    write_page_header(&page, &mut head)?;
+    let body = body_of(&page);
+    let bytes = match bytes_of(&head, body) {
+        Ok(bytes) => bytes,
+        Err(error) => return Err(error),
+    };
+    push_all(sink, &head)?;
+    push_all(sink, body)?;
+    Ok(Pushed {
+        bytes,
+        pairs,
+        pages,
+    })
+}
+
+// One page more.
+fn with_page(a: Pushed, page: Pushed) -> Result<Pushed>
+    requires few { a.pages ≤ a.bytes }
+    requires one { page.pages ≤ page.bytes }
+    ensures ok { IfOk result (λ n. (n.bytes ≡ a.bytes + page.bytes) × (n.pairs ≡ a.pairs + page.pairs) × (n.pages ≡ a.pages + page.pages)) }
+    ensures refused { IfErr result (λ e. (e ≡ Overflow V3) × ((max_count < a.bytes + page.bytes) ⊎ (max_count < a.pairs + page.pairs))) }
+{
+    let bytes = a.bytes.plus(page.bytes.get())?;
+    let pairs = a.pairs.plus(page.pairs.get())?;
+    let pages = a.pages.plus(page.pages.get())?;
+    Ok(Pushed {
+        bytes,
+        pairs,
+        pages,
+    })
+}
+
+/// Pushes the pages of a column one after another, each when the one before has gone.
+///
+/// # Errors
+///
+/// - `WriteFault`: the sink failed. `Memory`: memory ran out.
+/// - `Overflow(V3)`: the bytes or the level pairs pass 2^63 - 1.
+/// - Those of the pages.
+pub(crate) fn push_pages<W: Sink, P: ChunkPages>(
+    alloc: Global,
+    sink: &mut W,
+    pages: &mut P,
+) -> Result<Pushed>
+    ensures ok { IfOk result (λ n. (version : Version) (l : Leaf) (c : OutChunk) → P.gives pages.old version l c → (text : List ℕ) × Appends (W.taken sink.old) (W.taken sink.new) text × (n.bytes ≡ length text) × (n.pairs ≡ pairs_in c) × (n.pages ≡ length c.pages) × ArePages version l None c.pages text) }
+    ensures few { IfOk result (λ n. n.pages ≤ n.bytes) }
+    ensures later { W.faults sink.old ≤ W.faults sink.new }
+    ensures fault { IsErrOf result WriteFault → Rose (W.faults sink.old) (W.faults sink.new) ⊎ P.refuses pages.old WriteFault }
+    ensures refused { IfErr result (λ e. (e ≡ Memory) ⊎ (e ≡ WriteFault) ⊎ ((e ≡ Overflow V3) × ((version : Version) (l : Leaf) (c : OutChunk) → P.gives pages.old version l c → ColumnPasses version l c 0)) ⊎ P.refuses pages.old e) }
+{
+    let mut pushed = Pushed {
+        bytes: Count::zero(),
+        pairs: Count::zero(),
+        pages: Count::zero(),
+    };
+    'pages: while let Some(page) = pages.next_page() {
+        let next = match push_page(alloc, sink, page?) {
+            Ok(next) => next,
+            Err(error) => return Err(error),
+        };
+        pushed = match with_page(pushed, next) {
+            Ok(pushed) => pushed,
+            Err(error) => return Err(error),
+        };
+    }
+    Ok(pushed)
+}

@@ -1,0 +1,157 @@
+-- A group of arrays is laid out by the row rule.
+use Rattle.std.proofs.Common.{◌≡◌, ℕ, suc, ◌+◌, false, List, [], ◌∷◌, ◌++◌, length, map, All, None, refl, sym, ap, subst, ◌∙◌, arith}
+use Rattle.std.specs.List.{AllByRecursion as Each}
+use Rattle.std.proofs.lemmas.List.Elements.{All-from_recursion, recursion_from_All}
+use Rattle.shredding.specs.Shape.{Shape, Shapes, shape, IsOf, AreOf, Way, in_struct, ways}
+use Rattle.shredding.specs.Slot.{Slot, null, Slots, no_slots, slot, slot_at}
+use Rattle.columns_array.specs.Chunks.{HaveLen}
+use Rattle.columns_core.specs.Shapes.{shapes_of, type_shape}
+use Rattle.columns_core.specs.Tree.{TypeTree, field, FieldTrees, no_fields, more_fields}
+use Rattle.columns_slots.specs.Slots.{slots, tree_len, first_len, AreTyped, type_of}
+use Rattle.columns_slots.specs.Tree.{ArrayTree, ArrayTrees, no_arrays, more_arrays}
+use Rattle.nested_paths.specs.Leaves.{array_leaves, node_of}
+use Rattle.nested_paths.specs.Paths.{misfit}
+use Rattle.nested_paths.specs.Seen.{read_by, shape_by}
+use Rattle.pq_files.specs.Layout.{OutChunk}
+use Rattle.pq_files.specs.Page.{plain}
+use Rattle.pq_headline.proofs.RowsOf.{field_of, length_rows}
+use Rattle.pq_headline.specs.Arrays.{array_at, rows_of}
+use Rattle.pq_headline.specs.Columns.{ArrowColumn, beneath_struct, type_columns, columns_from}
+use Rattle.pq_headline.specs.Output.{AreLaid, Style}
+use Rattle.pq_headline.specs.Rows.{field_slots}
+use Rattle.pq_tree.specs.Tree.{Leaf, Trees, leaves, leaves_of}
+use Rattle.pq_tree.specs.declared.types.Encoding.{Encoding as Asked}
+use Rattle.pq_tree.specs.declared.version.Version.{Version}
+use Rattle.schema_to_tree.specs.Table.{trees_of}
+use Rattle.typed_arrays.specs.Typed.{AreAlong, TypedColumnsAreOwn, TypedSlotsAreRead, node}
+use Rattle.write_file.specs.Pages.{AllGive}
+use Rattle.write_pages.specs.Columns.{AreColumns}
+use Rattle.write_pages.specs.declared.options.WriteOptions.{WriteOptions}
+use Rattle.write_groups.proofs.FieldLaid.{field_laid}
+use Rattle.write_groups.proofs.Groups.{even_len}
+use Rattle.write_groups.specs.Columns.{AreGroupColumns}
+use Rattle.write_groups.specs.Given.{GivesColumn, to_come}
+use Rattle.write_groups.specs.Laid.{AreOwnColumns, GroupsAreLaid, style_of}
+use Rattle.write_groups.specs.declared.column.ChunkColumn.{ChunkColumn}
+
+-- ---- parts of a group
+
+record Halves (version : Version) (ls ks : List Leaf) (chunks : List OutChunk) (ss ts : List ChunkColumn) : Type 0 where
+  pub first : List OutChunk
+  pub others : List OutChunk
+  pub parts : chunks ≡ first ++ others
+  pub mine : AllGive GivesColumn version ls first ss
+  pub theirs : AllGive GivesColumn version ks others ts
+
+halves : (version : Version) (ls ks : List Leaf) (chunks : List OutChunk) (ss ts : List ChunkColumn) → length ls ≡ length ss → AllGive GivesColumn version (ls ++ ks) chunks (ss ++ ts) → Halves version ls ks chunks ss ts
+halves version [] ks chunks [] ts e h = record { first = []; others = chunks; parts = refl; mine = tt; theirs = h }
+halves version [] ks chunks (s ∷ ss) ts e h = absurd (omega (arith, e))
+halves version (l ∷ ls) ks chunks [] ts e h = absurd (omega (arith, e))
+halves version (l ∷ ls) ks [] (s ∷ ss) ts e h = absurd h
+halves version (l ∷ ls) ks (c ∷ chunks) (s ∷ ss) ts e h =
+    let r = halves version ls ks chunks ss ts (omega (arith, e)) h.2 in
+    record { first = c ∷ r.first; others = r.others; parts = ap (λ (xs : List OutChunk). c ∷ xs) r.parts; mine = (h.0, h.1, r.mine); theirs = r.theirs }
+
+as_many : (o : WriteOptions) (ls : List Leaf) (ps : List _) (arrays : List ArrayTree) (es : List Asked) (ss : List ChunkColumn) → AreColumns o (map node_of ls) ps arrays es (map to_come ss) → length ls ≡ length ss
+as_many o [] [] [] [] [] h = refl
+as_many o (l ∷ ls) (p ∷ ps) (a ∷ arrays) (e ∷ es) (s ∷ ss) h = ap suc (as_many o ls ps arrays es ss h.1)
+as_many o ls ps arrays es ss h = absurd h
+
+both_laid : (s : Style) (rows : List Slots) (cs ds : List ArrowColumn) (ls ks : List Leaf) (xs ys : List OutChunk) → AreLaid s rows cs ls (map (λ c. plain) cs) (map (λ c. None) cs) xs → AreLaid s rows ds ks (map (λ c. plain) ds) (map (λ c. None) ds) ys → AreLaid s rows (cs ++ ds) (ls ++ ks) (map (λ c. plain) (cs ++ ds)) (map (λ c. None) (cs ++ ds)) (xs ++ ys)
+both_laid s rows [] ds [] ks [] ys h g = g
+both_laid s rows (c ∷ cs) ds (l ∷ ls) ks (x ∷ xs) ys h g = (h.0, both_laid s rows cs ds ls ks xs ys h.1 g)
+both_laid s rows [] ds [] ks (x ∷ xs) ys h g = absurd h
+both_laid s rows [] ds (l ∷ ls) ks xs ys h g = absurd h
+both_laid s rows (c ∷ cs) ds [] ks xs ys h g = absurd h
+both_laid s rows (c ∷ cs) ds (l ∷ ls) ks [] ys h g = absurd h
+
+-- ---- the slots of a field are slots of the field
+
+head_of : Slots → Slot
+head_of no_slots = null
+head_of (slot s ss) = s
+
+rest_of : Slots → Slots
+rest_of no_slots = no_slots
+rest_of (slot s ss) = ss
+
+first_at : (ss : Slots) → slot_at ss 0 ≡ head_of ss
+unfolding head_of
+first_at no_slots = refl
+first_at (slot s ss) = refl
+
+later_at : (ss : Slots) (j : ℕ) → slot_at ss (suc j) ≡ slot_at (rest_of ss) j
+unfolding rest_of
+later_at no_slots j = refl
+later_at (slot s ss) j = refl
+
+first_is : (f : Shape) (fs : Shapes) (ss : Slots) → AreOf (shape f fs) ss → IsOf f (slot_at ss 0)
+first_is f fs no_slots h = absurd h
+first_is f fs (slot s ss) h = h.0
+
+rest_are : (f : Shape) (fs : Shapes) (ss : Slots) → AreOf (shape f fs) ss → AreOf fs (rest_of ss)
+unfolding rest_of
+rest_are f fs no_slots h = absurd h
+rest_are f fs (slot s ss) h = h.1
+
+each_rest : (f : Shape) (fs : Shapes) (at : Slots → Slots) (rows : List Slots) → Each (λ row. AreOf (shape f fs) (at row)) rows → Each (λ row. AreOf fs (rest_of (at row))) rows
+each_rest f fs at [] h = tt
+each_rest f fs at (r ∷ rows) h = (rest_are f fs (at r) h.0, each_rest f fs at rows h.1)
+
+each_first : (f : Shape) (fs : Shapes) (at : Slots → Slots) (place : ℕ) (rows : List Slots) → ((row : Slots) → slot_at row place ≡ slot_at (at row) 0) → Each (λ row. AreOf (shape f fs) (at row)) rows → Each (IsOf f) (field_slots place rows)
+each_first f fs at place [] e h = tt
+each_first f fs at place (r ∷ rows) e h = (subst (IsOf f) (sym (e r)) (first_is f fs (at r) h.0), each_first f fs at place rows e h.1)
+
+-- ---- field after field
+
+own_beneath : (place : ℕ) (ws : List Way) (arrays : List ArrayTree) (cs : List ArrowColumn) → AreAlong ws arrays cs → AreOwnColumns place ws arrays (map (beneath_struct false place) cs)
+own_beneath place [] [] [] h = tt
+own_beneath place (w ∷ ws) (a ∷ arrays) (c ∷ cs) h = (ap (in_struct false place) h.0, h.1, own_beneath place ws arrays cs h.2)
+own_beneath place [] [] (c ∷ cs) h = absurd h
+own_beneath place [] (a ∷ arrays) cs h = absurd h
+own_beneath place (w ∷ ws) [] cs h = absurd h
+own_beneath place (w ∷ ws) (a ∷ arrays) [] h = absurd h
+
+all_laid : TypedColumnsAreOwn → TypedSlotsAreRead → (o : WriteOptions) (version : Version) (rows : List Slots) (fs : FieldTrees) (cs : ArrayTrees) (ess : List (List Asked)) (columns : List ChunkColumn) (chunks : List OutChunk) (place : ℕ) (at : Slots → Slots)
+    → AreGroupColumns o cs (trees_of fs) ess columns → AllGive GivesColumn version (leaves_of (trees_of fs)) chunks columns → AreTyped fs cs
+    → ((row : Slots) (j : ℕ) → slot_at row (place + j) ≡ slot_at (at row) j) → Each (λ row. AreOf (shapes_of fs) (at row)) rows → HaveLen (length rows) cs → ((j : ℕ) → tree_len (array_at j cs) ≡ length rows → field_slots (place + j) rows ≡ slots (array_at j cs))
+    → AreLaid (style_of o) rows (columns_from false place fs) (leaves_of (trees_of fs)) (map (λ c. plain) (columns_from false place fs)) (map (λ c. None) (columns_from false place fs)) chunks
+all_laid own read o version rows no_fields no_arrays [] [] [] place at h give typed e are even own_slots = tt
+all_laid own read o version rows (more_fields (field name t b md) fs) (more_arrays c cs) (es ∷ ess) columns chunks place at h give typed e are even own_slots =
+    let f = h.3 in
+    let here : place + 0 ≡ place = omega arith in
+    let two = halves version (leaves (node name b t)) (leaves_of (trees_of fs)) chunks h.0 h.1 (as_many o (leaves (node name b t)) _ _ es h.0 f.are) (subst (λ (ss : List ChunkColumn). AllGive GivesColumn version (leaves (node name b t) ++ leaves_of (trees_of fs)) chunks ss) h.2 give) in
+    let mine_are : field_slots place rows ≡ slots c = ap (λ (n : ℕ). field_slots n rows) (sym here) ∙ own_slots 0 even.0 in
+    let of_field : Each (IsOf (type_shape b t)) (field_slots place rows) = each_first (type_shape b t) (shapes_of fs) at place rows (λ one. ap (slot_at one) (sym here) ∙ e one 0) are in
+    let all : All (IsOf (type_shape b (type_of c))) (slots c) = subst (λ (x : TypeTree). All (IsOf (type_shape b x)) (slots c)) typed.0 (All-from_recursion (IsOf (type_shape b t)) (slots c) (subst (Each (IsOf (type_shape b t))) mine_are of_field)) in
+    let readable : slots (read_by c (node name b t)) ≡ field_slots place rows = subst (λ (x : TypeTree). slots (read_by c (node name b x)) ≡ slots c) (sym typed.0) (read c name b f.sound all) ∙ sym mine_are in
+    let along : AreAlong (ways (shape_by c (node name b t))) (array_leaves c) (type_columns b t) =
+    subst (λ (x : TypeTree). AreAlong (ways (shape_by c (node name b x))) (array_leaves c) (type_columns b x)) (sym typed.0) (own c name b f.sound (subst (λ (x : TypeTree). misfit c (node name b x) ≡ None) typed.0 f.fits)) in
+    let mine = field_laid o c (node name b t) es h.0 version two.first (map (beneath_struct false place) (type_columns b t)) place rows f two.mine readable (own_beneath place _ (array_leaves c) (type_columns b t) along) in
+    let theirs = all_laid own read o version rows fs cs ess h.1 two.others (suc place) (λ row. rest_of (at row)) h.4 two.theirs typed.1
+    (λ row j. ap (slot_at row) (next place j) ∙ (e row (suc j) ∙ later_at (at row) j)) (each_rest (type_shape b t) (shapes_of fs) at rows are) even.1
+    (λ j q. ap (λ (n : ℕ). field_slots n rows) (next place j) ∙ own_slots (suc j) q) in
+    subst (λ (xs : List OutChunk). AreLaid (style_of o) rows (map (beneath_struct false place) (type_columns b t) ++ columns_from false (suc place) fs) (leaves (node name b t) ++ leaves_of (trees_of fs)) (map (λ x. plain) (map (beneath_struct false place) (type_columns b t) ++ columns_from false (suc place) fs)) (map (λ x. None) (map (beneath_struct false place) (type_columns b t) ++ columns_from false (suc place) fs)) xs) (sym two.parts)
+    (both_laid (style_of o) rows (map (beneath_struct false place) (type_columns b t)) (columns_from false (suc place) fs) (leaves (node name b t)) (leaves_of (trees_of fs)) two.first two.others mine theirs)
+  where
+    next : (place j : ℕ) → suc place + j ≡ place + suc j
+    next place j = omega arith
+all_laid own read o version rows no_fields no_arrays [] (x ∷ columns) chunks place at h give typed e are even own_slots = absurd cc
+all_laid own read o version rows no_fields no_arrays [] [] (x ∷ chunks) place at h give typed e are even own_slots = absurd give
+all_laid own read o version rows no_fields no_arrays (es ∷ ess) columns chunks place at h give typed e are even own_slots = absurd h
+all_laid own read o version rows no_fields (more_arrays c cs) ess columns chunks place at h give typed e are even own_slots = absurd typed
+all_laid own read o version rows (more_fields (field x t y z) fs) no_arrays ess columns chunks place at h give typed e are even own_slots = absurd typed
+all_laid own read o version rows (more_fields (field x t y z) fs) (more_arrays c cs) [] columns chunks place at h give typed e are even own_slots = absurd h
+
+pub group_laid : TypedColumnsAreOwn → TypedSlotsAreRead → GroupsAreLaid
+group_laid own read fs g out typed even are trees h is =
+    let rows = rows_of g.chunk in
+    let n : first_len g.chunk ≡ length rows = sym (length_rows g.chunk) in
+    record {
+      rows_are = is.rows ∙ n;
+      columns = all_laid own read g.options g.options.version rows fs g.chunk (map (λ es. es.items) g.encodings.items) g.columns.items out.chunks 0 (λ row. row)
+          (subst (λ (ts : Trees). AreGroupColumns g.options g.chunk ts (map (λ es. es.items) g.encodings.items) g.columns.items) trees h) is.columns typed
+          (λ row j. ap (slot_at row) (omega arith)) (recursion_from_All (AreOf (shapes_of fs)) rows are)
+          (subst (λ (k : ℕ). HaveLen k g.chunk) n (even_len g.chunk even))
+          (λ j q. ap (λ (k : ℕ). field_slots k rows) (omega arith) ∙ field_of j g.chunk (q ∙ sym n));
+    }

@@ -1,0 +1,100 @@
+-- A column in pages is laid out by the row rule.
+use Rattle.std.proofs.Common.{◌≡◌, ℕ, zero, suc, List, [], ◌∷◌, length, map, take, drop, Option, None, Some, Bool, false, refl, sym, ap, subst, ◌∙◌}
+use Rattle.std.specs.List.{AllZip}
+use Rattle.std.proofs.lemmas.List.{take-map, drop-map, length-map}
+use Rattle.shredding.proofs.Along.{seen_along}
+use Rattle.shredding.proofs.Schema.{own_columns}
+use Rattle.shredding.specs.Along.{along, thin}
+use Rattle.shredding.specs.Cut.{cut, pieces}
+use Rattle.shredding.specs.Parts.{path_way}
+use Rattle.shredding.specs.Shape.{LeafType, Way, in_struct}
+use Rattle.shredding.specs.Shred.{Triple, column}
+use Rattle.shredding.specs.Slot.{Slot, Slots, fields, slot_at, Value}
+use Rattle.columns_core.specs.Shapes.{leaf_type}
+use Rattle.columns_slots.specs.Slots.{type_of}
+use Rattle.pq_files.specs.Layout.{OutPage, AreStoredEntries, plain_length, rows_per_page}
+use Rattle.pq_files.specs.Page.{plain, values_in}
+use Rattle.pq_files.specs.Statistics.{Statistics, HasStatistics}
+use Rattle.pq_files.specs.Stored.{AreStored}
+use Rattle.pq_headline.specs.Output.{IsPageOfRows}
+use Rattle.pq_headline.specs.Rows.{field_slots}
+use Rattle.pq_tree.specs.Physical.{Physical}
+use Rattle.pq_tree.specs.Views.{physical_view}
+use Rattle.write_pages.specs.Holds.{rows_of}
+use Rattle.write_pages.specs.Rule.{page_limit}
+use Rattle.write_pages.specs.declared.options.WriteOptions.{WriteOptions}
+use Rattle.write_groups.specs.Given.{IsPageOf}
+use Rattle.write_groups.specs.Laid.{ColumnsAreLaid, style_of}
+
+-- ---- pieces of what is made row by row
+
+pieces_map : {A B : Type 0} (f : A → B) (k n : ℕ) (xs : List A) → pieces k n (map f xs) ≡ map (map f) (pieces k n xs)
+pieces_map f zero n xs = refl
+pieces_map f (suc k) n [] = refl
+pieces_map f (suc k) n (x ∷ xs) =
+    (λ i. take-map f n (x ∷ xs) i ∷ pieces k n (drop-map f n (x ∷ xs) i)) ∙ ap (λ ps. map f (take n (x ∷ xs)) ∷ ps) (pieces_map f k n (drop n (x ∷ xs)))
+
+cut_map : {A B : Type 0} (f : A → B) (n : ℕ) (xs : List A) → cut (map f xs) (Some n) ≡ map (map f) (cut xs (Some n))
+cut_map f n xs = ap (λ k. pieces k n (map f xs)) (length-map xs f) ∙ pieces_map f (length xs) n xs
+
+map_twice : {A B C : Type 0} (f : B → C) (g : A → B) (xs : List A) → map f (map g xs) ≡ map (λ x. f (g x)) xs
+map_twice f g [] = refl
+map_twice f g (x ∷ xs) = ap (λ ys. f (g x) ∷ ys) (map_twice f g xs)
+
+zip_maps : {A B C : Type 0} (P : List B → OutPage → Type 0) (Q : List C → OutPage → Type 0) (f : A → B) (h : A → C) (ps : List (List A)) (os : List OutPage) → ((q : List A) (o : OutPage) → P (map f q) o → Q (map h q) o) → AllZip P (map (map f) ps) os → AllZip Q (map (map h) ps) os
+zip_maps P Q f h [] [] to z = tt
+zip_maps P Q f h [] (o ∷ os) to z = absurd z
+zip_maps P Q f h (p ∷ ps) [] to z = absurd z
+zip_maps P Q f h (p ∷ ps) (o ∷ os) to z = (to p o z.0, zip_maps P Q f h ps os to z.1)
+
+-- where none are asked for there are none
+no_statistics : (b : Bool) (t : LeafType) (p : Physical) (st : Option Statistics) (ts : List Triple) (vs : List Value) → b ≡ false → st ≡ None → HasStatistics b t p st ts vs
+no_statistics b t p st ts vs e h = subst (λ (x : Bool). HasStatistics x t p st ts vs) (sym e) (subst (λ (x : Option Statistics). HasStatistics false t p x ts vs) (sym h) tt)
+
+no_entries : (t : LeafType) (p : Physical) (es : Option (List Value)) → es ≡ None → AreStoredEntries t p None es
+no_entries t p es e = subst (λ (x : Option (List Value)). AreStoredEntries t p None x) (sym e) tt
+
+-- ---- a column of a schema
+
+-- what is seen of a field's slots along a way has the column that the schema's rows have
+seen_rows : (w : Way) (i : ℕ) (rows : List Slots) → column (thin w) (map (λ row. along w (slot_at row i)) rows) ≡ column (in_struct false i w) (map fields rows)
+seen_rows w i rows = ap (column (thin w)) (sym (map_twice (along w) (λ row. slot_at row i) rows)) ∙ (seen_along w (field_slots i rows) ∙ sym (own_columns i w rows))
+
+-- The chunk that a column is, is laid out as the rows of the schema are to be.
+pub laid : ColumnsAreLaid
+laid o node parts a e g version l chunk c i w rows h s k way kind =
+    let t = h.type_ in
+    let p = h.pages in
+    let f : Slots → Slot = λ row. along w (slot_at row i) in
+    let here : rows_of parts a ≡ map f rows = s.slots ∙ map_twice (along w) (λ row. slot_at row i) rows in
+    let size = plain_length (physical_view t.physical_type) (values_in p.stored) in
+    let limit = page_limit o.data_pagesize_limit in
+    let physical : l.physical ≡ physical_view t.physical_type = k.leaf.physical ∙ p.physical in
+    let type_is : g.type ≡ leaf_type c.data_type = p.type ∙ kind in
+    let thin_way : g.way ≡ thin w = p.way ∙ s.way in
+    let column_is : (q : List Slots) → column g.way (map f q) ≡ column c.way (map fields q) = λ q. ap (λ (x : Way). column x (map f q)) thin_way ∙ (seen_rows w i q ∙ ap (λ (x : Way). column x (map fields q)) (sym way)) in
+    let all : column (path_way parts) (rows_of parts a) ≡ column c.way (map fields rows) = ap (λ (x : Way). column x (rows_of parts a)) (sym p.way) ∙ (ap (column g.way) here ∙ column_is rows) in
+    let count : length (rows_of parts a) ≡ length (map fields rows) = ap length here ∙ (length-map rows f ∙ sym (length-map rows fields)) in
+    let n = rows_per_page limit size (length (rows_of parts a)) in
+    let given : g.pieces ≡ map (map f) (cut rows (Some n)) = p.pieces ∙ (ap (λ (xs : List Slot). cut xs (Some n)) here ∙ cut_map f n rows) in
+    let asked : cut (map fields rows) (Some (rows_per_page limit (plain_length l.physical (values_in p.stored)) (length (map fields rows)))) ≡ map (map fields) (cut rows (Some n)) =
+    (λ j. cut (map fields rows) (Some (rows_per_page limit (plain_length (physical j) (values_in p.stored)) (sym count j)))) ∙ cut_map fields n rows in
+    let none : o.write_statistics ≡ false = ap (λ (x : WriteOptions). x.write_statistics) (sym p.options) ∙ k.no_statistics in
+    let one : (q : List Slots) (x : OutPage) → IsPageOf g.type g.physical g.way (map f q) x → IsPageOfRows (style_of o) plain (record { arrow = c; physical = l.physical; entries = None }) (map fields q) x = λ q x z. record {
+      triples = subst (λ (y : LeafType). AreStored y l.physical (column c.way (map fields q)) x.triples) type_is
+          (subst (λ (y : Physical). AreStored g.type y (column c.way (map fields q)) x.triples) (sym k.leaf.physical)
+          (subst (λ (ts : List Triple). AreStored g.type g.physical ts x.triples) (column_is q) z.triples));
+      encoding = z.encoding;
+      statistics = no_statistics o.write_statistics _ _ x.statistics _ _ none z.statistics;
+    } in
+    record {
+      stored = p.stored;
+      are_stored = subst (λ (y : LeafType). AreStored y l.physical (column c.way (map fields rows)) p.stored) kind
+          (subst (λ (y : Physical). AreStored (leaf_type (type_of a)) y (column c.way (map fields rows)) p.stored) (sym physical)
+          (subst (λ (ts : List Triple). AreStored (leaf_type (type_of a)) (physical_view t.physical_type) ts p.stored) all p.are_stored));
+      entries = no_entries (leaf_type c.data_type) l.physical chunk.entries k.entries;
+      pages = subst (λ (ps : List (List Slot)). AllZip (IsPageOfRows (style_of o) plain (record { arrow = c; physical = l.physical; entries = None })) ps chunk.pages) (sym asked)
+          (zip_maps (IsPageOf g.type g.physical g.way) (IsPageOfRows (style_of o) plain (record { arrow = c; physical = l.physical; entries = None })) f fields (cut rows (Some n)) chunk.pages one
+          (subst (λ (ps : List (List Slot)). AllZip (IsPageOf g.type g.physical g.way) ps chunk.pages) given k.pages));
+      statistics = no_statistics o.write_statistics _ _ chunk.statistics _ _ none k.statistics;
+    }

@@ -1,0 +1,13 @@
+mod Lists
+mod Pieces
+mod Chunks
+mod Groups
+mod Next
+mod Short
+mod Fresh
+mod Fields
+mod Written
+mod Same
+mod Laid
+mod FieldLaid
+mod GroupLaid

@@ -1,0 +1,71 @@
+-- A column in pages.
+use Rattle.std.proofs.Common.{◌≡◌, ℕ, zero, suc, ◌+◌, ◌<◌, List, [], ◌∷◌, ◌++◌, length, flat_map, drop, None, Some, refl, sym, ap, subst, ◌∙◌, arith, nat_eq, cond}
+use Rattle.std.specs.List.{AllZip, AllByRecursion as Each}
+use Rattle.std.proofs.lemmas.Grind.{flat_map-append}
+use Rattle.std.proofs.lemmas.List.{length-take}
+use Rattle.std.proofs.lemmas.List.Sums.{count_by-le-length}
+use Rattle.shredding.proofs.Counts.{count_by-cons, counted as rows_are_counted}
+use Rattle.shredding.specs.Laws.{starts_row}
+use Rattle.shredding.specs.Cut.{cut, pieces}
+use Rattle.shredding.specs.Shape.{LeafType}
+use Rattle.shredding.specs.Shred.{Triple, column, shred}
+use Rattle.shredding.specs.Slot.{Slot}
+use Rattle.pq_files.specs.Layout.{OutPage}
+use Rattle.pq_files.specs.Page.{plain, rows_in}
+use Rattle.pq_files.specs.Stored.{AreStored, IsStoredTriple}
+use Rattle.pq_tree.specs.Physical.{Physical}
+use Rattle.write_groups.proofs.Lists.{split_zip, zip_length}
+use Rattle.write_groups.specs.Given.{IsPageOf}
+use Rattle.write_pages.specs.Holds.{ToGive}
+
+abbrev joined : {A : Type 0} → List (List A) → List A
+joined ps = flat_map (λ p. p) ps
+
+-- ---- rows are counted in what is stored
+
+pub stored_rows : (t : LeafType) (p : Physical) (xs ys : List Triple) → AreStored t p xs ys → rows_in ys ≡ rows_in xs
+stored_rows t p [] [] h = refl
+stored_rows t p [] (y ∷ ys) h = absurd h
+stored_rows t p (x ∷ xs) [] h = absurd h
+stored_rows t p (x ∷ xs) (y ∷ ys) h =
+    count_by-cons y ys ∙ ((λ i. cond (nat_eq (h.0.repetition i) 0) 1 0 + stored_rows t p xs ys h.1 i) ∙ sym (count_by-cons x xs))
+
+-- ---- pieces
+
+-- no piece is without rows
+some_rows : {A : Type 0} (k n : ℕ) (rows : List A) → 0 < n → Each (λ p. 0 < length p) (pieces k n rows)
+some_rows zero n rows b = tt
+some_rows (suc k) n [] b = tt
+some_rows (suc k) n (r ∷ rows) b = (omega (arith, b, length-take n (r ∷ rows)), some_rows k n (drop n (r ∷ rows)) b)
+
+pub each_some : {A : Type 0} (n : ℕ) (rows : List A) → 0 < n → Each (λ p. 0 < length p) (cut rows (Some n))
+each_some n rows b = some_rows (length rows) n rows b
+
+-- some rows make a piece
+pub some_pieces : {A : Type 0} (n : ℕ) (rows : List A) → 0 < length rows → 0 < length (cut rows (Some n))
+some_pieces n [] h = absurd (omega (arith, h))
+some_pieces n (r ∷ rows) h = omega arith
+
+-- ---- pages
+
+pub record Paged (g : ToGive) (ps : List (List Slot)) (stored : List Triple) : Type 0 where
+  pub pages : List OutPage
+  pub are : AllZip (IsPageOf g.type g.physical g.way) ps pages
+  pub whole : flat_map (λ (o : OutPage). o.triples) pages ≡ stored
+
+page_some : (g : ToGive) (p : List Slot) (ts : List Triple) → 0 < length p → AreStored g.type g.physical (column g.way p) ts → 0 < length ts
+page_some g p ts some h =
+    omega (arith, some, rows_are_counted g.way p, count_by-le-length starts_row (column g.way p), zip_length (IsStoredTriple g.type g.physical) (column g.way p) ts h)
+
+pub paged : (g : ToGive) (ps : List (List Slot)) (stored : List Triple) → Each (λ p. 0 < length p) ps → AreStored g.type g.physical (column g.way (joined ps)) stored → Paged g ps stored
+paged g [] [] e h = record { pages = []; are = tt; whole = refl }
+paged g [] (t ∷ ts) e h = absurd h
+paged g (p ∷ ps) stored e h =
+    let parts = subst (λ (xs : List Triple). AllZip (IsStoredTriple g.type g.physical) xs stored) (flat_map-append (λ (s : Slot). shred g.way s 0 0 0) p (joined ps)) h in
+    let two = split_zip (IsStoredTriple g.type g.physical) (column g.way p) (column g.way (joined ps)) stored parts in
+    let rest = paged g ps two.1 e.1 two.4 in
+    record {
+      pages = record { triples = two.0; encoding = plain; statistics = None } ∷ rest.pages;
+      are = (record { triples = two.3; encoding = refl; statistics = refl; some = page_some g p two.0 e.0 two.3 }, rest.are);
+      whole = ap (λ (xs : List Triple). two.0 ++ xs) rest.whole ∙ sym two.2;
+    }

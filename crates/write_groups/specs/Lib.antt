@@ -1,0 +1,4 @@
+pub mod Given
+pub mod Columns
+pub mod Writing
+pub mod Laid

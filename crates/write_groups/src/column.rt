@@ -1,0 +1,71 @@
+//! A column of a group: its pages, one at a time.
+ghost use Rattle.std.specs.Prelude.{◌≡◌};
+ghost use Rattle.write_groups.specs.Given.{column_of};
+
+use columns_base::Result;
+use pq_pages::{DataPage, Page};
+use pq_tree::{Encoding, Statistics};
+use write_file::ChunkPages;
+use write_pages::PageIter;
+
+/// The pages of a column, plain and without a dictionary and statistics. After an error it gives nothing.
+#[derive(Drop)]
+pub struct ChunkColumn {
+    pub pages: PageIter,
+    /// Those of the whole column; none are written yet.
+    pub statistics: Option<Statistics>,
+    pub has_failed: bool,
+}
+
+impl ChunkColumn {
+    /// A column of these pages.
+    pub fn new(pages: PageIter) -> Self
+        ensures { result ≡ column_of pages }
+    {
+        ChunkColumn {
+            pages,
+            statistics: None,
+            has_failed: false,
+        }
+    }
+}
+
+impl ChunkPages for ChunkColumn {
+    ghost use Rattle.std.specs.Prelude.{ℕ};
+    ghost use Rattle.columns_base.specs.declared.error.Error.{Error as Fault};
+    ghost use Rattle.pq_tree.specs.Tree.{Leaf};
+    ghost use Rattle.pq_tree.specs.declared.version.Version.{Version};
+    ghost use Rattle.pq_files.specs.Layout.{OutChunk};
+    ghost use Rattle.write_groups.specs.Given.{GivesColumn, RefusesColumn, left_of, no_entries_in};
+
+    ghost gives = { GivesColumn };
+
+    ghost left = { left_of };
+
+    ghost refuses = { RefusesColumn };
+
+    ghost no_entries = { no_entries_in };
+
+    fn next_page(&mut self) -> Option<Result<DataPage>> {
+        if self.has_failed {
+            return None;
+        }
+        match self.pages.next_page() {
+            None => None,
+            Some(Ok(Page::Data(page))) => Some(Ok(page)),
+            Some(Ok(Page::Dict(_))) => unreachable!(),
+            Some(Err(error)) => {
+                self.has_failed = true;
+                Some(Err(error))
+            }
+        }
+    }
+
+    fn encoding(&self) -> Encoding {
+        Encoding::Plain
+    }
+
+    fn statistics(&self) -> &Option<Statistics> {
+        &self.statistics
+    }
+}

@@ -1,0 +1,13 @@
+//! Row groups of arrays, and the writer of a Parquet file (Parquet format, "File format", "Row Groups").
+#![tactic(auto)]
+
+mod column;
+mod depth;
+mod group;
+mod laws;
+mod writer;
+
+pub use column::ChunkColumn;
+pub use group::{RowGroupIter, row_group_iter};
+pub use laws::{columns_are_laid, fields_are_laid, groups_are_laid};
+pub use writer::FileWriter;
