@@ -26,4 +26,3 @@ pub mod WorkedReasons
 pub mod Written
 pub mod WrittenExample
 pub mod WrittenSpelling
-pub mod ListColumn

@@ -1,12 +1,9 @@
 -- Why an output is refused, as a reason of the input.
-use Rattle.std.proofs.Common.{◌≡◌, ◌⊎◌, inl, inr, ◌+◌, ◌<◌, ◌≤◌, ℕ, List, [], ◌∷◌, ◌++◌, length, map, sum_by, Option, refl, sym, ap, subst, ◌∙◌, arith, append_assoc}
-use Rattle.std.proofs.lemmas.List.Sums.{sum_by-append, sum_by-cons}
+use Rattle.std.proofs.Common.{◌≡◌, ◌⊎◌, inl, inr, ◌+◌, ◌<◌, ℕ, List, [], ◌∷◌, ◌++◌, length, map, Option, refl, sym, ap, subst}
 use Rattle.std.specs.List.{AllZip}
-use Rattle.shredding.specs.Shred.{column}
 use Rattle.shredding.specs.Slot.{Slots, Value, fields}
 use Rattle.columns_base.specs.declared.error.Error.{Error}
-use Rattle.columns_base.specs.declared.error.Error.TheVariants.{InvalidArgumentError, Overflow}
-use Rattle.columns_base.specs.declared.error.A.TheVariants.{A7}
+use Rattle.columns_base.specs.declared.error.Error.TheVariants.{Overflow}
 use Rattle.columns_base.specs.declared.error.V.TheVariants.{V3}
 use Rattle.columns_core.specs.Tree.{FieldTrees}
 use Rattle.columns_core.specs.View.{SchemaTree}
@@ -16,16 +13,16 @@ use Rattle.pq_tree.specs.Tree.{Schema, columns_of}
 use Rattle.pq_files.specs.Carried.{column_in}
 use Rattle.pq_files.specs.Layout.{OutGroup}
 use Rattle.pq_files.specs.Reasons.{AnyOf}
-use Rattle.pq_files.specs.Room.{max_count, max_size, footer_room, planned_footer}
+use Rattle.pq_files.specs.Room.{max_size, footer_room, planned_footer}
 use Rattle.schema_to_tree.specs.Table.{schema_of}
 use Rattle.pq_headline.specs.Arrays.{rows_of, all_entries}
 use Rattle.pq_headline.specs.Columns.{schema_columns}
 use Rattle.pq_headline.specs.Output.{HasWideDecimal, PieceIsTooLarge}
 use Rattle.pq_headline.specs.Rewrites.{Asked, Codec, Piece, all_pieces, keys_out}
 use Rattle.pq_headline.specs.Rows.{AreAllEntries}
-use Rattle.pq_headline.specs.Stages.{PagesPass, Passes6, Passes7, Refuses, V3At}
+use Rattle.pq_headline.specs.Stages.{CountsPass, Passes6, Passes7, Refuses, V3At}
 use Rattle.pq_headline.specs.Written.{HasRead, IsPieceAs, IsRefusedAt, IsWrittenAs, PassesCounts}
-use Rattle.pq_headline.proofs.Written.{pieces_out, piece_out, zip_more}
+use Rattle.pq_headline.proofs.Written.{pieces_out, piece_out}
 
 -- ---- the piece of a chunk
 
@@ -50,59 +47,24 @@ any_here : {A : Type 0} (P : A → Type 0) (xs : List A) (x : A) (ys : List A) �
 any_here P [] x ys h = inl h
 any_here P (y ∷ xs) x ys h = inr (any_here P xs x ys h)
 
-any_more : {A : Type 0} (P Q : A → Type 0) (xs : List A) → ((x : A) → P x → Q x) → AnyOf P xs → AnyOf Q xs
-any_more P Q [] f h = absurd h
-any_more P Q (x ∷ xs) f (inl h) = inl (f x h)
-any_more P Q (x ∷ xs) f (inr h) = inr (any_more P Q xs f h)
-
--- ---- rows
-
-same_rows : (asked : Asked) (fs : FieldTrees) (tree : Schema) (ps : List Piece) (chunks : List ArrayTrees) (outs : List OutGroup) → AllZip (IsPieceAs fs tree) ps chunks → AllZip (IsWrittenAs asked fs) chunks outs → sum_by (λ g. g.rows) outs ≡ sum_by (λ p. length p.rows) ps
-same_rows asked fs tree [] [] [] h w = refl
-same_rows asked fs tree [] [] (out ∷ outs) h w = absurd w
-same_rows asked fs tree [] (cs ∷ chunks) outs h w = absurd h
-same_rows asked fs tree (p ∷ ps) [] outs h w = absurd h
-same_rows asked fs tree (p ∷ ps) (cs ∷ chunks) [] h w = absurd w
-same_rows asked fs tree (p ∷ ps) (cs ∷ chunks) (out ∷ outs) h w =
-    sum_by-cons (λ (g : OutGroup). g.rows) out outs
-    ∙ ap (λ k. k + sum_by (λ (g : OutGroup). g.rows) outs) (w.0.rows_are ∙ ap length (sym h.0.rows_are))
-    ∙ ap (λ k. length p.rows + k) (same_rows asked fs tree ps chunks outs h.1 w.1)
-    ∙ sym (sum_by-cons (λ (q : Piece). length q.rows) p ps)
-
-up_to : (first : List Piece) (p : Piece) (others : List Piece) → sum_by (λ q. length q.rows) first + length p.rows ≤ sum_by (λ q. length q.rows) (first ++ p ∷ others)
-up_to first p others =
-    let a : sum_by (λ q. length q.rows) (first ++ p ∷ others) ≡ sum_by (λ q. length q.rows) first + sum_by (λ q. length q.rows) (p ∷ others) = sum_by-append (λ (q : Piece). length q.rows) first (p ∷ others) in
-    let b : sum_by (λ q. length q.rows) (p ∷ others) ≡ length p.rows + sum_by (λ q. length q.rows) others = sum_by-cons (λ (q : Piece). length q.rows) p others in
-    omega (arith, a, b)
-
 -- ---- counts
 
 counts_pass :
     (codec : Codec) (asked : Asked) (f : Footer) (s : SchemaTree) (ps : List Piece) (before : List ArrayTrees) (cs : ArrayTrees) (outs : List OutGroup)
     → Parted s.fields f.schema ps before cs → AllZip (IsWrittenAs asked s.fields) before outs → PassesCounts asked s.fields outs cs → V3At codec asked f s ps
-counts_pass codec asked f s ps before cs outs q w (inl rows) =
-    let same : sum_by (λ g. g.rows) outs ≡ sum_by (λ p. length p.rows) q.first = same_rows asked s.fields f.schema q.first before outs q.are w in
-    let own : length q.piece.rows ≡ length (rows_of cs) = ap length q.is.rows_are in
-    let most = up_to q.first q.piece q.others in
-    let passes : max_count < sum_by (λ p. length p.rows) (q.first ++ q.piece ∷ q.others) = omega (arith, same, own, most, rows) in
-    subst (λ (k : List Piece). V3At codec asked f s k) (sym q.parts) (inr (inr (inr (inl passes))))
-counts_pass codec asked f s ps before cs outs q w (inr (inl pairs)) =
-    let own : AnyOf (λ c. max_count < length (column c.way (map fields q.piece.rows))) (schema_columns s.fields) =
-    subst (λ (rs : List Slots). AnyOf (λ c. max_count < length (column c.way (map fields rs))) (schema_columns s.fields)) (sym q.is.rows_are) pairs in
-    subst (λ (k : List Piece). V3At codec asked f s k) (sym q.parts) (inr (inr (inr (inr (inl (any_here (λ p. AnyOf (λ c. max_count < length (column c.way (map fields p.rows))) (schema_columns s.fields)) q.first q.piece q.others own))))))
-counts_pass codec asked f s ps before cs outs q w (inr (inr h)) =
-    let are : PagesPass asked s.fields f.schema (q.first ++ q.piece ∷ q.others) = record {
-      first = q.first ++ q.piece ∷ [];
-      rest = q.others;
-      parts = sym (append_assoc q.first (q.piece ∷ []) q.others);
-      outs = outs ++ h.0 ∷ [];
-      are_out = zip_more _ q.first (q.piece ∷ []) outs (h.0 ∷ []) (pieces_out asked s.fields f.schema q.first before outs q.are w) (piece_out asked s.fields f.schema q.piece cs h.0 q.is h.1, tt);
-      pages = h.2;
-      row_groups = h.3;
-      are = h.4;
-      passes = h.5;
+counts_pass codec asked f s ps before cs outs q w h =
+    let are : CountsPass asked s.fields f.schema ps = record {
+      first = q.first;
+      piece = q.piece;
+      others = q.others;
+      parts = q.parts;
+      outs = outs;
+      are_out = pieces_out asked s.fields f.schema q.first before outs q.are w;
+      out = h.0;
+      is_out = piece_out asked s.fields f.schema q.piece cs h.0 q.is h.1;
+      passes = h.2;
     } in
-    subst (λ (k : List Piece). V3At codec asked f s k) (sym q.parts) (inr (inr (inr (inr (inr are)))))
+    inr (inr (inr are))
 
 -- ---- the input
 

@@ -33,11 +33,10 @@ use Rattle.pq_headline.specs.Rows.{HoldsRows, AreAllEntries}
 use Rattle.pq_headline.specs.Served.{are_served_fields}
 use Rattle.pq_headline.specs.Columns.{schema_columns}
 use Rattle.pq_files.specs.Carried.{GroupPages, column_in}
-use Rattle.pq_files.specs.FooterRecord.{RowGroup}
 use Rattle.pq_files.specs.Layout.{OutGroup}
-use Rattle.pq_files.specs.Packed.{AreGroups}
-use Rattle.pq_files.specs.Room.{max_size, max_count, footer_room, planned_footer}
+use Rattle.pq_files.specs.Room.{max_size, footer_room, planned_footer}
 use Rattle.schema_to_tree.specs.Table.{schema_of}
+use Rattle.write_counts.specs.Passing.{GroupPasses}
 use Rattle.shredding.specs.Shred.{column}
 use Rattle.shredding.specs.Slot.{fields, Value}
 
@@ -157,27 +156,26 @@ At8 codec asked R bytes = (place : ℕ) × (f : Footer) × (s : SchemaTree) × (
 abbrev pub A7At : Footer → SchemaTree → List Piece → Type 0
 A7At f s pieces = AnyOf (λ p. HasWideDecimal s.fields p.rows) pieces
 
--- The bytes of the output before its footer, which are PAR1 and pages, pass the format's greatest place: those of the first pieces do.
-pub record PagesPass (asked : Asked) (fs : FieldTrees) (tree : Schema) (pieces : List Piece) : Type 0 where
+-- Behind the groups of the pieces before it a piece's group passes the counts of a footer: by the rows of all, by the pairs of one of its columns, or by the bytes of the
+-- output up to one of its pages.
+pub record CountsPass (asked : Asked) (fs : FieldTrees) (tree : Schema) (pieces : List Piece) : Type 0 where
   pub first : List Piece
-  pub rest : List Piece
-  pub parts : pieces ≡ first ++ rest
+  pub piece : Piece
+  pub others : List Piece
+  pub parts : pieces ≡ first ++ piece ∷ others
   pub outs : List OutGroup
   pub are_out : AllZip (IsPieceOut asked fs tree) first outs
-  pub pages : List ℕ
-  pub row_groups : List RowGroup
-  pub are : AreGroups asked.version (columns_of (schema_of fs)) outs 0 4 pages row_groups
-  pub passes : max_count < 4 + length pages
+  pub out : OutGroup
+  pub is_out : IsPieceOut asked fs tree piece out
+  pub passes : GroupPasses asked.version (columns_of (schema_of fs)) outs out
 
--- a page's room, the codec's length or the footer's room passes the format's sizes, or the rows, a column's pairs in a group, or the bytes of all pages, its counts
+-- a page's room, the codec's length or the footer's room passes the format's sizes, or a piece's group its counts
 abbrev pub V3At : Codec → Asked → Footer → SchemaTree → List Piece → Type 0
 V3At codec asked f s pieces =
     AnyOf (λ p. (ds : List (Option (List (Option Value)))) × AreAllEntries (schema_columns s.fields) (columns_of f.schema) (map column_in p.source.chunks) ds × PieceIsTooLarge asked.style s.fields p.rows ds) pieces
     ⊎ (max_size < length (codec.bytes_of s))
     ⊎ ((outs : List OutGroup) × AllZip (IsPieceOut asked s.fields f.schema) pieces outs × (max_size < footer_room (planned_footer (schema_of s.fields) (keys_out codec s f.keys) outs)))
-    ⊎ (max_count < sum_by (λ p. length p.rows) pieces)
-    ⊎ AnyOf (λ p. AnyOf (λ c. max_count < length (column c.way (map fields p.rows))) (schema_columns s.fields)) pieces
-    ⊎ PagesPass asked s.fields f.schema pieces
+    ⊎ CountsPass asked s.fields f.schema pieces
 
 -- Each refusal that the input's bytes decide, by its condition. It stands at its stage: the input passes those before.
 abbrev pub Refuses : Codec → Asked → List ℕ → Error → Type 0

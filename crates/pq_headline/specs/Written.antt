@@ -1,8 +1,7 @@
 -- Groups of the input in chunks of arrays, as they are read and written, and why an output is refused.
-use Rattle.std.specs.Prelude.{◌≡◌, ◌⊎◌, ℕ, ◌+◌, ◌<◌, List, [], ◌∷◌, ◌++◌, length, map, sum_by, Option}
+use Rattle.std.specs.Prelude.{◌≡◌, ◌⊎◌, ℕ, List, ◌∷◌, ◌++◌, map, Option}
 use Rattle.std.specs.List.{AllZip}
-use Rattle.shredding.specs.Shred.{column}
-use Rattle.shredding.specs.Slot.{Slots, fields}
+use Rattle.shredding.specs.Slot.{Slots}
 use Rattle.columns_base.specs.declared.error.Error.{Error}
 use Rattle.columns_base.specs.declared.error.Error.TheVariants.{InvalidArgumentError, Overflow}
 use Rattle.columns_base.specs.declared.error.A.TheVariants.{A7}
@@ -12,12 +11,9 @@ use Rattle.columns_slots.specs.Tree.{ArrayTrees}
 use Rattle.pq_metadata.specs.Footer.{GroupMeta}
 use Rattle.pq_tree.specs.Tree.{Schema, columns_of}
 use Rattle.pq_files.specs.Carried.{GroupPages, column_in}
-use Rattle.pq_files.specs.FooterRecord.{RowGroup}
 use Rattle.pq_files.specs.Layout.{OutGroup}
-use Rattle.pq_files.specs.Packed.{AreGroups}
-use Rattle.pq_files.specs.Reasons.{AnyOf}
-use Rattle.pq_files.specs.Room.{max_count}
 use Rattle.schema_to_tree.specs.Table.{schema_of}
+use Rattle.write_counts.specs.Passing.{GroupPasses}
 use Rattle.pq_headline.specs.Columns.{schema_columns}
 use Rattle.pq_headline.specs.Arrays.{rows_of, all_entries, seen_in}
 use Rattle.pq_headline.specs.Lists.{AllZip3}
@@ -46,12 +42,9 @@ pub record HasRead (n : Option ℕ) (fs : FieldTrees) (tree : Schema) (bytes : L
 abbrev pub IsWrittenAs : Asked → FieldTrees → ArrayTrees → OutGroup → Type 0
 IsWrittenAs asked fs cs out = IsLaidGroup asked.style (rows_of cs) (schema_columns fs) (columns_of (schema_of fs)) (all_chosen asked.delta (schema_columns fs) (columns_of (schema_of fs))) (all_entries cs) out
 
--- Behind these groups the rows, the pairs of a column of the chunk, or the bytes of all pages pass the format's counts.
+-- Behind these groups the chunk's group passes the counts of a footer.
 abbrev pub PassesCounts : Asked → FieldTrees → List OutGroup → ArrayTrees → Type 0
-PassesCounts asked fs outs cs =
-    (max_count < sum_by (λ g. g.rows) outs + length (rows_of cs))
-    ⊎ AnyOf (λ c. max_count < length (column c.way (map fields (rows_of cs)))) (schema_columns fs)
-    ⊎ ((out : OutGroup) × IsWrittenAs asked fs cs out × (pages : List ℕ) × (row_groups : List RowGroup) × AreGroups asked.version (columns_of (schema_of fs)) (outs ++ out ∷ []) 0 4 pages row_groups × (max_count < 4 + length pages))
+PassesCounts asked fs outs cs = (out : OutGroup) × IsWrittenAs asked fs cs out × GroupPasses asked.version (columns_of (schema_of fs)) outs out
 
 -- Why a chunk is not written behind these groups.
 abbrev pub RefusesChunk : Asked → FieldTrees → List OutGroup → ArrayTrees → Error → Type 0

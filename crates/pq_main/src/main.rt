@@ -1,7 +1,8 @@
 //! The program: its words, standard input, standard output and standard error are handed to the top call.
 #![tactic(auto)]
 
-use pq_rewrite::{StdSink, StdSource, run};
+use pq_rewrite::{NoView, StdSink, StdSource, run};
+use schema_codec::PlainCodec;
 use std::env;
 use std::process::ExitCode;
 
@@ -20,12 +21,30 @@ fn main(rt: HostRuntime) -> ExitCode {
     let mut source = StdSource::new(rt.stdin());
     let mut sink = StdSink::new(rt.stdout());
     let mut notes = StdSink::new(rt.stderr());
+    let codec = PlainCodec;
+    let mut view = NoView;
     let status = match words(&rt) {
-        Some(words) => run(rt.alloc(), &words, &mut source, &mut sink, &mut notes),
+        Some(words) => run(
+            rt.alloc(),
+            &words,
+            &mut source,
+            &mut sink,
+            &mut notes,
+            &codec,
+            &mut view,
+        ),
         None => {
             // Words that are not text are in no form.
             let bad = [String::new(rt.alloc())];
-            run(rt.alloc(), &bad, &mut source, &mut sink, &mut notes)
+            run(
+                rt.alloc(),
+                &bad,
+                &mut source,
+                &mut sink,
+                &mut notes,
+                &codec,
+                &mut view,
+            )
         }
     };
     ExitCode::from(status)

@@ -1,14 +1,17 @@
--- What a run says of its source, its sink and its notes, for any form of file that it reads.
-use Rattle.std.specs.Prelude.{◌≡◌, ◌++◌, ℕ, List, Option, IfSome, codes, ◌==◌, if◌then◌else◌}
+-- What a run says of its source, its sink and its notes.
+use Rattle.std.specs.Prelude.{◌≡◌, ◌⊎◌, ◌++◌, ℕ, List, Option, None, false, IfSome, codes, ◌==◌, if◌then◌else◌}
 use Rattle.std.specs.Io.KnownBytes.{Appends}
-use Rattle.pq_io.specs.Ends.{AppendsFront}
+use Rattle.columns_base.specs.Reasons.{error_text}
 use Rattle.columns_base.specs.declared.error.Error.{Error}
-use Rattle.columns_base.specs.declared.error.Error.TheVariants.{ReadFault, WriteFault, InputLimit, OutOfSpec, NotYetImplemented, InvalidArgumentError, Overflow, Memory}
-use Rattle.columns_base.specs.declared.error.S.TheVariants.{S1}
-use Rattle.columns_base.specs.declared.error.N.TheVariants.{N5}
+use Rattle.columns_base.specs.declared.error.Error.TheVariants.{InputLimit}
+use Rattle.columns_base.specs.declared.error.Limit.TheVariants.{Bytes}
+use Rattle.pq_io.specs.Ends.{AppendsFront}
+use Rattle.pq_io.specs.Reading.{GaveAll, GavePast}
+use Rattle.pq_tree.specs.declared.version.Version.TheVariants.{V1}
+use Rattle.schema_key.specs.declared.infer.KeyRule.TheVariants.{Ignore}
+use Rattle.pq_headline.specs.Rewrites.{Asked}
+use Rattle.pq_rewrite.specs.Notes.{error_status, report_text}
 use Rattle.pq_rewrite.specs.declared.report.Report.{Report}
-use Rattle.pq_rewrite.specs.Notes.{report_text}
-use Rattle.pq_io.specs.Reading.{GaveAll}
 
 -- The bytes that the source held, where it tells them, are so.
 abbrev pub Held : Option (List ℕ) → (List ℕ → Type 0) → Type 0
@@ -27,30 +30,36 @@ ConvertsInPart gives limit held left before now = (input : List ℕ) × (output 
 
 -- ---- why a run ended otherwise
 
--- The source gave an input whole, of which this is so.
-abbrev pub GaveSuch : (limit : ℕ) → (held left : Option (List ℕ)) → (List ℕ → Type 0) → Type 0
-GaveSuch limit held left P = (input : List ℕ) × GaveAll limit held left input × P input
+-- It ended with the status of this reason, which the notes were told. The source gave an input whole, of which the reason holds, or one byte
+-- past the limit.
+pub record IsRefusedFor (causes : List ℕ → Error → Type 0) (limit : ℕ) (held left : Option (List ℕ)) (tells : List ℕ → Type 0) (status : ℕ) (e : Error) : Type 0 where
+  pub is_status : status ≡ error_status e
+  pub told : tells (error_text e ++ codes "\n")
+  pub cause : ((e ≡ InputLimit Bytes) × GavePast limit held left) ⊎ ((input : List ℕ) × GaveAll limit held left input × causes input e)
 
--- The refusals of a program that reads one form of file: S1 and N5 alone, each by its condition.
-abbrev pub RefusesBy : (is_out_of_frame is_of_no_form : List ℕ → Type 0) → List ℕ → Error → Type 0
-RefusesBy is_out_of_frame is_of_no_form input ReadFault = ⊥
-RefusesBy is_out_of_frame is_of_no_form input WriteFault = ⊥
-RefusesBy is_out_of_frame is_of_no_form input (InputLimit l) = ⊥
-RefusesBy is_out_of_frame is_of_no_form input (OutOfSpec s) = (s ≡ S1) × is_out_of_frame input
-RefusesBy is_out_of_frame is_of_no_form input (NotYetImplemented n) = (n ≡ N5) × is_of_no_form input
-RefusesBy is_out_of_frame is_of_no_form input (InvalidArgumentError a) = ⊥
-RefusesBy is_out_of_frame is_of_no_form input (Overflow v) = ⊥
-RefusesBy is_out_of_frame is_of_no_form input Memory = ⊥
+-- ---- what is asked for without words
+
+abbrev pub byte_limit : ℕ
+byte_limit = 268435456
+
+abbrev pub asked : Asked
+asked =
+    record {
+      version = V1;
+      style = record { page_limit = 1048576; statistics = false };
+      chunk_size = None;
+      delta = false;
+      rule = Ignore;
+      byte_limit = byte_limit;
+      pair_limit = 134217728;
+    }
 
 -- ---- the notes
 
--- the line of a status other than 0, without its end
+-- the line of a status that names no reason, without its end
 abbrev pub words_of : ℕ → List ℕ
 words_of status =
     if status == 2 then codes "bad words"
     else if status == 3 then codes "ReadFault"
     else if status == 4 then codes "WriteFault"
-    else if status == 5 then codes "InputLimit Bytes"
-    else if status == 6 then codes "OutOfSpec S1"
-    else if status == 7 then codes "NotYetImplemented N5"
     else codes "Memory"

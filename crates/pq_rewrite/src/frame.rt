@@ -1,61 +1,87 @@
 //! The frame of a call: it reads, converts, and only then writes.
-ghost use Rattle.std.specs.Prelude.{◌≡◌, ◌≤◌, ◌<◌, ◌↔◌, length};
-ghost use Rattle.pq_rewrite.specs.Notes.{bad_words, Told};
-ghost use Rattle.pq_rewrite.specs.FormOne.{byte_limit as largest_input};
+ghost use Rattle.std.specs.Prelude.{◌≡◌, ◌≢◌, ◌≤◌, ◌<◌, ◌⊎◌, ◌↔◌, Some, Err, length, IsErrOf};
+ghost use Rattle.columns_base.specs.declared.error.Error.{Error};
+ghost use Rattle.columns_base.specs.declared.error.A.{A};
+ghost use Rattle.columns_base.specs.declared.error.N.{N};
 ghost use Rattle.pq_io.specs.Reading.{GaveSome};
-ghost use Rattle.pq_rewrite.specs.Answer.{Rewrote, Answered, KeptUnlessWritten, meaning, ends};
+ghost use Rattle.pq_rewrite.specs.Answer.{Answered, KeptUnlessWritten, Rewrote, ends, meaning};
+ghost use Rattle.pq_rewrite.specs.Asks.{AreServed, Causes, Gives, asked_by, codec_of};
+ghost use Rattle.pq_rewrite.specs.Notes.{bad_words, Told};
 
-use crate::Report;
-use crate::conversion::Conversion;
 use crate::notes::{status_of, tell_answer, tell_bad_words};
-use columns_base::Result;
+use crate::whole::convert;
+use crate::{Report, RewriteOptions, View};
+use columns_base::{A, Error, N, Result};
 use pq_io::{Sink, Source, push_all, read_all};
+use schema_codec::SchemaCodec;
 use std::alloc::Global;
 
-/// Reads the source whole, converts it, and only then writes.
-pub(crate) fn rewrite<S: Source, K: Sink, C: Conversion>(
+/// Reads a file from the source, and writes its rows anew to the sink. It reads first, and writes last.
+///
+/// # Errors
+///
+/// - `InvalidArgumentError(A1)`: a chunk size of no rows.
+/// - `NotYetImplemented(N4)`: statistics or delta encodings are asked for, which are not written yet; and by its condition in the file.
+/// - Each other one by its condition: see `Causes`, and `Rewrote` for the ends.
+pub fn rewrite<S: Source, K: Sink, C: SchemaCodec, V: View>(
     alloc: Global,
     source: &mut S,
     sink: &mut K,
-    conversion: &C,
-    byte_limit: usize,
+    codec: &C,
+    options: RewriteOptions,
+    view: &mut V,
 ) -> Result<Report>
-    requires { byte_limit ≤ largest_input }
-    ensures answer { Rewrote (meaning (C.gives conversion.now) (C.refuses conversion.now)) byte_limit (ends S.left S.faults K.taken K.faults source.old source.new sink.old sink.new) result }
+    // Of a chunk size of no rows nothing is read, and nothing where the options are not served.
+    ensures no_rows { IsErrOf result (Error.InvalidArgumentError A.A1) ↔ (options.chunk_size ≡ Some 0) }
+    ensures not_served { options.chunk_size ≢ Some 0 → (¬ AreServed options) → result ≡ Err (Error.NotYetImplemented N.N4) }
+    ensures untouched { (options.chunk_size ≡ Some 0) ⊎ (¬ AreServed options) → (source.new ≡ source.old) × (sink.new ≡ sink.old) × (view.new ≡ view.old) }
+    // What every other answer says.
+    ensures answer { options.chunk_size ≢ Some 0 → AreServed options → Rewrote (meaning (Gives (codec_of (C.bytes_of codec.now) (C.reads codec.now)) (asked_by options) (V.seen view.old) (V.seen view.new)) (Causes (codec_of (C.bytes_of codec.now) (C.reads codec.now)) (asked_by options))) options.byte_limit (ends S.left S.faults K.taken K.faults source.old source.new sink.old sink.new) result }
     ensures kept { KeptUnlessWritten (sink.new ≡ sink.old) result }
-    ensures read_some { GaveSome byte_limit (S.left source.old) (S.left source.new) }
+    ensures read_some { GaveSome options.byte_limit (S.left source.old) (S.left source.new) }
     ensures reads_later { S.faults source.old ≤ S.faults source.new }
     ensures writes_later { K.faults sink.old ≤ K.faults sink.new }
 {
-    let input = read_all(alloc, source, byte_limit)?;
-    let (output, report) = match conversion.convert(alloc, &input) {
+    if options.chunk_size == Some(0) {
+        return Err(Error::InvalidArgumentError(A::A1));
+    }
+    if options.statistics {
+        return Err(Error::NotYetImplemented(N::N4));
+    }
+    if options.delta {
+        return Err(Error::NotYetImplemented(N::N4));
+    }
+    let input = read_all(alloc, source, options.byte_limit)?;
+    let (made, report) = match convert(alloc, &input, &options, codec, view) {
         Ok(made) => made,
         Err(error) => return Err(error),
     };
-    push_all(sink, &output)?;
+    push_all(sink, made.bytes())?;
     Ok(report)
 }
 
 /// Refuses any word, rewrites, puts a line on the notes, and answers the status.
-pub(crate) fn run_with<S: Source, K: Sink, M: Sink, C: Conversion>(
+pub(crate) fn run_with<S: Source, K: Sink, M: Sink, C: SchemaCodec, V: View>(
     alloc: Global,
     words: &[String],
     source: &mut S,
     sink: &mut K,
     notes: &mut M,
-    conversion: &C,
-    byte_limit: usize,
+    codec: &C,
+    view: &mut V,
+    options: RewriteOptions,
 ) -> u8
-    requires { byte_limit ≤ largest_input }
+    requires rows { options.chunk_size ≢ Some 0 }
+    requires served { AreServed options }
     ensures words { (result ≡ 2) ↔ (0 < length words.now) }
-    ensures after_words { result ≡ 2 → Told M.taken M.faults M.wants notes.old notes.new bad_words × (source.new ≡ source.old) × (sink.new ≡ sink.old) }
-    ensures answer { length words.now ≡ 0 → Answered (meaning (C.gives conversion.now) (C.refuses conversion.now)) byte_limit (ends S.left S.faults K.taken K.faults source.old source.new sink.old sink.new) (Told M.taken M.faults M.wants notes.old notes.new) (sink.new ≡ sink.old) result }
-    ensures read_some { GaveSome byte_limit (S.left source.old) (S.left source.new) }
+    ensures after_words { result ≡ 2 → Told M.taken M.faults M.wants notes.old notes.new bad_words × (source.new ≡ source.old) × (sink.new ≡ sink.old) × (view.new ≡ view.old) }
+    ensures answer { length words.now ≡ 0 → Answered (meaning (Gives (codec_of (C.bytes_of codec.now) (C.reads codec.now)) (asked_by options) (V.seen view.old) (V.seen view.new)) (Causes (codec_of (C.bytes_of codec.now) (C.reads codec.now)) (asked_by options))) options.byte_limit (ends S.left S.faults K.taken K.faults source.old source.new sink.old sink.new) (Told M.taken M.faults M.wants notes.old notes.new) (sink.new ≡ sink.old) result }
+    ensures read_some { GaveSome options.byte_limit (S.left source.old) (S.left source.new) }
     ensures reads_later { S.faults source.old ≤ S.faults source.new }
     ensures writes_later { K.faults sink.old ≤ K.faults sink.new }
 {
     if words.is_empty() {
-        let answer = rewrite(alloc, source, sink, conversion, byte_limit);
+        let answer = rewrite(alloc, source, sink, codec, options, view);
         tell_answer(notes, &answer);
         status_of(&answer)
     } else {

@@ -2,16 +2,38 @@
 #![tactic(auto)]
 
 mod call;
-mod conversion;
+mod checks;
+mod columns;
+mod encode;
+mod finish;
 mod frame;
+mod groups;
+mod job;
+mod keys;
 mod line;
-mod list_column;
+mod misfit;
 mod notes;
+mod open;
+mod options;
+mod output;
+mod pieces;
+mod places;
+mod plan;
 mod report;
+mod served;
+mod view;
+mod whole;
 
 pub use call::run;
+pub use frame::rewrite;
+use job::Job;
+pub use options::RewriteOptions;
+use output::Output;
+use plan::Plan;
 pub use pq_io::{
     Failed, MemorySink, MemorySource, PlainSink, PlainSource, Sink, SinkFault, Source, StdSink,
     StdSource, push_all, read_all,
 };
 pub use report::Report;
+pub use schema_key::KeyRule;
+pub use view::{NoView, View};

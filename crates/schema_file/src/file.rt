@@ -17,7 +17,7 @@ ghost use Rattle.schema_to_tree.specs.Conditions.{AreWritten, RefusesSchema};
 ghost use Rattle.schema_to_tree.specs.Table.{schema_of};
 ghost use Rattle.write_file.specs.Files.{HasFile, HasWritten};
 ghost use Rattle.write_file.specs.Pages.{AllGive, SomeRefuses};
-ghost use Rattle.write_file.specs.Passing.{GroupPasses};
+ghost use Rattle.write_counts.specs.Passing.{GroupPasses};
 
 use crate::laws::written_trees_are_told;
 use columns_base::{A, Error, Result};

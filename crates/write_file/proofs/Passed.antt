@@ -18,7 +18,7 @@ use Rattle.write_file.proofs.Columns.{Pushed}
 use Rattle.write_file.proofs.Going.{Going, pairs_of}
 use Rattle.write_file.proofs.Grown.{pages_more}
 use Rattle.write_file.specs.Pages.{with_page}
-use Rattle.write_file.specs.Passing.{ColumnPasses, SomeColumnPasses}
+use Rattle.write_counts.specs.Passing.{ColumnPasses, SomeColumnPasses}
 
 -- with the next page the pairs pass
 pub pairs_pass : {S : Type 0} (gives : S → Version → Leaf → OutChunk → Type 0) (version : Version) (l : Leaf) (c : OutChunk) (old : S) (before after : Option (List ℕ)) (bytes pairs pages : ℕ) (o : OutPage) (rest : OutChunk) (h : Going gives version l c old before after bytes pairs pages) → h.rest ≡ with_page o rest → max_count < pairs + length o.triples → ColumnPasses version l c 0

@@ -16,7 +16,7 @@ ghost use Rattle.pq_metadata.specs.Footer.{SpellsTree};
 ghost use Rattle.pq_io.specs.Causes.{Rose};
 ghost use Rattle.write_file.specs.Files.{HasWritten, HasFile};
 ghost use Rattle.write_file.specs.Pages.{AllGive, SomeRefuses};
-ghost use Rattle.write_file.specs.Passing.{GroupPasses};
+ghost use Rattle.write_counts.specs.Passing.{GroupPasses};
 
 use crate::foot::foot_of;
 use crate::group::{Chunks, push_columns};

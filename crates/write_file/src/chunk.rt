@@ -16,7 +16,7 @@ ghost use Rattle.pq_files.specs.Room.{max_count};
 ghost use Rattle.pq_files.specs.Written.{Place, chunk_record, encodings_of};
 ghost use Rattle.pq_io.specs.Causes.{Rose};
 ghost use Rattle.write_file.specs.Pages.{encoding_view};
-ghost use Rattle.write_file.specs.Passing.{ColumnPasses};
+ghost use Rattle.write_counts.specs.Passing.{ColumnPasses};
 
 use crate::push::push_pages;
 use crate::{ChunkPages, Count};

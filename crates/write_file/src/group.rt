@@ -12,7 +12,7 @@ ghost use Rattle.pq_files.specs.Room.{max_count};
 ghost use Rattle.pq_io.specs.Causes.{Rose};
 ghost use Rattle.write_file.specs.Leaves.{AreMetasOf};
 ghost use Rattle.write_file.specs.Pages.{AllGive, SomeRefuses};
-ghost use Rattle.write_file.specs.Passing.{SomeColumnPasses};
+ghost use Rattle.write_counts.specs.Passing.{SomeColumnPasses};
 
 use crate::chunk::push_chunk;
 use crate::{ChunkPages, Count, LeafMetas};

@@ -12,7 +12,7 @@ ghost use Rattle.pq_files.specs.Written.{pairs_in};
 ghost use Rattle.pq_io.specs.Causes.{Rose};
 ghost use Rattle.pq_pages.specs.HeaderValue.{body_of as body_bytes};
 ghost use Rattle.write_file.specs.Pages.{IsGiven};
-ghost use Rattle.write_file.specs.Passing.{ColumnPasses};
+ghost use Rattle.write_counts.specs.Passing.{ColumnPasses};
 
 use crate::{ChunkPages, Count};
 use columns_base::Result;

@@ -15,7 +15,7 @@ use Rattle.pq_tree.specs.TreeViews.{trees_view}
 use Rattle.pq_tree.specs.declared.version.Version.{Version}
 use Rattle.schema_to_tree.specs.Table.{schema_of}
 use Rattle.write_file.specs.Pages.{AllGive, SomeRefuses}
-use Rattle.write_file.specs.Passing.{GroupPasses}
+use Rattle.write_counts.specs.Passing.{GroupPasses}
 use Rattle.write_groups.proofs.Groups.{even_len, group_chunks, has_rows}
 use Rattle.write_groups.specs.Given.{GivesColumn, RefusesColumn}
 use Rattle.write_groups.specs.Writing.{HasColumns, IsGroupOf, Refuses, fields_in}

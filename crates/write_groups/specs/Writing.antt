@@ -13,7 +13,7 @@ use Rattle.pq_tree.specs.TreeViews.{trees_view}
 use Rattle.schema_file.specs.Writing.{IsOpen}
 use Rattle.schema_to_tree.specs.Table.{schema_of}
 use Rattle.write_file.specs.Pages.{AllGive, SomeRefuses}
-use Rattle.write_file.specs.Passing.{GroupPasses}
+use Rattle.write_counts.specs.Passing.{GroupPasses}
 use Rattle.write_groups.specs.Columns.{AreGroupColumns}
 use Rattle.write_groups.specs.Given.{GivesColumn, RefusesColumn}
 use Rattle.write_groups.specs.declared.group.RowGroupIter.{RowGroupIter}

@@ -5,7 +5,7 @@ use Rattle.pq_tree.specs.Tree.{columns_of}
 use Rattle.pq_files.specs.Written.{group_record}
 use Rattle.write_file.proofs.Reasons.{third}
 use Rattle.write_file.proofs.Whole.{behind_front, grown}
-use Rattle.write_file.specs.Passing.{SomeColumnPasses}
+use Rattle.write_counts.specs.Passing.{SomeColumnPasses}
 use Rattle.write_file.proofs.body.FileBody.write_group.Goals as goal
 
 pub returns-clause-ok : goal.returns-clause-ok

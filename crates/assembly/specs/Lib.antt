@@ -1,0 +1,5 @@
+pub mod Paths
+pub mod Lanes
+pub mod FieldCode
+pub mod Giving
+pub mod Opened

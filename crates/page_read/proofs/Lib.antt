@@ -1,9 +1,0 @@
-pub mod Matched
-pub mod Plain32
-pub mod SectionsLemmas
-pub mod Bodies
-pub mod Passed
-pub mod RunsFront
-pub mod Reasons
-pub mod PageErrors
-pub mod RowsFound

@@ -1,4 +1,0 @@
-pub mod Appended
-pub mod Headers
-pub mod Pages
-pub mod Sections

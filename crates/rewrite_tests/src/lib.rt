@@ -1,0 +1,15 @@
+//! Tests of whole runs over files of every form and damage, in a crate of their own so that what they test is not proved twice.
+#![tactic(auto)]
+
+#[cfg(test)]
+mod ends;
+#[cfg(test)]
+mod file_tests;
+#[cfg(test)]
+mod files;
+#[cfg(test)]
+mod large_tests;
+#[cfg(test)]
+mod run_tests;
+#[cfg(test)]
+mod sink_tests;

@@ -1,0 +1,100 @@
+-- Arrays whose types are served have no dictionaries, and their groups are plain.
+use Rattle.std.proofs.Common.{◌≡◌, ℕ, suc, Bool, true, false, true≢false, Option, None, List, [], ◌∷◌, ◌++◌, length, map, refl, sym, ap, subst, ◌∙◌, arith}
+use Rattle.std.proofs.lemmas.List.{map-append}
+use Rattle.shredding.specs.Slot.{Slots, Value}
+use Rattle.columns_core.specs.Shapes.{base}
+use Rattle.columns_core.specs.Tree.{TypeTree, t_list, t_fixed_size_list, t_large_list, t_struct, t_map, t_extension, field, FieldTrees, no_fields, more_fields}
+use Rattle.columns_slots.specs.Slots.{IsSound, AreSound, AreTyped, type_of, first_len}
+use Rattle.columns_slots.specs.Tree.{ArrayTree, null_array, leaf_array, list_array, fixed_list_array, struct_array, dictionary_array, ArrayTrees, no_arrays, more_arrays}
+use Rattle.columns_slots.specs.Types.{is_leaf, part_types}
+use Rattle.pq_files.specs.Layout.{OutChunk}
+use Rattle.pq_files.specs.Page.{Encoding, plain}
+use Rattle.pq_headline.specs.Arrays.{rows_of, entries_in, all_entries}
+use Rattle.pq_headline.specs.Columns.{ArrowColumn, beneath_list, beneath_struct, type_columns, columns_from, schema_columns}
+use Rattle.pq_headline.specs.Laws.{ServedIsPlain}
+use Rattle.pq_headline.specs.Output.{AreLaid, IsLaidGroup, Style, all_chosen}
+use Rattle.pq_headline.specs.Served.{is_served_type, are_served_fields}
+use Rattle.pq_tree.specs.Tree.{Leaf, columns_of}
+use Rattle.schema_to_tree.specs.Table.{schema_of}
+use Rattle.typed_groups.proofs.Leaves.{served_first, served_rest}
+use Rattle.typed_groups.proofs.Nodes.{list_is, struct_is, parts_served, null_unserved, fixed_unserved, keys_unserved}
+use Rattle.typed_groups.specs.Suiting.{AreAllSound, PlainGroupsAreWritten}
+use Rattle.write_groups.specs.Laid.{GroupsAreLaid, style_of}
+
+-- the entries of a column's dictionary, if it has one
+abbrev Entries : Type 0
+Entries = Option (List (Option Value))
+
+abbrev none_each : List ArrowColumn → List Entries
+none_each cs = map (λ c. None) cs
+
+none_map : (f : ArrowColumn → ArrowColumn) (cs : List ArrowColumn) → none_each (map f cs) ≡ none_each cs
+none_map f [] = refl
+none_map f (c ∷ cs) = ap (λ (es : List Entries). None ∷ es) (none_map f cs)
+
+one_none : (b : Bool) (t : TypeTree) → is_leaf (base t) ≡ true → none_each (type_columns b t) ≡ None ∷ []
+one_none b (t_extension n t m) e = one_none b t e
+one_none b (t_list f) e = absurd (true≢false (sym e))
+one_none b (t_large_list f) e = absurd (true≢false (sym e))
+one_none b (t_fixed_size_list f n) e = absurd (true≢false (sym e))
+one_none b (t_map f z) e = absurd (true≢false (sym e))
+one_none b (t_struct fs) e = absurd (true≢false (sym e))
+one_none b t e = refl
+
+each_sound : (n : ℕ) (cs : ArrayTrees) → AreSound n cs → AreAllSound cs
+each_sound n no_arrays h = tt
+each_sound n (more_arrays c cs) h = (h.0, each_sound n cs h.2)
+
+mutual
+  no_entries : (a : ArrayTree) (b : Bool) → IsSound a → is_served_type (type_of a) ≡ true → entries_in a ≡ none_each (type_columns b (type_of a))
+  no_entries (null_array t n) b h s = absurd (null_unserved t h s)
+  no_entries (leaf_array t vs m) b h s = sym (one_none b t h.1)
+  no_entries (dictionary_array t ks c m) b h s = absurd (keys_unserved t (type_of c) h.2 s)
+  no_entries (fixed_list_array t w n c m) b h s = absurd (fixed_unserved t (type_of c) h.3 s)
+  no_entries (list_array t os c m) b h s =
+      let p = list_is [] b t (type_of c) h.3 s in
+      no_entries c p.is_nullable h.2 p.served ∙ sym (ap none_each p.columns ∙ none_map (beneath_list b p.limit) (type_columns p.is_nullable (type_of c)))
+  no_entries (struct_array t cs m) b h s =
+      let p = struct_is [] b t cs h.3 h.2 in
+      none_of_all cs (part_types (base t)) b 0 (each_sound (first_len cs) cs h.0) h.2 (parts_served t s) ∙ sym (ap none_each p.columns)
+
+  none_of_all : (cs : ArrayTrees) (fs : FieldTrees) (b : Bool) (place : ℕ) → AreAllSound cs → AreTyped fs cs → are_served_fields fs ≡ true → all_entries cs ≡ none_each (columns_from b place fs)
+  none_of_all no_arrays no_fields b place h typed s = refl
+  none_of_all (more_arrays c cs) (more_fields (field name t k m) fs) b place h typed s =
+      let own : entries_in c ≡ none_each (type_columns k t) = subst (λ (x : TypeTree). entries_in c ≡ none_each (type_columns k x)) (sym typed.0) (no_entries c k h.0 (ap is_served_type (sym typed.0) ∙ served_first name t k m fs s)) in
+      let rest = none_of_all cs fs b (suc place) h.1 typed.1 (served_rest name t k m fs s) in
+      (λ i. own i ++ rest i) ∙ (ap (λ (es : List Entries). es ++ none_each (columns_from b (suc place) fs)) (sym (none_map (beneath_struct b place) (type_columns k t)))
+      ∙ sym (map-append (λ (x : ArrowColumn). None) (map (beneath_struct b place) (type_columns k t)) (columns_from b (suc place) fs)))
+  none_of_all no_arrays (more_fields (field x t y z) fs) b place h typed s = absurd typed
+  none_of_all (more_arrays c cs) no_fields b place h typed s = absurd typed
+
+pub entries_are_none : (cs : ArrayTrees) (fs : FieldTrees) → AreAllSound cs → AreTyped fs cs → are_served_fields fs ≡ true → all_entries cs ≡ map (λ c. None) (schema_columns fs)
+entries_are_none cs fs h typed s = none_of_all cs fs false 0 h typed s
+
+-- ---- a group that is laid plain is laid as it is chosen
+
+laid_lengths : (s : Style) (rows : List Slots) (cs : List ArrowColumn) (ls : List Leaf) (es : List Encoding) (ds : List Entries) (outs : List OutChunk) → AreLaid s rows cs ls es ds outs → length cs ≡ length ls
+laid_lengths s rows [] [] es ds outs h = refl
+laid_lengths s rows (c ∷ cs) (l ∷ ls) (e ∷ es) (d ∷ ds) (out ∷ outs) h = ap suc (laid_lengths s rows cs ls es ds outs h.1)
+laid_lengths s rows [] (l ∷ ls) es ds outs h = absurd h
+laid_lengths s rows (c ∷ cs) [] es ds outs h = absurd h
+laid_lengths s rows (c ∷ cs) (l ∷ ls) [] ds outs h = absurd h
+laid_lengths s rows (c ∷ cs) (l ∷ ls) (e ∷ es) [] outs h = absurd h
+laid_lengths s rows (c ∷ cs) (l ∷ ls) (e ∷ es) (d ∷ ds) [] h = absurd h
+
+same_plain : (cs : List ArrowColumn) (ls : List Leaf) → length cs ≡ length ls → map (λ (c : ArrowColumn). plain) cs ≡ map (λ (l : Leaf). plain) ls
+same_plain [] [] e = refl
+same_plain (c ∷ cs) (l ∷ ls) e = ap (λ (es : List Encoding). plain ∷ es) (same_plain cs ls (omega (arith, e)))
+same_plain [] (l ∷ ls) e = absurd (omega (arith, e))
+same_plain (c ∷ cs) [] e = absurd (omega (arith, e))
+
+pub written : GroupsAreLaid → ServedIsPlain → PlainGroupsAreWritten
+written laid chosen fs g out h columns is =
+    let k = laid fs g out h.typed h.even h.rows_are h.trees_are columns is in
+    let cs = schema_columns fs in
+    let ls = columns_of (schema_of fs) in
+    let n : length cs ≡ length ls = laid_lengths (style_of g.options) (rows_of g.chunk) cs ls (map (λ c. plain) cs) (map (λ c. None) cs) out.chunks k.columns in
+    let es : map (λ (c : ArrowColumn). plain) cs ≡ all_chosen false cs ls = same_plain cs ls n ∙ sym (chosen fs h.held h.served) in
+    let ds : map (λ (c : ArrowColumn). None) cs ≡ all_entries g.chunk = sym (entries_are_none g.chunk fs h.sound h.typed h.served) in
+    subst (λ (xs : List Encoding). IsLaidGroup (style_of g.options) (rows_of g.chunk) cs ls xs (all_entries g.chunk) out) es
+    (subst (λ (xs : List Entries). IsLaidGroup (style_of g.options) (rows_of g.chunk) cs ls (map (λ c. plain) cs) xs out) ds k)

@@ -1,0 +1,7 @@
+mod Nodes
+mod Leaves
+mod Taken
+mod Entries
+mod LargeColumns
+mod Large
+mod Worked

@@ -1,0 +1,36 @@
+//! Laws of chunks that suit the fields of a schema.
+ghost use Rattle.typed_groups.specs.Suiting.{LargePagesAreLarge, PlainGroupsAreWritten, SuitingChunksAreTaken};
+ghost use Rattle.typed_groups.specs.Worked.{AreWorked};
+
+use nested_paths::paths_are_seen;
+use pq_headline::served_is_plain;
+use typed_arrays::{typed_columns_are_own, typed_slots_are_read};
+use write_groups::groups_are_laid;
+
+/// The columns of a chunk that suits are refused for want of memory alone.
+pub fn suiting_chunks_are_taken()
+    ensures { SuitingChunksAreTaken }
+{
+    paths_are_seen();
+}
+
+/// Where the room of a page passes the sizes of a header, the rows of the chunk have a page that is too large.
+pub fn large_pages_are_large()
+    ensures { LargePagesAreLarge }
+{
+    typed_columns_are_own();
+    typed_slots_are_read();
+}
+
+/// The group that the columns of a chunk give is laid out in the encodings and with the dictionaries that are asked for.
+pub fn plain_groups_are_written()
+    ensures { PlainGroupsAreWritten }
+{
+    groups_are_laid();
+    served_is_plain();
+}
+
+/// A worked chunk suits, and near misses do not.
+pub fn as_worked()
+    ensures { AreWorked }
+{}
