@@ -13,6 +13,7 @@ cases.py. Nothing but the standard library is used.
 """
 
 import os
+import re
 import subprocess
 import sys
 
@@ -37,12 +38,17 @@ ABOUT = {
 HEAD = "//! {}\n//! Made by tools/files/make.py; cases.py beside it says what each file is.\n"
 
 
+def sign_of(byte):
+    """Returns a byte as it stands in a literal."""
+    char = chr(byte)
+    return "\\" + char if char in '"\\' else char if 32 < byte < 127 else f"\\x{byte:02x}"
+
+
 def literal(value, indent):
-    """Returns bytes as a literal, in lines of at most 100 signs."""
+    """Returns bytes as a literal, in lines of at most 100 signs. The magic bytes stay in one line."""
     signs = []
-    for byte in value:
-        char = chr(byte)
-        signs.append("\\" + char if char in '"\\' else char if 32 < byte < 127 else f"\\x{byte:02x}")
+    for part in re.split(b"(PAR1)", value):
+        signs += ["PAR1"] if part == b"PAR1" else [sign_of(byte) for byte in part]
     lines, line = [], ""
     for sign in signs:
         if len(line) + len(sign) > 100:
