@@ -1,11 +1,12 @@
 -- Bits of whole words.
-use Rattle.std.proofs.Common.{◌≡◌, ◌⊎◌, ℕ, zero, suc, ◌+◌, ◌-◌, ◌*◌, ◌/◌, ◌%◌, ◌^◌, ◌<◌, ◌≤◌, ◌==◌, List, ◌++◌, Bool, true, false, length, take, drop, slice_index_or, length-take, add-zero, zero-add, refl, ap, sym, ◌∙◌, inl, inr, arith}
+use Rattle.std.proofs.Common.{◌≡◌, ◌≢◌, ◌⊎◌, ℕ, zero, suc, ◌+◌, ◌-◌, ◌*◌, ◌/◌, ◌%◌, ◌^◌, ◌<◌, ◌≤◌, ◌==◌, replicate, ◌∷◌, List, ◌++◌, Bool, true, false, length, take, drop, slice_index_or, length-take, add-zero, zero-add, refl, ap, sym, ◌∙◌, inl, inr, arith}
 use Rattle.columns_core.specs.Bits.{bit_of, bits_from, word_bits}
 use Rattle.std.specs.Int.{bit_at, bit_not, byte_at, bytes_low_first, trailing_ones, trailing_zeros, w64}
 use Rattle.std.specs.Int.Count.{count_trailing_zeros, trailing_of_zero}
 use Rattle.std.proofs.lemmas.List.{get_or-drop, get_or-take, get_or_append_left, get_or-append_right}
 use Rattle.std.proofs.lemmas.Nat.{div-add-mod', mod_below, pow_pos, pow-add, trailing_le}
 use Rattle.std.proofs.Math.Nat.{pow-suc}
+use Rattle.std.proofs.Math.Pow.{pow-lt}
 use Rattle.std.proofs.lemmas.Nat.Bits.{bit_at-suc, bit_at-zero, bit_at_ones, bit_at-trailing_ones, bit_at-trailing_zeros, bit_at_cat_low, bit_at_cat_high}
 use Rattle.columns_core.proofs.Bits.{same_bits}
 use Rattle.columns_core.proofs.Packed.{bits_split, shifted_bit, below_or_from}
@@ -155,3 +156,35 @@ run_more bs from end count word v before bits run most i a b = by_case (below_or
     by_case (inr d) =
         let e : i ≡ end + (i - end) = omega (arith, d) in
         ap (bit_of bs) e ∙ sym (bits (i - end) (omega (arith, b, d, most))) ∙ run (i - end) (omega (arith, b, d))
+
+-- ---- the low bits of a word
+power_as_shift : (n : ℕ) → n < 64 → 1 * 2 ^ n % 2 ^ 64 ≡ 2 ^ n
+power_as_shift n h = let l : 2 ^ n < 2 ^ 64 = pow-lt h in omega (arith, l)
+
+pub low_bits_of : (w n i : ℕ) → n ≤ 64 → n ≢ 64 → i < n → bit_at (w % (1 * 2 ^ n % 2 ^ 64)) i ≡ bit_at w i
+low_bits_of w n i h other k = rw (power_as_shift n (omega (arith, h, other))) (low_bit w n i k)
+
+-- the bits of the last bytes
+pub last_bit : (bs cs : List ℕ) (at n i : ℕ) (word : ℕ) (low : Bool) → at + n ≤ 8 * length bs → i < n → n ≤ 64 → ((j : ℕ) → 8 * (at / 8) + j < 8 * length bs → bit_of cs j ≡ bit_of bs (8 * (at / 8) + j)) → ((j : ℕ) → j < 64 → (bit_at word j == 1) ≡ bit_of cs (at % 8 + j))
+    → low ≡ (bit_at word i == 1) → low ≡ bit_of bs (at + i)
+last_bit bs cs at n i word low within h few front bits is =
+    let p : 8 * (at / 8) + (at % 8 + i) ≡ at + i = omega arith in
+    is ∙ bits i (omega (arith, h, few)) ∙ front (at % 8 + i) (omega (arith, within, h)) ∙ ap (bit_of bs) p
+
+-- words of equal bits
+pub zeros_word : (n : ℕ) → word_bits 0 n ≡ replicate n false
+zeros_word zero = refl
+zeros_word (suc n) = ap (λ r. false ∷ r) (zeros_word n)
+
+ones_of : (k n : ℕ) → n ≤ k → word_bits (2 ^ k - 1) n ≡ replicate n true
+ones_of k zero h = refl
+ones_of zero (suc n) h = absurd (omega (arith, h))
+ones_of (suc k) (suc n) h =
+    let some : 0 < 2 ^ k = pow_pos k in
+    let two : 2 ^ suc k ≡ 2 ^ k * 2 = pow-suc 2 k in
+    let odd : (2 ^ suc k - 1) % 2 ≡ 1 = omega (arith, some, two) in
+    let half : (2 ^ suc k - 1) / 2 ≡ 2 ^ k - 1 = omega (arith, some, two) in
+    rw (odd, half) (ap (λ r. true ∷ r) (ones_of k n (omega (arith, h))))
+
+pub ones_word : (n : ℕ) → n ≤ 64 → word_bits 18446744073709551615 n ≡ replicate n true
+ones_word n h = ones_of 64 n h

@@ -78,12 +78,56 @@ pub fn run_end_in(bytes: &[u8], from: usize, to: usize, value: bool) -> usize
     ensures ended { result < to → bit_of bytes.now result ≢ value }
 {
     let mut end = from;
-    while to - end >= 64 {
+    while end < to && bytes.len() - end / 8 > 8 {
         let count = run_in_word(word_in(bytes, end), value);
+        if count >= to - end {
+            return to;
+        }
         end += count;
         if count < 64 {
             return end;
         }
     }
     single_end(bytes, end, to, value)
+}
+
+// The last bytes, from one on, with zeros behind them.
+fn last_bytes(bytes: &[u8], from: usize) -> [u8; 16]
+    requires within { from ≤ list_length bytes.now }
+    requires few { list_length bytes.now ≤ from + 8 }
+    ensures size { list_length result ≡ 16 }
+    ensures front { (i : ℕ) → 8 * from + i < 8 * list_length bytes.now → bit_of result i ≡ bit_of bytes.now (8 * from + i) }
+{
+    let rest = &bytes[from..];
+    let mut last = [0; 16];
+    let front = &mut last[..rest.len()];
+    front.copy_from_slice(rest);
+    last
+}
+
+// The low bits of a word.
+fn low_of(word: u64, count: usize) -> u64
+    requires { count ≤ 64 }
+    ensures bits { (i : ℕ) → i < count → bit_at result i ≡ bit_at word i }
+    ensures low { result < 2 ^ count }
+{
+    if count == 64 {
+        word
+    } else {
+        word % (1 << count)
+    }
+}
+
+/// At most 64 bits from a place on, as the low bits of a word.
+pub fn bits_in(bytes: &[u8], at: usize, count: usize) -> u64
+    requires few { count ≤ 64 }
+    requires within { at + count ≤ 8 * list_length bytes.now }
+    ensures bits { (i : ℕ) → i < count → (bit_at result i == 1) ≡ bit_of bytes.now (at + i) }
+    ensures low { result < 2 ^ count }
+{
+    if bytes.len() - at / 8 > 8 {
+        return low_of(word_in(bytes, at), count);
+    }
+    let last = last_bytes(bytes, at / 8);
+    low_of(word_in(&last, at % 8), count)
 }

@@ -112,6 +112,9 @@ impl MutableBitmap {
         ensures reserved { additional ≤ self.old.1 → IsOk result }
         ensures room { list_length self.old.0 + self.old.1 ≤ list_length self.new.0 + self.new.1 }
     {
+        if additional <= 64 {
+            return self.extend_from_word(full_word(value), additional);
+        }
         self.reserve(additional)?;
         let front = self.until_byte(additional);
         self.push_copies(front, value);
@@ -296,6 +299,13 @@ fn full_byte(value: bool) -> u8
     ensures { bits_from (result ∷ []) 0 8 ≡ replicate 8 value }
 {
     if value { 0xff } else { 0 }
+}
+
+// A word of equal bits.
+fn full_word(value: bool) -> u64
+    ensures { (n : ℕ) → n ≤ 64 → word_bits result n ≡ replicate n value }
+{
+    if value { u64::MAX } else { 0 }
 }
 
 // The first bits of a byte, as a number.

@@ -84,6 +84,33 @@ impl<O: Offset> Utf8Array<O> {
         })
     }
 
+    /// The same, of parts that are known to make an array. Nothing is looked at.
+    ///
+    /// # Errors
+    ///
+    /// `Memory`.
+    pub fn from_parts(
+        alloc: Global,
+        data_type: DataType,
+        offsets: OffsetsBuffer<O>,
+        values: Vec<u8>,
+        validity: Option<Bitmap>,
+    ) -> Result<Utf8Array<O>>
+        requires places { IsPlaces offsets (list_length values.items) }
+        requires mask { MaskFits validity (list_length offsets - 1) }
+        requires typed { is_text O.large (base (type_view data_type)) ≡ true }
+        requires texts { AreTexts (pieces offsets values.items) }
+        ensures ok { IfOk result (λ a. a ≡ (type_view data_type, (offsets, (values.items, validity)))) }
+        ensures err { IfErr result (λ e. e ≡ Error.Memory) }
+    {
+        Ok(Utf8Array {
+            data_type,
+            offsets,
+            values: Rc::new(alloc, values)?,
+            validity,
+        })
+    }
+
     /// Callers learn what holds of every such array.
     pub fn know(&self)
         ensures places { IsPlaces self.now.1.0 (list_length self.now.1.1.0) }

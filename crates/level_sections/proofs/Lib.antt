@@ -1,3 +1,4 @@
+pub mod Blocks
 pub mod Walked
 pub mod Within
 pub mod Texts

@@ -1,3 +1,4 @@
+pub mod Blocks
 pub mod Sections
 pub mod Walk
 pub use Rattle.pq_runs.specs.Stretches

@@ -1,6 +1,7 @@
 //! The level sections of data pages (Parquet format, "Data Pages" and "Nested Encoding"), written from paths of nested parts.
 #![tactic(auto)]
 
+mod block;
 mod flat;
 mod prefix;
 mod section;

@@ -7,7 +7,8 @@ ghost use Rattle.pq_runs.specs.Writing.{Extends, Keeps};
 ghost use Rattle.levels.specs.Stretch.{level_of, like_pairs};
 ghost use Rattle.level_sections.specs.Walk.{walked, IsLow, Holds};
 
-use levels::{Level, Nested, Stretch, stretch_at};
+use crate::block::push_flat;
+use levels::{Level, Nested, Stretch, max_rep_level, stretch_at};
 use pq_runs::RunWriter;
 use std::alloc::AllocError;
 
@@ -42,6 +43,35 @@ fn push_pairs(
             writer.push(out, above.rep, 1)?;
             writer.push(out, above.depth, count - 1)
         }
+    }
+}
+
+// The levels of the slots of a path without lists.
+fn walk_flat(
+    out: &mut Vec<u8>,
+    writer: &mut RunWriter,
+    level: Level,
+    parts: &[Nested],
+    above: Above,
+    from: usize,
+    to: usize,
+) -> Result<(), AllocError>
+    requires well { IsPath (parts_of parts.now) }
+    requires flat { max_repetition (path_way (parts_of parts.now)) ≡ 0 }
+    requires ordered { from ≤ to }
+    requires within { to ≤ slot_count (parts_of parts.now) }
+    requires low { IsLow above (length parts.now) }
+    requires holds { Holds level above (max_repetition (path_way (parts_of parts.now))) (max_definition (path_way (parts_of parts.now))) writer.old.width }
+    ensures width { writer.new.width ≡ writer.old.width }
+    ensures added { OnOk result ((start xs : List ℕ) → Keeps start out.old.items writer.old xs → Keeps start out.new.items writer.new (xs ++ walked level (parts_of parts.now) above from (to - from))) }
+    ensures kept { Extends out.old.items out.new.items }
+{
+    if from == to {
+        return Ok(());
+    }
+    match level {
+        Level::Definition => push_flat(out, writer, parts, above.def, from, to),
+        Level::Repetition => push_pairs(out, writer, level, above, to - from),
     }
 }
 
@@ -115,6 +145,9 @@ pub fn walk(
     ensures added { OnOk result ((start xs : List ℕ) → Keeps start out.old.items writer.old xs → Keeps start out.new.items writer.new (xs ++ walked level (parts_of parts.now) above from (to - from))) }
     ensures kept { Extends out.old.items out.new.items }
 {
+    if max_rep_level(parts) == 0 {
+        return walk_flat(out, writer, level, parts, above, from, to);
+    }
     let mut place = from;
     let mut here = above;
     while place < to {

@@ -6,3 +6,4 @@ pub mod Sizes
 pub mod Columns
 pub mod Stacks
 pub mod Stretches
+pub mod Flat

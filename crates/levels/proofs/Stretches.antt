@@ -103,7 +103,7 @@ firsts piece depth def place (suc count) same =
     ∙ (ap (λ xs. xs ++ map (level_of Repetition) (run piece depth depth (place + 1) count)) (same depth place)
     ∙ ap (λ xs. depth ∷ xs) (firsts piece depth def (place + 1) count same))
 
-first_and_others : (piece : ℕ → ℕ → List (ℕ × ℕ)) (rep depth def place count : ℕ) → ((rep i : ℕ) → map (level_of Repetition) (piece rep i) ≡ rep ∷ []) → map (level_of Repetition) (run piece rep depth place count) ≡ map (level_of Repetition) (like_pairs rep depth def count)
+pub first_and_others : (piece : ℕ → ℕ → List (ℕ × ℕ)) (rep depth def place count : ℕ) → ((rep i : ℕ) → map (level_of Repetition) (piece rep i) ≡ rep ∷ []) → map (level_of Repetition) (run piece rep depth place count) ≡ map (level_of Repetition) (like_pairs rep depth def count)
 unfolding run like_pairs
 first_and_others piece rep depth def place zero same = refl
 first_and_others piece rep depth def place (suc count) same =

@@ -1,5 +1,5 @@
 -- The numbers of level pairs.
-use Rattle.std.specs.Prelude.{ℕ, zero, suc, ◌+◌, cond, List, [], ◌∷◌}
+use Rattle.std.specs.Prelude.{ℕ, zero, suc, ◌+◌, Bool, Option, cond, max, List, [], ◌∷◌}
 use Rattle.shredding.specs.Parts.{Part, leaf_part, list_part, struct_part, is_present, item_start, item_count}
 
 -- the sum of the sizes of count places
@@ -19,3 +19,7 @@ slot_size (leaf_part is_optional mask count ∷ parts) i = 1
 slot_size (list_part is_optional mask offsets ∷ parts) i =
     cond (is_present is_optional mask i) (total_or_one (slot_size parts) (item_start offsets i) (item_count offsets i)) 1
 slot_size (struct_part is_optional mask count ∷ parts) i = cond (is_present is_optional mask i) (slot_size parts i) 1
+
+-- the number of level pairs of list i above a path without lists
+abbrev pub list_size : Bool → Option (List Bool) → List ℕ → ℕ → ℕ
+list_size is_optional mask offsets i = cond (is_present is_optional mask i) (max (item_count offsets i) 1) 1

@@ -1,12 +1,71 @@
 //! The number of level pairs.
-ghost use Rattle.std.specs.Prelude.{◌≡◌, ℕ, ◌+◌, ◌-◌, ◌^◌, ◌<◌, ◌≤◌, length, min};
+ghost use Rattle.std.specs.Prelude.{◌≡◌, ℕ, ◌+◌, ◌-◌, ◌^◌, ◌<◌, ◌≤◌, ◌==◌, Bool, List, Option, length, min, IfSome};
+ghost use Rattle.std.specs.Int.{bit_at};
 ghost use Rattle.shredding.specs.Slot.{Value};
-ghost use Rattle.shredding.specs.Parts.{IsPath, slot_count};
+ghost use Rattle.shredding.specs.Parts.{IsPath, MaskFits, is_present, slot_count};
 ghost use Rattle.levels.specs.Nested.{parts_of, nested_column};
-ghost use Rattle.levels.specs.Sizes.{total, slot_size};
+ghost use Rattle.levels.specs.Sizes.{total, slot_size, list_size};
 
-use crate::nested::{Nested, slot_count};
+use crate::here::{list_pairs, present_word};
+use crate::nested::{ListNested, Nested, max_rep_level, slot_count};
 use crate::walk::{Level, Stretch, stretch_at};
+use columns_core::{Offset, OffsetsBuffer};
+
+// The number of level pairs of up to 64 lists above a path without lists, or the largest number. A word tells which lists are there.
+fn count_some<O: Offset>(offsets: &OffsetsBuffer<O>, word: u64, place: usize, count: usize) -> usize
+    requires few { count ≤ 64 }
+    requires within { place + count ≤ length offsets.now - 1 }
+    ensures { (is_optional : Bool) → (mask : Option (List Bool)) → ((i : ℕ) → i < count → (bit_at word i == 1) ≡ is_present is_optional mask (place + i)) → result ≡ min (total (list_size is_optional mask offsets.now) place count) (2 ^ 64 - 1) }
+{
+    // the number of lists fits its type, so `place + i` does
+    let _lists = offsets.len_proxy();
+    let mut sum: usize = 0;
+    for i in 0..count {
+        let there = (word >> i) & 1 == 1;
+        sum = sum.saturating_add(list_pairs(offsets, there, place + i));
+    }
+    sum
+}
+
+// The number of level pairs of lists above a path without lists, or the largest number.
+fn count_lists<O: Offset>(list: &ListNested<O>, from: usize, to: usize) -> usize
+    requires fits { MaskFits list.now.validity (length list.now.offsets - 1) }
+    requires ordered { from ≤ to }
+    requires within { to ≤ length list.now.offsets - 1 }
+    ensures { result ≡ min (total (list_size list.now.is_optional list.now.validity list.now.offsets) from (to - from)) (2 ^ 64 - 1) }
+{
+    let lists = list.offsets.len_proxy();
+    let mut sum: usize = 0;
+    let mut place = from;
+    while place < to {
+        let count = (to - place).min(64);
+        let word = present_word(list.is_optional, &list.validity, lists, place, count);
+        sum = sum.saturating_add(count_some(&list.offsets, word, place, count));
+        place += count;
+    }
+    sum
+}
+
+// The number of level pairs where at most the first part is a list, or the largest number.
+fn count_at_once(parts: &[Nested], from: usize, to: usize) -> Option<usize>
+    requires well { IsPath (parts_of parts.now) }
+    requires ordered { from ≤ to }
+    requires within { to ≤ slot_count (parts_of parts.now) }
+    ensures { IfSome result (λ pairs. pairs ≡ min (total (slot_size (parts_of parts.now)) from (to - from)) (2 ^ 64 - 1)) }
+{
+    let Some((part, rest)) = parts.split_first() else {
+        return None;
+    };
+    if max_rep_level(rest) > 0 {
+        return None;
+    }
+    match part {
+        Nested::Primitive(..) => Some(to - from),
+        Nested::Struct(..) => Some(to - from),
+        Nested::List(list) => Some(count_lists(list, from, to)),
+        Nested::LargeList(list) => Some(count_lists(list, from, to)),
+    }
+}
 
 // The number of level pairs of the stretch at a place, or the largest number, and the place behind it.
 #[cycle(count)]
@@ -33,8 +92,8 @@ fn count(parts: &[Nested], from: usize, to: usize) -> usize
     requires within { to ≤ slot_count (parts_of parts.now) }
     ensures { result ≡ min (total (slot_size (parts_of parts.now)) from (to - from)) (2 ^ 64 - 1) }
 {
-    if parts.len() == 1 {
-        return to - from;
+    if let Some(pairs) = count_at_once(parts, from, to) {
+        return pairs;
     }
     let mut sum: usize = 0;
     let mut place = from;

@@ -16,6 +16,7 @@ mod well_formed;
 
 pub use count::num_values;
 pub use equal::{is_same_list, is_same_nested};
+pub use here::{full_word, list_pairs, present_word};
 pub use in_bounds::is_in_bounds;
 pub use iters::{DefLevelsIter, RepLevelsIter};
 pub use nested::{ListNested, Nested, max_def_level, max_rep_level, slot_count};

@@ -2,7 +2,8 @@
 use Rattle.std.proofs.Common.{◌≡◌, ℕ, zero, suc, ◌+◌, ◌*◌, ◌%◌, ◌^◌, ◌<◌, ◌≤◌, List, [], ◌∷◌, ◌++◌, length, take, drop, get_or, refl, sym, ap, subst, ◌∙◌, arith, append-nil, append_assoc, All}
 use Rattle.std.proofs.Math.Nat.{pow-le-pow_right}
 use Rattle.std.proofs.lemmas.Nat.{pow-add, mul-le, shl_whole}
-use Rattle.std.proofs.lemmas.List.{length-append, length-take, take_at}
+use Rattle.std.proofs.lemmas.List.{length-append, length-take, take_at, take-take}
+use Rattle.std.proofs.Math.Seq.{take-append-add}
 use Rattle.std.proofs.lemmas.List.Elements.{All-take}
 use Rattle.std.specs.Int.{w64, to_le_bytes}
 use Rattle.pq_numbers.specs.Bits.{digits_of, bytes_for}
@@ -82,6 +83,15 @@ grouped_more w start out out' eight rest numbers text n size value e g =
       size = omega (arith, length-append g.text text, size, g.size);
       value = number_of-append g.text text ∙ ap (λ (x : ℕ). number_of g.text + 2 ^ (8 * length g.text) * x) value ∙ ap (λ (x : ℕ). x + 2 ^ (8 * length g.text) * word_of w eight) g.value ∙ ap (λ (k : ℕ). word_of w g.done + 2 ^ k * word_of w eight) bits ∙ sym (word_of-append w g.done eight);
     }
+
+-- the first of some bytes that stand behind a front
+pub front_less : (at m n : ℕ) (old new bytes : List ℕ) → at + n ≤ length old → m ≤ n → take (at + n) new ≡ take at old ++ bytes → take (at + m) new ≡ take at old ++ take m bytes
+front_less at m n old new bytes room less e =
+    let size : length (take at old) ≡ at = omega (arith, length-take at old, room) in
+    sym (take-take (at + m) (at + n) new (omega (arith, less)))
+    ∙ ap (take (at + m)) e
+    ∙ ap (λ (k : ℕ). take (k + m) (take at old ++ bytes)) (sym size)
+    ∙ take-append-add (take at old) bytes m
 
 length-none : (xs : List ℕ) → length xs ≡ 0 → xs ≡ []
 length-none [] e = refl

@@ -1,10 +1,10 @@
 -- What a writer of runs keeps.
-use Rattle.std.proofs.Common.{◌≡◌, ℕ, ◌+◌, ◌*◌, ◌^◌, ◌<◌, ◌≤◌, List, ◌∷◌, [], ◌++◌, length, replicate, refl, sym, ap, subst, ◌∙◌, arith, append_assoc, Result, Ok, Err, OnOk}
-use Rattle.std.proofs.lemmas.List.{length-append, length-replicate}
+use Rattle.std.proofs.Common.{◌≡◌, ℕ, zero, suc, ◌+◌, ◌*◌, ◌^◌, ◌<◌, ◌≤◌, List, ◌∷◌, [], ◌++◌, length, take, get_or, replicate, refl, sym, ap, subst, ◌∙◌, arith, append_assoc, Result, Ok, Err, OnOk}
+use Rattle.std.proofs.lemmas.List.{length-append, length-replicate, take_more}
 use Rattle.std.proofs.lemmas.Nat.{mul-le}
 use Rattle.pq_runs.specs.Stretches.{one_if_any, stretch_bits, filled_up, Takes}
 use Rattle.pq_runs.specs.Writing.{Wrote, Waiting, Keeps, AppendsRuns, IsTight}
-use Rattle.pq_runs.proofs.Steps.{replicate-append, none_waits, wrote_push, Ends}
+use Rattle.pq_runs.proofs.Steps.{replicate-append, none_waits, wrote_more, Ends}
 use Rattle.pq_runs.proofs.Tight.{Tighter}
 use Rattle.pq_runs.proofs.Short.{nothing_spent, spent_copies, spent_others, spent_done}
 
@@ -49,17 +49,31 @@ keeps_settled start out out' width block block' number count number' count' xs s
       spent = spent_others width start out out' block block' k.encoded.settled number count number' count' xs some k.encoded.all ends k.spent t';
     }
 
--- the number that waited, of which there is one, goes into the block, and another one waits
-pub keeps_packed : (start out : List ℕ) (width : ℕ) (block block' : List ℕ) (number number' count' : ℕ) (xs : List ℕ)
-    → 0 < count' → (number ≡ number' → 2 ^ 40 ≤ 1) → block' ≡ block ++ number ∷ [] → Keeps start out (waiting width block number 1) xs → Keeps start out (waiting width block' number' count') (xs ++ replicate count' number')
-keeps_packed start out width block block' number number' count' xs some ends e k =
-    let n : length block' ≡ length block + 1 = ap length e ∙ length-append block (number ∷ []) in
-    let filled : width * filled_up (length block') ≤ width * (filled_up (length block) + 8) = mul-le width _ width _ (omega arith) (omega (arith, n)) in
-    let sum : width * (filled_up (length block) + 8) ≡ width * filled_up (length block) + 8 * width = omega arith in
-    let one : stretch_bits width * 1 ≡ 14 * width + 152 = omega arith in
-    keeps_settled start out out width block block' number 1 number' count' xs some ends (omega (arith, filled, sum, one))
-    (λ start' ys w. subst (λ (b : List ℕ). Wrote width start' out b (ys ++ number ∷ [])) (sym e) (wrote_push width start' out block ys number w))
+-- how many bits a few copies in the block take
+few_taken : (w count : ℕ) (out block block' : List ℕ) → count ≤ 8 → length block' ≡ length block + count → Takes w out block out block' (stretch_bits w * one_if_any count)
+few_taken w zero out block block' few n =
+    let same : length block' ≡ length block = omega (arith, n) in
+    let filled : w * filled_up (length block') ≡ w * filled_up (length block) = ap (λ (k : ℕ). w * filled_up k) same in
+    omega (arith, filled)
+few_taken w (suc c) out block block' few n =
+    let filled : w * filled_up (length block') ≤ w * (filled_up (length block) + 8) = mul-le w _ w _ (omega arith) (omega (arith, n, few)) in
+    let sum : w * (filled_up (length block) + 8) ≡ w * filled_up (length block) + 8 * w = omega arith in
+    let one : stretch_bits w * 1 ≡ 14 * w + 152 = omega arith in
+    omega (arith, filled, sum, one)
+
+-- the number that waited, of which there are few copies, goes into the block, and another one waits
+pub keeps_packed : (start out : List ℕ) (width : ℕ) (block block' : List ℕ) (number count number' count' : ℕ) (xs : List ℕ)
+    → 0 < count' → (number ≡ number' → 2 ^ 40 ≤ count) → count ≤ 8 → block' ≡ block ++ replicate count number → Keeps start out (waiting width block number count) xs → Keeps start out (waiting width block' number' count') (xs ++ replicate count' number')
+keeps_packed start out width block block' number count number' count' xs some ends few e k =
+    let n : length block' ≡ length block + count = ap length e ∙ length-append block (replicate count number) ∙ ap (λ (j : ℕ). length block + j) (length-replicate count number) in
+    keeps_settled start out out width block block' number count number' count' xs some ends (few_taken width count out block block' few n)
+    (λ start' ys w. subst (λ (b : List ℕ). Wrote width start' out b (ys ++ replicate count number)) (sym e) (wrote_more width start' out block ys (replicate count number) w))
     (λ start' done t. (done, omega (arith, n), t)) k
+
+-- one number more of a list
+pub numbers_on : (start out : List ℕ) (w : Waiting) (xs numbers : List ℕ) (i number : ℕ) → i < length numbers → number ≡ get_or numbers i 0 → Keeps start out w ((xs ++ take i numbers) ++ number ∷ []) → Keeps start out w (xs ++ take (i + 1) numbers)
+numbers_on start out w xs numbers i number l e k =
+    subst (λ (t : List ℕ). Keeps start out w t) (append_assoc xs (take i numbers) (number ∷ []) ∙ ap (λ (t : List ℕ). xs ++ t) (ap (λ (x : ℕ). take i numbers ++ x ∷ []) e ∙ sym (take_more numbers i 0 l))) k
 
 -- some of the copies and the others
 pub copies_on : (start out : List ℕ) (w : Waiting) (xs : List ℕ) (number m n all : ℕ) → m + n ≡ all → Keeps start out w ((xs ++ replicate m number) ++ replicate n number) → Keeps start out w (xs ++ replicate all number)

@@ -10,6 +10,7 @@ pub mod Fuel
 pub mod Groups
 pub mod Items
 pub mod Kept
+pub mod Mixed
 pub mod Packs
 pub mod Settling
 pub mod Short

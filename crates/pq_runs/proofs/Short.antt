@@ -10,7 +10,7 @@ use Rattle.pq_runs.proofs.Steps.{replicate-append}
 -- ---- stretches
 
 -- one number more behind a last one
-stretches-push : (xs : List ℕ) (x v : ℕ) → stretches ((xs ++ x ∷ []) ++ v ∷ []) ≡ stretches (xs ++ x ∷ []) + cond (x == v) 0 1
+pub stretches-push : (xs : List ℕ) (x v : ℕ) → stretches ((xs ++ x ∷ []) ++ v ∷ []) ≡ stretches (xs ++ x ∷ []) + cond (x == v) 0 1
 stretches-push [] x v = omega arith
 stretches-push (a ∷ []) x v = omega arith
 stretches-push (a ∷ b ∷ xs) x v = ap (λ (k : ℕ). cond (a == b) 0 1 + k) (stretches-push (b ∷ xs) x v) ∙ omega arith

@@ -37,12 +37,12 @@ wrote_begin w start = record {
   closed = λ rest vs r. r;
 }
 
-pub wrote_push : (w : ℕ) (start out pending xs : List ℕ) (v : ℕ) → Wrote w start out pending xs → Wrote w start out (pending ++ v ∷ []) (xs ++ v ∷ [])
-wrote_push w start out pending xs v s = record {
+pub wrote_more : (w : ℕ) (start out pending xs ys : List ℕ) → Wrote w start out pending xs → Wrote w start out (pending ++ ys) (xs ++ ys)
+wrote_more w start out pending xs ys s = record {
   text = s.text;
   done = s.done;
   parts = s.parts;
-  all = sym (append_assoc s.done pending (v ∷ [])) ∙ ap (λ (t : List ℕ). t ++ v ∷ []) s.all;
+  all = sym (append_assoc s.done pending ys) ∙ ap (λ (t : List ℕ). t ++ ys) s.all;
   closed = s.closed;
 }
 
@@ -120,7 +120,7 @@ pub wrote_one : (w : ℕ) (start out pending xs : List ℕ) (v count left : ℕ)
 wrote_one w start out pending xs v count left some most s =
     let e : count - (left - 1) ≡ count - left + 1 = omega arith in
     let all : (xs ++ replicate (count - left) v) ++ v ∷ [] ≡ xs ++ replicate (count - (left - 1)) v = append_assoc xs (replicate (count - left) v) (v ∷ []) ∙ ap (λ (t : List ℕ). xs ++ t) (replicate-append (count - left) 1 v ∙ ap (λ (k : ℕ). replicate k v) (sym e)) in
-    subst (λ (ys : List ℕ). Wrote w start out (pending ++ v ∷ []) ys) all (wrote_push w start out pending (xs ++ replicate (count - left) v) v s)
+    subst (λ (ys : List ℕ). Wrote w start out (pending ++ v ∷ []) ys) all (wrote_more w start out pending (xs ++ replicate (count - left) v) (v ∷ []) s)
 
 -- all that are left
 pub wrote_left : (w : ℕ) (start out out' xs value : List ℕ) (v count left : ℕ) → 0 < w → v < 2 ^ w → 0 < left → left ≤ count → count < 2 ^ 62 → IsWhole w v value → out' ≡ out ++ (varint (2 * left) ++ value) → Wrote w start out [] (xs ++ replicate (count - left) v) → Wrote w start out' [] (xs ++ replicate count v)

@@ -1,6 +1,6 @@
 //! Packing whole groups of eight numbers of at most eight bits.
 
-ghost use Rattle.std.specs.Prelude.{◌≡◌, ◌<◌, ◌≤◌, ◌^◌, ◌+◌, ◌-◌, ◌*◌, ◌%◌, ◌++◌, ℕ, List, length, drop, OnOk, All};
+ghost use Rattle.std.specs.Prelude.{◌≡◌, ◌<◌, ◌≤◌, ◌^◌, ◌+◌, ◌-◌, ◌*◌, ◌%◌, ◌++◌, ℕ, List, length, take, drop, OnOk, All};
 ghost use Rattle.pq_numbers.specs.Texts.{number_of};
 ghost use Rattle.pq_runs.specs.Packing.{ArePacked};
 ghost use Rattle.pq_runs.specs.Writing.{Extends};
@@ -46,16 +46,26 @@ fn word_of(numbers: [u32; 8], width: u32) -> u64
     with_below(word, seven, a, width)
 }
 
-// Appends eight numbers.
+// Eight bytes take their places, and those before them stay.
 #[inline(always)]
-fn push_group(out: &mut Vec<u8>, numbers: [u32; 8], width: u32) -> Result<(), AllocError>
-    requires fits { width ≤ 8 }
-    requires below { All (λ v. v < 2 ^ width) numbers }
-    ensures ok { OnOk result ((text : List ℕ) × (out.new.items ≡ out.old.items ++ text) × (length text ≡ width) × (number_of text ≡ word_of width numbers)) }
-    ensures kept { Extends out.old.items out.new.items }
+fn put_bytes(places: &mut [u8], at: usize, bytes: [u8; 8])
+    requires { at + 8 ≤ length places.old }
+    ensures len { length places.new ≡ length places.old }
+    ensures front { take (at + 8) places.new ≡ take at places.old ++ bytes }
 {
-    let bytes = word_of(numbers, width).to_le_bytes();
-    out.extend_from_slice(&bytes[..width as usize])
+    places[at..at + 8].copy_from_slice(&bytes);
+}
+
+// Eight numbers take their places, and the bytes before them stay. Some bytes behind them may change.
+#[inline(always)]
+fn put_group(places: &mut [u8], at: usize, numbers: [u32; 8], width: u32)
+    requires fits { width ≤ 8 }
+    requires room { at + 8 ≤ length places.old }
+    requires below { All (λ v. v < 2 ^ width) numbers }
+    ensures len { length places.new ≡ length places.old }
+    ensures put { (text : List ℕ) × (take (at + width) places.new ≡ take at places.old ++ text) × (length text ≡ width) × (number_of text ≡ word_of width numbers) }
+{
+    put_bytes(places, at, word_of(numbers, width).to_le_bytes());
 }
 
 // The first eight numbers.
@@ -80,19 +90,35 @@ fn behind_eight(numbers: &[u32]) -> &[u32]
     &numbers[8..]
 }
 
-// Appends whole groups of numbers, a word of eight at once.
+// Whole groups of numbers stand from the front on, in so many bytes.
+fn put_groups(places: &mut [u8], numbers: &[u32], width: u32) -> usize
+    requires fits { width ≤ 8 }
+    requires few { length numbers.now ≤ length places.old }
+    requires whole { length numbers.now % 8 ≡ 0 }
+    requires below { All (λ v. v < 2 ^ width) numbers.now }
+    ensures within { result ≤ length places.new }
+    ensures are { ArePacked width numbers.now (take result places.new) }
+{
+    let mut rest = numbers;
+    let mut at = 0;
+    while rest.len() >= 8 {
+        put_group(places, at, first_eight(rest), width);
+        rest = behind_eight(rest);
+        at += width as usize;
+    }
+    at
+}
+
+// Appends whole groups of numbers, which are spelled before they are appended, a word of eight at once.
 pub fn push_narrow(out: &mut Vec<u8>, numbers: &[u32], width: u32) -> Result<(), AllocError>
     requires fits { width ≤ 8 }
+    requires few { length numbers.now ≤ 504 }
     requires whole { length numbers.now % 8 ≡ 0 }
     requires below { All (λ v. v < 2 ^ width) numbers.now }
     ensures ok { OnOk result ((text : List ℕ) × (out.new.items ≡ out.old.items ++ text) × ArePacked width numbers.now text) }
     ensures kept { Extends out.old.items out.new.items }
 {
-    let mut rest = numbers;
-    while rest.len() >= 8 {
-        let eight = first_eight(rest);
-        push_group(out, eight, width)?;
-        rest = behind_eight(rest);
-    }
-    Ok(())
+    let mut places = [0; 504];
+    let size = put_groups(&mut places, numbers, width);
+    out.extend_from_slice(&places[..size])
 }

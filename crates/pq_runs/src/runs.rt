@@ -14,6 +14,7 @@ use std::alloc::AllocError;
 // Whole groups of packed numbers, by words of eight where they are narrow.
 fn push_body(out: &mut Vec<u8>, numbers: &[u32], width: u32) -> Result<(), AllocError>
     requires fits { width ≤ 32 }
+    requires few { length numbers.now ≤ 504 }
     requires whole { length numbers.now % 8 ≡ 0 }
     requires below { All (λ v. v < 2 ^ width) numbers.now }
     ensures ok { OnOk result ((text : List ℕ) × (out.new.items ≡ out.old.items ++ text) × ArePacked width numbers.now text) }

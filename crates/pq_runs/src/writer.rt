@@ -1,13 +1,13 @@
 //! A writer of runs.
 
-ghost use Rattle.std.specs.Prelude.{◌≡◌, ◌<◌, ◌≤◌, ◌^◌, ◌+◌, ◌-◌, ◌*◌, ◌++◌, ℕ, List, [], ◌∷◌, length, replicate, OnOk, All};
+ghost use Rattle.std.specs.Prelude.{◌≡◌, ◌==◌, ◌<◌, ◌≤◌, ◌^◌, ◌+◌, ◌-◌, ◌*◌, ◌++◌, ℕ, List, [], ◌∷◌, length, replicate, get_or, cond, OnOk, All, IsTrue};
 ghost use Rattle.pq_runs.specs.WrittenRuns.{WrittenRuns};
 ghost use Rattle.pq_runs.specs.Writing.{Extends, Wrote, Keeps, AppendsRuns};
-ghost use Rattle.pq_runs.specs.Stretches.{filled_up};
+ghost use Rattle.pq_runs.specs.Stretches.{filled_up, stretches};
 
 use crate::block::Block;
 use crate::runs::push_groups;
-use crate::settle::settle;
+use crate::settle::{front, pack, settle};
 use std::alloc::AllocError;
 use std::marker::Model;
 
@@ -51,6 +51,7 @@ impl RunWriter {
     }
 
     // Some copies of a number, at most MOST_COPIES.
+    #[inline(always)]
     pub(crate) fn push_some(
         &mut self,
         out: &mut Vec<u8>,
@@ -68,8 +69,8 @@ impl RunWriter {
             self.count += count;
             return Ok(());
         }
-        if self.count == 1 && self.block.len() < 503 {
-            self.block.push(self.number);
+        if self.count <= 8 && self.block.len() < 496 {
+            self.block.push_few(self.number, self.count as usize);
             self.number = number;
             self.count = count;
             return Ok(());
@@ -84,6 +85,23 @@ impl RunWriter {
         Ok(())
     }
 
+    // So many copies of a number, MOST_COPIES at once.
+    #[cold]
+    fn push_many(&mut self, out: &mut Vec<u8>, number: u32, count: u64) -> Result<(), AllocError>
+        requires low { number < 2 ^ self.old.width }
+        ensures width { self.new.width ≡ self.old.width }
+        ensures added { OnOk result ((start xs : List ℕ) → Keeps start out.old.items self.old xs → Keeps start out.new.items self.new (xs ++ replicate count number)) }
+        ensures kept { Extends out.old.items out.new.items }
+    {
+        let mut left = count;
+        while left > 0 {
+            let some = left.min(MOST_COPIES);
+            self.push_some(out, number, some)?;
+            left -= some;
+        }
+        Ok(())
+    }
+
     /// Takes so many copies of a number. None change nothing.
     ///
     /// # Errors
@@ -95,13 +113,74 @@ impl RunWriter {
         ensures added { OnOk result ((start xs : List ℕ) → Keeps start out.old.items self.old xs → Keeps start out.new.items self.new (xs ++ replicate count number)) }
         ensures kept { Extends out.old.items out.new.items }
     {
-        let mut left = count as u64;
-        while left > 0 {
-            let some = left.min(MOST_COPIES);
-            self.push_some(out, number, some)?;
-            left -= some;
+        let count = count as u64;
+        if count == 0 || count > MOST_COPIES {
+            return self.push_many(out, number, count);
+        }
+        self.push_some(out, number, count)
+    }
+
+    // Numbers one after another, not all of which are equal.
+    fn push_others(&mut self, out: &mut Vec<u8>, numbers: &[u32]) -> Result<(), AllocError>
+        requires low { All (λ v. v < 2 ^ self.old.width) numbers.now }
+        ensures width { self.new.width ≡ self.old.width }
+        ensures added { OnOk result ((start xs : List ℕ) → Keeps start out.old.items self.old xs → Keeps start out.new.items self.new (xs ++ numbers.now)) }
+        ensures kept { Extends out.old.items out.new.items }
+    {
+        for number in numbers {
+            self.push_some(out, *number, 1)?;
         }
         Ok(())
+    }
+
+    // Numbers of many short stretches, which are packed as they stand. The last one waits.
+    fn push_mixed(&mut self, out: &mut Vec<u8>, numbers: &[u32]) -> Result<(), AllocError>
+        requires low { All (λ v. v < 2 ^ self.old.width) numbers.now }
+        requires some { 1 ≤ length numbers.now }
+        requires few { length numbers.now ≤ 504 }
+        requires mixed { length numbers.now + 34 ≤ 14 * stretches numbers.now }
+        ensures width { self.new.width ≡ self.old.width }
+        ensures added { OnOk result ((start xs : List ℕ) → Keeps start out.old.items self.old xs → Keeps start out.new.items self.new (xs ++ numbers.now)) }
+        ensures kept { Extends out.old.items out.new.items }
+    {
+        let rest = numbers.len() - 1;
+        let settled = settle(out, &mut self.block, self.number, self.count, self.width);
+        if settled.is_err() {
+            self.block.clear();
+            return settled;
+        }
+        let packed = pack(out, &mut self.block, front(numbers, rest), self.width);
+        if packed.is_err() {
+            self.block.clear();
+            return packed;
+        }
+        self.number = numbers[rest];
+        self.count = 1;
+        Ok(())
+    }
+
+    /// Takes numbers one after another.
+    ///
+    /// # Errors
+    ///
+    /// Want of memory; the writer is then of no more use, and `out` has what it had in front.
+    pub fn push_each(&mut self, out: &mut Vec<u8>, numbers: &[u32]) -> Result<(), AllocError>
+        requires low { All (λ v. v < 2 ^ self.old.width) numbers.now }
+        ensures width { self.new.width ≡ self.old.width }
+        ensures added { OnOk result ((start xs : List ℕ) → Keeps start out.old.items self.old xs → Keeps start out.new.items self.new (xs ++ numbers.now)) }
+        ensures kept { Extends out.old.items out.new.items }
+    {
+        if numbers.is_empty() {
+            return Ok(());
+        }
+        let first = numbers[0];
+        if are_all(numbers, first) {
+            return self.push(out, first, numbers.len());
+        }
+        if are_mixed(numbers, first) {
+            return self.push_mixed(out, numbers);
+        }
+        self.push_others(out, numbers)
     }
 
     /// Writes what waits. What was appended since the start is then written runs of all numbers that were given: whole groups, the last filled up
@@ -117,6 +196,54 @@ impl RunWriter {
         settle(out, &mut self.block, self.number, self.count, self.width)?;
         push_last(out, &mut self.block, self.width)
     }
+}
+
+// Whether all of the numbers are one and the same.
+fn are_all(numbers: &[u32], number: u32) -> bool
+    ensures { IsTrue result → numbers.now ≡ replicate (length numbers.now) number }
+{
+    let mut same = true;
+    for other in numbers {
+        same &= *other == number;
+    }
+    same
+}
+
+// 1 where a number differs from the one before it.
+#[inline(always)]
+fn differs(last: u32, number: u32) -> u32
+    ensures value { result ≡ cond (last == number) 0 1 }
+    ensures most { result ≤ 1 }
+{
+    if last == number { 0 } else { 1 }
+}
+
+// How many stretches of equal numbers stand side by side, with one more number in front.
+fn count_stretches(numbers: &[u32], first: u32) -> u32
+    requires { length numbers.now ≤ 504 }
+    ensures value { result ≡ stretches (first ∷ numbers.now) }
+    ensures most { result ≤ 505 }
+{
+    let mut count = 1;
+    let mut last = first;
+    for number in numbers {
+        count += differs(last, *number);
+        last = *number;
+    }
+    count
+}
+
+// Whether so few numbers are in so many stretches that they are best packed as they stand: less than five numbers a stretch.
+fn are_mixed(numbers: &[u32], first: u32) -> bool
+    requires some { 1 ≤ length numbers.now }
+    requires first { first ≡ get_or numbers.now 0 0 }
+    ensures few { IsTrue result → length numbers.now ≤ 504 }
+    ensures mixed { IsTrue result → length numbers.now + 34 ≤ 14 * stretches numbers.now }
+{
+    if numbers.len() > 504 {
+        return false;
+    }
+    7 * count_stretches(numbers, first) as usize >= numbers.len() + 34
 }
 
 // Writes the block, behind which nothing comes. Its last group is filled up.

@@ -5,3 +5,7 @@ pub mod Standing
 pub mod PlainRead
 pub mod TextsStored
 pub mod FrontsRead
+pub mod EqualBits
+pub mod SetBits
+pub mod MixedNumbers
+pub mod MixedStrings

@@ -77,15 +77,19 @@ module _ (loaded : ℤ → Option ℤ) (spelled : List ℕ → ℤ) (size : ℕ)
   all-split : (n : ℕ) (bytes rest : List ℕ) → 0 < size → n ≤ length bytes / size → rest ≡ drop (size * n) bytes → all_numbers spelled size bytes ≡ plain_numbers spelled size n bytes ++ all_numbers spelled size rest
   all-split n bytes rest some h e = rw e (ap (λ (k : ℕ). plain_numbers spelled size k bytes) (behind n bytes some h) ∙ numbers-split n (length (drop (size * n) bytes) / size) bytes)
 
-  pub decoded : (n : ℕ) (bytes rest : List ℕ) (zs zs' : List ℤ) (bs bs' : List Bool) → 0 < size → n ≤ length bytes / size → length zs ≡ length bs → TookNumbers loaded spelled size n bytes rest zs zs' → bs' ≡ bs ++ replicate n true → Decodes n (stored_numbers loaded spelled size bytes) (stored_numbers loaded spelled size rest) (number_slots zs bs) (number_slots zs' bs')
-  decoded n bytes rest zs zs' bs bs' some h even t b =
+  -- the stored values of numbers that were taken, and those behind them
+  pub taken-front : (n : ℕ) (bytes rest : List ℕ) (zs zs' : List ℤ) → 0 < size → n ≤ length bytes / size → (t : TookNumbers loaded spelled size n bytes rest zs zs') → stored_numbers loaded spelled size bytes ≡ map Some (map number t.numbers) ++ stored_numbers loaded spelled size rest
+  taken-front n bytes rest zs zs' some h t =
       let front : map (loaded_value loaded) (plain_numbers spelled size n bytes) ≡ map Some (map number t.numbers) = loaded-values loaded (plain_numbers spelled size n bytes) ∙ (ap (map (option_map number)) t.are ∙ some-numbers t.numbers) in
-      record {
-        values = map number t.numbers;
-        size = length-map t.numbers number ∙ t.count;
-        taken = ap (map (loaded_value loaded)) (all-split n bytes rest some h t.behind) ∙ (map-append (loaded_value loaded) (plain_numbers spelled size n bytes) (all_numbers spelled size rest) ∙ ap (λ (u : List Stored). u ++ map (loaded_value loaded) (all_numbers spelled size rest)) front);
-        pushed = rw (t.pushed, b) (slots-more zs t.numbers bs (replicate n true) even ∙ ap (λ (u : List Slot). number_slots zs bs ++ u) (rw t.count at (slots-there t.numbers)));
-      }
+      ap (map (loaded_value loaded)) (all-split n bytes rest some h t.behind) ∙ (map-append (loaded_value loaded) (plain_numbers spelled size n bytes) (all_numbers spelled size rest) ∙ ap (λ (u : List Stored). u ++ map (loaded_value loaded) (all_numbers spelled size rest)) front)
+
+  pub decoded : (n : ℕ) (bytes rest : List ℕ) (zs zs' : List ℤ) (bs bs' : List Bool) → 0 < size → n ≤ length bytes / size → length zs ≡ length bs → TookNumbers loaded spelled size n bytes rest zs zs' → bs' ≡ bs ++ replicate n true → Decodes n (stored_numbers loaded spelled size bytes) (stored_numbers loaded spelled size rest) (number_slots zs bs) (number_slots zs' bs')
+  decoded n bytes rest zs zs' bs bs' some h even t b = record {
+    values = map number t.numbers;
+    size = length-map t.numbers number ∙ t.count;
+    taken = taken-front n bytes rest zs zs' some h t;
+    pushed = rw (t.pushed, b) (slots-more zs t.numbers bs (replicate n true) even ∙ ap (λ (u : List Slot). number_slots zs bs ++ u) (rw t.count at (slots-there t.numbers)));
+  }
 
   pub too-few : (n : ℕ) (bytes : List ℕ) → length bytes / size < n → length (stored_numbers loaded spelled size bytes) < n
   too-few n bytes h = rw (length-map (all_numbers spelled size bytes) (loaded_value loaded), length-numbers (length bytes / size) bytes) h

@@ -1,7 +1,7 @@
 -- Plain numbers, one after another.
 use Rattle.std.proofs.Common.{◌≡◌, ℕ, suc, ◌+◌, ◌-◌, ◌*◌, ◌<◌, ◌≤◌, ℤ, Option, Some, None, List, [], ◌∷◌, ◌++◌, map, length, take, drop, refl, arith, ap, sym, ◌∙◌, append_assoc, append-nil, length-append}
 use Rattle.std.proofs.lemmas.List.{map-append, length-drop, drop-drop}
-use Rattle.read_leaf.specs.Numbers.{plain_numbers, TookNumbers, OneIsOutside}
+use Rattle.read_leaf.specs.Numbers.{plain_numbers, OneIsOutside}
 
 module _ (loaded : ℤ → Option ℤ) (spelled : List ℕ → ℤ) (size : ℕ) where
   -- so many numbers taken, of n
@@ -44,17 +44,6 @@ module _ (loaded : ℤ → Option ℤ) (spelled : List ℕ → ℤ) (size : ℕ)
         others = map loaded (plain_numbers spelled size (n - (i + 1)) (drop size rest));
         are = r.are ∙ ap (λ (t : List (Option ℤ)). map Some r.numbers ++ t) more;
         within = omega (arith, r.count, h);
-      }
-
-  pub all-read : (i n : ℕ) (bytes rest : List ℕ) (old new : List ℤ) → i ≡ n → IsReading i n bytes rest old new → TookNumbers loaded spelled size n bytes rest old new
-  all-read i n bytes rest old new e r =
-      let none : n - i ≡ 0 = omega (arith, e) in
-      record {
-        numbers = r.numbers;
-        count = r.count ∙ e;
-        are = (rw none at r.are) ∙ append-nil (map Some r.numbers);
-        pushed = r.pushed;
-        behind = r.behind ∙ ap (λ (k : ℕ). drop (size * k) bytes) e;
       }
 
   pub enough-left : (i n : ℕ) (bytes rest : List ℕ) → i < n → size * n ≤ length bytes → rest ≡ drop (size * i) bytes → size ≤ length rest

@@ -1,5 +1,5 @@
 -- Strings that stand in bytes, and strings as slots.
-use Rattle.std.proofs.Common.{◌≡◌, ◌⊎◌, ◌↔◌, inl, inr, ℕ, zero, suc, ◌+◌, ◌<◌, ◌≤◌, nat_lt, Bool, true, false, Option, Some, None, List, [], ◌∷◌, ◌++◌, map, length, take, drop, replicate, refl, arith, ap, sym, ◌∙◌, append_assoc, append-nil, length-append}
+use Rattle.std.proofs.Common.{◌≡◌, ◌⊎◌, ◌↔◌, inl, inr, ℕ, zero, suc, ◌+◌, ◌<◌, ◌≤◌, nat_lt, Bool, true, false, Option, Some, None, List, [], ◌∷◌, ◌++◌, map, length, take, drop, replicate, refl, arith, ap, sym, ◌∙◌, append_assoc, length-append}
 use Rattle.std.proofs.Common.{IsTrue}
 use Rattle.std.proofs.lemmas.Bool.{cases_lt}
 use Rattle.std.proofs.lemmas.Bool.Decides.{leb_tells}
@@ -72,13 +72,6 @@ pub one-stands : (text : List ℕ) (s rest : List ℕ) → string_at text ≡ So
 one-stands text s rest e = some-in (length text) text (s, rest) (omega arith) e
 
 -- ---- slots
-pub there-more : (ss : List (List ℕ)) (bs : List Bool) (s : List ℕ) → length ss ≡ length bs → string_slots (ss ++ s ∷ []) (bs ++ true ∷ []) ≡ string_slots ss bs ++ value (bytes s) ∷ []
-there-more [] [] s e = refl
-there-more [] (b ∷ bs) s e = absurd (omega (arith, e))
-there-more (t ∷ ss) [] s e = absurd (omega (arith, e))
-there-more (t ∷ ss) (true ∷ bs) s e = ap (λ (u : List Slot). value (bytes t) ∷ u) (there-more ss bs s (omega (arith, e)))
-there-more (t ∷ ss) (false ∷ bs) s e = ap (λ (u : List Slot). null ∷ u) (there-more ss bs s (omega (arith, e)))
-
 all-null : (n : ℕ) → string_slots (replicate n []) (replicate n false) ≡ replicate n null
 all-null zero = refl
 all-null (suc n) = ap (λ (u : List Slot). null ∷ u) (all-null n)
@@ -94,12 +87,6 @@ total-empty : (n : ℕ) → total_bytes (replicate n []) ≡ 0
 total-empty zero = refl
 total-empty (suc n) = omega (arith, total-empty n)
 
-pub are-more : (ss ss' : List (List ℕ)) (bs bs' : List Bool) (s : List ℕ) → AreStrings ss bs → ss' ≡ ss ++ s ∷ [] → bs' ≡ bs ++ true ∷ [] → AreStrings ss' bs'
-are-more ss ss' bs bs' s a e f = rw (e, f) record {
-  even = omega (arith, length-append ss (s ∷ []), length-append bs (true ∷ []), a.even);
-  all = ap bytes_in (there-more ss bs s a.even) ∙ omega (arith, slots-append (string_slots ss bs) (value (bytes s) ∷ []), total-append ss (s ∷ []), a.all);
-}
-
 pub are-nulls : (n : ℕ) (ss ss' : List (List ℕ)) (bs bs' : List Bool) → AreStrings ss bs → ss' ≡ ss ++ replicate n [] → bs' ≡ bs ++ replicate n false → AreStrings ss' bs'
 are-nulls n ss ss' bs bs' a e f = rw (e, f) record {
   even = omega (arith, length-append ss (replicate n []), length-append bs (replicate n false), length-replicate {A = List ℕ} n [], length-replicate n false, a.even);
@@ -107,10 +94,6 @@ are-nulls n ss ss' bs bs' a e f = rw (e, f) record {
 }
 
 -- ---- strings that are values
-pub allowed-more : (allows : List ℕ → Bool) (ss : List (List ℕ)) (s : List ℕ) → AreAllowed allows ss → allows s ≡ true → AreAllowed allows (ss ++ s ∷ [])
-allowed-more allows [] s a e = (e, tt)
-allowed-more allows (t ∷ ss) s a e = (a.0, allowed-more allows ss s a.1 e)
-
 all-allowed : (allows : List ℕ → Bool) (n : ℕ) → allows [] ≡ true → AreAllowed allows (replicate n [])
 all-allowed allows zero e = tt
 all-allowed allows (suc n) e = (e, all-allowed allows n e)
@@ -126,9 +109,6 @@ allowed allows text s rest e a = rw (one-stands text s rest e, a) refl
 pub refused : (allows : List ℕ → Bool) (text s rest : List ℕ) → string_at text ≡ Some (s, rest) → allows s ≡ false → stored_strings allows text ≡ None ∷ stored_strings allows rest
 refused allows text s rest e a = rw (one-stands text s rest e, a) refl
 
-pub decodes-string : (allows : List ℕ → Bool) (text s rest : List ℕ) (slots slots' : List Slot) → string_at text ≡ Some (s, rest) → allows s ≡ true → slots' ≡ slots ++ value (bytes s) ∷ [] → Decodes 1 (stored_strings allows text) (stored_strings allows rest) slots slots'
-decodes-string allows text s rest slots slots' e a p = record { values = bytes s ∷ []; size = refl; taken = allowed allows text s rest e a; pushed = p }
-
 pub string-missing : (limit : ℕ) (allows : List ℕ → Bool) (text : List ℕ) (slots : List Slot) → string_at text ≡ None → CannotDecode limit 1 (stored_strings allows text) slots (OutOfSpec S6)
 string-missing limit allows text slots e = inr (inl (refl, rw (none-stand text e) (omega arith)))
 
@@ -142,21 +122,18 @@ string-long limit allows text s rest slots e is a why = elim why [
 ]
 
 -- ---- one after another
-pub none-decoded : (left : List Stored) (slots : List Slot) → Decodes 0 left left slots slots
-none-decoded left slots = record { values = []; size = refl; taken = refl; pushed = sym (append-nil slots) }
-
-pub decodes-more : (n : ℕ) (left left1 left2 : List Stored) (slots slots1 slots2 : List Slot) → Decodes n left left1 slots slots1 → Decodes 1 left1 left2 slots1 slots2 → Decodes (n + 1) left left2 slots slots2
-decodes-more n left left1 left2 slots slots1 slots2 a b = record {
+pub decodes-more : (n m : ℕ) (left left1 left2 : List Stored) (slots slots1 slots2 : List Slot) → Decodes n left left1 slots slots1 → Decodes m left1 left2 slots1 slots2 → Decodes (n + m) left left2 slots slots2
+decodes-more n m left left1 left2 slots slots1 slots2 a b = record {
   values = a.values ++ b.values;
   size = omega (arith, length-append a.values b.values, a.size, b.size);
   taken = a.taken ∙ (ap (λ (t : List Stored). map Some a.values ++ t) b.taken ∙ (sym (append_assoc (map Some a.values) (map Some b.values) left2) ∙ ap (λ (t : List Stored). t ++ left2) (sym (map-append Some a.values b.values))));
   pushed = b.pushed ∙ (ap (λ (t : List Slot). t ++ map value b.values) a.pushed ∙ (append_assoc slots (map value a.values) (map value b.values) ∙ ap (λ (t : List Slot). slots ++ t) (sym (map-append value a.values b.values))));
 }
 
-pub cannot-next : (limit n count : ℕ) (left left1 : List Stored) (slots slots1 : List Slot) (e : Error) → n < count → Decodes n left left1 slots slots1 → CannotDecode limit 1 left1 slots1 e → CannotDecode limit count left slots e
-cannot-next limit n count left left1 slots slots1 e h d c =
+pub cannot-next : (limit n m count : ℕ) (left left1 : List Stored) (slots slots1 : List Slot) (e : Error) → n + m ≤ count → Decodes n left left1 slots slots1 → CannotDecode limit m left1 slots1 e → CannotDecode limit count left slots e
+cannot-next limit n m count left left1 slots slots1 e h d c =
     let bytes' : bytes_in slots1 ≡ bytes_in slots + bytes_of d.values = ap bytes_in d.pushed ∙ (slots-append slots (map value d.values) ∙ ap (λ (k : ℕ). bytes_in slots + k) (slots-values d.values)) in
-    cannot-more limit (length d.values + 1) count left slots e (omega (arith, d.size, h)) (cannot-behind limit 1 d.values left left1 slots slots1 e d.taken bytes' c)
+    cannot-more limit (length d.values + m) count left slots e (omega (arith, d.size, h)) (cannot-behind limit m d.values left left1 slots slots1 e d.taken bytes' c)
 
 -- ---- UTF-8
 pub told : (s : List ℕ) (r : Bool) → (IsTrue r ↔ IsText s) → r ≡ is_utf8 s

@@ -1,8 +1,8 @@
 -- Plain numbers of fixed size, and what is decoded of them (Parquet format, Encodings, "Plain").
-use Rattle.std.specs.Prelude.{◌≡◌, ℕ, zero, suc, ◌*◌, ◌/◌, ◌-◌, ◌^◌, ◌<◌, nat_lt, ℤ, pos, negsuc, Bool, Option, Some, None, option_map, List, [], ◌∷◌, ◌++◌, map, length, take, drop, if◌then◌else◌}
+use Rattle.std.specs.Prelude.{◌≡◌, ℕ, zero, suc, ◌*◌, ◌/◌, ◌-◌, ◌^◌, ◌<◌, nat_lt, ℤ, pos, negsuc, Bool, true, false, Option, Some, None, option_map, List, [], ◌∷◌, ◌++◌, map, length, take, drop, if◌then◌else◌}
 use Rattle.std.specs.Int.{Width, cast_unsigned}
 use Rattle.shredding.specs.Slot.{number, Slot, null, value}
-use Rattle.read_walk.specs.Values.{Stored}
+use Rattle.read_walk.specs.Values.{Stored, ones, spread}
 
 -- the first n numbers of so many bytes each
 abbrev pub plain_numbers : (List ℕ → ℤ) → ℕ → ℕ → List ℕ → List ℤ
@@ -53,3 +53,17 @@ pub record OneIsOutside (loaded : ℤ → Option ℤ) (spelled : List ℕ → �
   pub others : List (Option ℤ)
   pub are : map loaded (plain_numbers spelled size n bytes) ≡ map Some numbers ++ (None ∷ others)
   pub within : length numbers < n
+
+-- the next number taken from the bytes where it is there, else none
+abbrev pub TookOne : (ℤ → Option ℤ) → (List ℕ → ℤ) → ℕ → Bool → List ℕ → List ℕ → ℤ → Type 0
+TookOne loaded spelled size true bytes rest z = (loaded (spelled (take size bytes)) ≡ Some z) × (rest ≡ drop size bytes)
+TookOne loaded spelled size false bytes rest z = rest ≡ bytes
+
+-- a slot for each bit: the next number taken from the bytes where it is set
+pub record TookMixed (loaded : ℤ → Option ℤ) (spelled : List ℕ → ℤ) (size : ℕ) (bits : List Bool) (bytes rest : List ℕ) (old new : List ℤ) : Type 0 where
+  pub numbers : List ℤ
+  pub took : TookNumbers loaded spelled size (ones bits) bytes rest [] numbers
+  pub among : List ℤ
+  pub even : length among ≡ length bits
+  pub stand : number_slots among bits ≡ spread bits (map number numbers)
+  pub pushed : new ≡ old ++ among

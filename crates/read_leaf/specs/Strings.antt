@@ -1,10 +1,12 @@
 -- Plain byte strings, and what is decoded of them (Parquet format, Encodings, "Plain"; Arrow columnar format, "Variable-size Binary Layout").
-use Rattle.std.specs.Prelude.{◌≡◌, ℕ, zero, suc, ◌+◌, ◌<◌, ◌≤◌, Bool, true, nat_lt, Option, Some, None, List, [], ◌∷◌, map, length, take, drop, slice_index, if◌then◌else◌, IsUtf8}
+use Rattle.std.specs.Prelude.{◌≡◌, ℕ, zero, suc, ◌+◌, ◌<◌, ◌≤◌, Bool, true, nat_lt, Option, Some, None, List, [], ◌∷◌, ◌++◌, map, length, take, drop, slice_index, if◌then◌else◌, IsUtf8}
 use Rattle.shredding.specs.Slot.{bytes, Slot, null, value}
 use Rattle.columns_core.specs.Rising.{last_place}
 use Rattle.columns_slots.specs.Bytes.{pieces}
 use Rattle.pq_numbers.specs.Texts.{number_of}
-use Rattle.read_walk.specs.Values.{Stored, bytes_in}
+use Rattle.columns_base.specs.declared.error.Error.{Error}
+use Rattle.columns_core.specs.Bits.{word_bits}
+use Rattle.read_walk.specs.Values.{Stored, bytes_in, ones, spread, CannotDecode}
 
 -- ---- stored strings
 
@@ -65,3 +67,24 @@ AreAllowed allows (s ∷ ss) = (allows s ≡ true) × AreAllowed allows ss
 pub record AreStrings (ss : List (List ℕ)) (bs : List Bool) : Type 0 where
   pub even : length ss ≡ length bs
   pub all : bytes_in (string_slots ss bs) ≡ total_bytes ss
+
+-- a string for each bit: the next one that stands in the bytes where it is set, else an empty one
+pub record TookStrings (allows : List ℕ → Bool) (bits : List Bool) (text rest : List ℕ) (old new : List (List ℕ)) : Type 0 where
+  pub strings : List (List ℕ)
+  pub count : length strings ≡ ones bits
+  pub taken : stored_strings allows text ≡ map Some (map bytes strings) ++ stored_strings allows rest
+  pub among : List (List ℕ)
+  pub are : AreStrings among bits
+  pub allowed : AreAllowed allows among
+  pub stand : string_slots among bits ≡ spread bits (map bytes strings)
+  pub pushed : new ≡ old ++ among
+
+-- those of the first bits of a word
+pub record TookSome (allows : List ℕ → Bool) (valid most : ℕ) (text rest : List ℕ) (old new : List (List ℕ)) : Type 0 where
+  pub some : ℕ
+  pub within : some ≤ most
+  pub took : TookStrings allows (word_bits valid some) text rest old new
+
+-- an error for which the next n cannot be taken behind strings
+abbrev pub CannotTake : ℕ → ℕ → List Stored → List (List ℕ) → Error → Type 0
+CannotTake limit n left strings e = (slots : List Slot) → bytes_in slots ≡ total_bytes strings → CannotDecode limit n left slots e

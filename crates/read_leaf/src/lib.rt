@@ -7,6 +7,7 @@ mod cut;
 mod laws;
 mod loaded;
 mod primitive;
+mod set_bits;
 mod stored;
 mod strings;
 

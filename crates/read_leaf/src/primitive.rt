@@ -1,12 +1,14 @@
 //! Numbers of fixed size.
-ghost use Rattle.std.specs.Prelude.{◌≡◌, ◌⊎◌, ℕ, ℤ, List, ◌+◌, ◌*◌, ◌/◌, ◌<◌, ◌≤◌, ◌++◌, [], IfOk, OnOk, IfErr, MatchOption, Some, None, map, replicate, length as list_length, take, drop};
+ghost use Rattle.std.specs.Prelude.{◌≡◌, ◌⊎◌, ℕ, ℤ, List, ◌+◌, ◌*◌, ◌/◌, ◌<◌, ◌≤◌, ◌++◌, [], true, IfOk, OnOk, IfErr, MatchOption, Some, None, map, replicate, length as list_length, take, drop};
 ghost use Rattle.columns_base.specs.declared.error.Error.{Error};
 ghost use Rattle.columns_base.specs.declared.error.S.{S};
+ghost use Rattle.columns_core.specs.Bits.{word_bits};
 ghost use Rattle.shredding.specs.Slot.{null};
-ghost use Rattle.read_walk.specs.Values.{Decodes, CannotDecode};
-ghost use Rattle.read_leaf.specs.Numbers.{TookNumbers, OneIsOutside, number_slots, stored_numbers};
+ghost use Rattle.read_walk.specs.Values.{Decodes, DecodesMixed, ones, CannotDecode};
+ghost use Rattle.read_leaf.specs.Numbers.{TookNumbers, TookOne, TookMixed, OneIsOutside, number_slots, stored_numbers};
 
 use crate::cut::skip;
+use crate::set_bits::count_set;
 use crate::stored::{FromStored, StoredNumber};
 use columns_base::{Error, Result, S};
 use columns_core::MutableBitmap;
@@ -90,8 +92,44 @@ fn load<T: FromStored<P>, P: StoredNumber>(bytes: &[u8]) -> Option<T>
     T::from_stored(P::read(&bytes[..P::width()]))
 }
 
-// Appends the next `count` numbers, and gives the bytes behind them.
-fn append_numbers<'a, T: FromStored<P>, P: StoredNumber>(
+// As many equal numbers more.
+fn push_copies<T: Copy>(values: &mut Vec<T>, number: T, count: usize) -> Result<()>
+    ensures ok { OnOk result (values.new.items ≡ values.old.items ++ replicate count number) }
+    ensures kept { list_length values.old.items ≤ list_length values.new.items }
+    ensures err { IfErr result (λ e. e ≡ Error.Memory) }
+{
+    if count == 1 {
+        values.push(number)?;
+        return Ok(());
+    }
+    let Some(size) = values.len().checked_add(count) else {
+        return Err(Error::Memory);
+    };
+    values.resize(size, number)?;
+    Ok(())
+}
+
+// Writes the next numbers to the places, one to each, and gives the bytes behind them; none where one of them is none of the leaf.
+fn fill_numbers<'a, T: FromStored<P>, P: StoredNumber>(
+    places: &mut [T],
+    bytes: &'a [u8],
+) -> Option<&'a [u8]>
+    requires enough { P.byte_count * list_length places.old ≤ list_length bytes.now }
+    ensures { MatchOption result (OneIsOutside T.loaded P.spelled P.byte_count (list_length places.old) bytes.now) (λ rest. TookNumbers T.loaded P.spelled P.byte_count (list_length places.old) bytes.now rest.now [] (map T.loaded_number places.new)) }
+{
+    let mut rest = bytes;
+    for place in places.iter_mut() {
+        match load::<T, P>(rest) {
+            Some(number) => *place = number,
+            None => return None,
+        }
+        rest = skip(rest, P::width());
+    }
+    Some(rest)
+}
+
+// Appends the next `count` numbers one by one, and gives the bytes behind them.
+fn push_each<'a, T: FromStored<P>, P: StoredNumber>(
     values: &mut Vec<T>,
     bytes: &'a [u8],
     count: usize,
@@ -113,29 +151,140 @@ fn append_numbers<'a, T: FromStored<P>, P: StoredNumber>(
     Ok(rest)
 }
 
-// As many equal validities more.
+// Appends the next `count` numbers, and gives the bytes behind them. From eight on it costs less to make all places at once.
+fn append_numbers<'a, T: FromStored<P>, P: StoredNumber>(
+    values: &mut Vec<T>,
+    bytes: &'a [u8],
+    count: usize,
+) -> Result<&'a [u8]>
+    requires enough { P.byte_count * count ≤ list_length bytes.now }
+    ensures ok { IfOk result (λ rest. TookNumbers T.loaded P.spelled P.byte_count count bytes.now rest.now (map T.loaded_number values.old.items) (map T.loaded_number values.new.items)) }
+    ensures kept { list_length values.old.items ≤ list_length values.new.items }
+    ensures err { IfErr result (λ e. (e ≡ Error.Memory) ⊎ ((e ≡ Error.OutOfSpec S.S7) × OneIsOutside T.loaded P.spelled P.byte_count count bytes.now)) }
+{
+    if count < 8 {
+        return push_each::<T, P>(values, bytes, count);
+    }
+    let before = values.len();
+    push_copies(values, T::zero(), count)?;
+    match fill_numbers::<T, P>(&mut values[before..], bytes) {
+        Some(rest) => Ok(rest),
+        None => Err(Error::OutOfSpec(S::S7)),
+    }
+}
+
+// Writes the next number to the place, where one stands there, and gives the bytes behind it; none where it is none of the leaf.
+#[inline(always)]
+fn fill_place<'a, T: FromStored<P>, P: StoredNumber>(
+    place: &mut T,
+    bytes: &'a [u8],
+    is_valid: bool,
+) -> Option<&'a [u8]>
+    requires { is_valid ≡ true → P.byte_count ≤ list_length bytes.now }
+    ensures { MatchOption result ((is_valid ≡ true) × (T.loaded (P.spelled (take P.byte_count bytes.now)) ≡ None)) (λ rest. TookOne T.loaded P.spelled P.byte_count is_valid bytes.now rest.now (T.loaded_number place.new)) }
+{
+    if !is_valid {
+        return Some(bytes);
+    }
+    match load::<T, P>(bytes) {
+        Some(number) => {
+            *place = number;
+            Some(skip(bytes, P::width()))
+        }
+        None => None,
+    }
+}
+
+// Writes the next numbers to the places of which the bits are set, the lowest first, and gives the bytes behind them; none where one of them is
+// none of the leaf.
+fn fill_mixed<'a, T: FromStored<P>, P: StoredNumber>(
+    places: &mut [T],
+    bytes: &'a [u8],
+    valid: u64,
+) -> Option<&'a [u8]>
+    requires enough { P.byte_count * ones (word_bits valid (list_length places.old)) ≤ list_length bytes.now }
+    ensures { MatchOption result (OneIsOutside T.loaded P.spelled P.byte_count (ones (word_bits valid (list_length places.old))) bytes.now) (λ rest. TookMixed T.loaded P.spelled P.byte_count (word_bits valid (list_length places.old)) bytes.now rest.now [] (map T.loaded_number places.new)) }
+{
+    let mut rest = bytes;
+    let mut bits = valid;
+    for place in places.iter_mut() {
+        match fill_place::<T, P>(place, rest, bits % 2 == 1) {
+            Some(behind) => rest = behind,
+            None => return None,
+        }
+        bits /= 2;
+    }
+    Some(rest)
+}
+
+// Appends a slot for each of the low bits: the next number where it is set. Gives the bytes behind the numbers.
+fn append_mixed<'a, T: FromStored<P>, P: StoredNumber>(
+    values: &mut Vec<T>,
+    bytes: &'a [u8],
+    valid: u64,
+    count: usize,
+) -> Result<&'a [u8]>
+    requires enough { P.byte_count * ones (word_bits valid count) ≤ list_length bytes.now }
+    ensures ok { IfOk result (λ rest. TookMixed T.loaded P.spelled P.byte_count (word_bits valid count) bytes.now rest.now (map T.loaded_number values.old.items) (map T.loaded_number values.new.items)) }
+    ensures kept { list_length values.old.items ≤ list_length values.new.items }
+    ensures err { IfErr result (λ e. (e ≡ Error.Memory) ⊎ ((e ≡ Error.OutOfSpec S.S7) × OneIsOutside T.loaded P.spelled P.byte_count (ones (word_bits valid count)) bytes.now)) }
+{
+    let before = values.len();
+    push_copies(values, T::zero(), count)?;
+    match fill_mixed::<T, P>(&mut values[before..], bytes, valid) {
+        Some(rest) => Ok(rest),
+        None => Err(Error::OutOfSpec(S::S7)),
+    }
+}
+
+// A word of equal bits.
+fn equal_bits(bit: bool) -> u64
+    ensures { (n : ℕ) → n ≤ 64 → word_bits result n ≡ replicate n bit }
+{
+    if bit { u64::MAX } else { 0 }
+}
+
+// As many equal validities more. A whole word at once costs less from five on.
 fn push_validities(validity: &mut MutableBitmap, is_valid: bool, count: usize) -> Result<()>
     ensures ok { OnOk result (validity.new.0 ≡ validity.old.0 ++ replicate count is_valid) }
     ensures err { IfErr result (λ e. (e ≡ Error.Memory) × (validity.new.0 ≡ validity.old.0)) }
 {
     if count == 1 {
         validity.push(is_valid)
+    } else if 4 < count && count <= 64 {
+        validity.extend_from_word(equal_bits(is_valid), count)
     } else {
         validity.extend_constant(count, is_valid)
     }
 }
 
-// As many equal numbers more.
-fn push_copies<T: Copy>(values: &mut Vec<T>, number: T, count: usize) -> Result<()>
-    ensures ok { OnOk result (values.new.items ≡ values.old.items ++ replicate count number) }
-    ensures kept { list_length values.old.items ≤ list_length values.new.items }
-    ensures err { IfErr result (λ e. e ≡ Error.Memory) }
+// The next numbers among nulls, where both are wanted.
+fn decode_mixed<'a, T: FromStored<P>, P: StoredNumber>(
+    state: &mut PlainNumbers<'a>,
+    decoded: &mut NumberValues<T>,
+    valid: u64,
+    count: usize,
+) -> Result<()>
+    requires few { count ≤ 64 }
+    requires enough { ones (word_bits valid count) ≤ list_length state.old.values.now / P.byte_count }
+    ensures ok { OnOk result (DecodesMixed (word_bits valid count) (stored_numbers T.loaded P.spelled P.byte_count state.old.values.now) (stored_numbers T.loaded P.spelled P.byte_count state.new.values.now) (number_slots (map T.loaded_number decoded.old.0) decoded.old.1) (number_slots (map T.loaded_number decoded.new.0) decoded.new.1)) }
+    ensures err { IfErr result (CannotDecode 1 (ones (word_bits valid count)) (stored_numbers T.loaded P.spelled P.byte_count state.old.values.now) (number_slots (map T.loaded_number decoded.old.0) decoded.old.1)) }
 {
-    let Some(size) = values.len().checked_add(count) else {
-        return Err(Error::Memory);
-    };
-    values.resize(size, number)?;
-    Ok(())
+    let before = decoded.values.len();
+    match append_mixed::<T, P>(&mut decoded.values, state.values, valid, count) {
+        Ok(rest) => state.values = rest,
+        Err(error) => {
+            decoded.values.truncate(before);
+            return Err(error);
+        }
+    }
+    match decoded.validity.extend_from_word(valid, count) {
+        Ok(()) => Ok(()),
+        Err(error) => {
+            decoded.values.truncate(before);
+            Err(error)
+        }
+    }
 }
 
 impl<'a, T: FromStored<P>, P: StoredNumber> NestedDecoder<'a> for PrimitiveDecoder<T, P> {
@@ -200,5 +349,29 @@ impl<'a, T: FromStored<P>, P: StoredNumber> NestedDecoder<'a> for PrimitiveDecod
                 Err(error)
             }
         }
+    }
+
+    fn push_mixed(
+        &self,
+        state: &mut PlainNumbers<'a>,
+        decoded: &mut NumberValues<T>,
+        valid: u64,
+        count: usize,
+    ) -> Result<()>
+        requires few { count ≤ 64 }
+        ensures ok { OnOk result (DecodesMixed (word_bits valid count) (stored_numbers T.loaded P.spelled P.byte_count state.old.values.now) (stored_numbers T.loaded P.spelled P.byte_count state.new.values.now) (number_slots (map T.loaded_number decoded.old.0) decoded.old.1) (number_slots (map T.loaded_number decoded.new.0) decoded.new.1)) }
+        ensures err { IfErr result (CannotDecode 1 (ones (word_bits valid count)) (stored_numbers T.loaded P.spelled P.byte_count state.old.values.now) (number_slots (map T.loaded_number decoded.old.0) decoded.old.1)) }
+    {
+        let wanted = count_set(valid, count);
+        if wanted == count {
+            return self.push_valid(state, decoded, count);
+        }
+        if wanted == 0 {
+            return self.push_null(decoded, count);
+        }
+        if state.values.len() / P::width() < wanted {
+            return Err(Error::OutOfSpec(S::S6));
+        }
+        decode_mixed::<T, P>(state, decoded, valid, count)
     }
 }

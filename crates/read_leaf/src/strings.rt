@@ -2,10 +2,11 @@
 ghost use Rattle.std.specs.Prelude.{◌≡◌, ◌⊎◌, ◌↔◌, IsTrue, ℕ, List, Bool, ◌+◌, ◌<◌, ◌≤◌, ◌++◌, ◌∷◌, [], true, Some, None, OnOk, IfErr, IfOk, MatchOption, replicate, length as list_length, take, drop};
 ghost use Rattle.columns_base.specs.declared.error.Error.{Error};
 ghost use Rattle.columns_base.specs.declared.error.V.{V};
+ghost use Rattle.columns_core.specs.Bits.{word_bits};
 ghost use Rattle.shredding.specs.Slot.{bytes, null, value};
 ghost use Rattle.pq_numbers.specs.Texts.{number_of};
-ghost use Rattle.read_walk.specs.Values.{Decodes, CannotDecode, bytes_in};
-ghost use Rattle.read_leaf.specs.Strings.{string_at, stored_strings, string_slots, AreAllowed, IsText};
+ghost use Rattle.read_walk.specs.Values.{Decodes, DecodesMixed, ones, CannotDecode, bytes_in};
+ghost use Rattle.read_leaf.specs.Strings.{string_at, stored_strings, string_slots, AreAllowed, IsText, TookStrings, TookSome, CannotTake};
 
 use crate::binary::Binary;
 use crate::cut::skip;
@@ -136,19 +137,23 @@ impl<O: Offset, K: StringKind> StringValues<O, K> {
         (self.strings, self.validity)
     }
 
-    // A string that is there.
-    fn push(&mut self, string: &[u8]) -> Result<()>
-        requires { K.allows string.now ≡ true }
-        ensures ok { OnOk result (string_slots self.new.0 self.new.1 ≡ string_slots self.old.0 self.old.1 ++ value (bytes string.now) ∷ []) }
-        ensures err { IfErr result (λ e. (e ≡ Error.Memory) ⊎ ((e ≡ Error.Overflow V.V1) × (O.limit ≤ bytes_in (string_slots self.old.0 self.old.1) + list_length string.now))) }
+    // A slot for each of the low bits of a word: the next string where it is set.
+    fn push_word<'a>(
+        &mut self,
+        state: &mut PlainStrings<'a>,
+        valid: u64,
+        count: usize,
+    ) -> Result<()>
+        requires few { count ≤ 64 }
+        ensures ok { OnOk result (DecodesMixed (word_bits valid count) (stored_strings K.allows state.old.values.now) (stored_strings K.allows state.new.values.now) (string_slots self.old.0 self.old.1) (string_slots self.new.0 self.new.1)) }
+        ensures err { IfErr result (CannotDecode O.limit (ones (word_bits valid count)) (stored_strings K.allows state.old.values.now) (string_slots self.old.0 self.old.1)) }
     {
-        self.validity.reserve(1)?;
-        match self.strings.push(string) {
-            Ok(()) => {}
-            Err(error) => return Err(error),
-        }
-        self.validity.push(true).unwrap();
-        Ok(())
+        self.validity.reserve(count)?;
+        let before = self.strings.len();
+        let taken = take_strings::<O, K>(state, &mut self.strings, valid, count);
+        let more = self.strings.len() - before;
+        self.validity.extend_from_word(valid, more).unwrap();
+        taken
     }
 
     // As many nulls.
@@ -209,12 +214,13 @@ impl<O, K> StringDecoder<O, K> {
 }
 
 // Takes the next string.
-fn push_next<'a, O: Offset, K: StringKind>(
+fn take_next<'a, O: Offset, K: StringKind>(
     state: &mut PlainStrings<'a>,
-    decoded: &mut StringValues<O, K>,
+    strings: &mut Binary<O>,
 ) -> Result<()>
-    ensures ok { OnOk result (Decodes 1 (stored_strings K.allows state.old.values.now) (stored_strings K.allows state.new.values.now) (string_slots decoded.old.0 decoded.old.1) (string_slots decoded.new.0 decoded.new.1)) }
-    ensures err { IfErr result (CannotDecode O.limit 1 (stored_strings K.allows state.old.values.now) (string_slots decoded.old.0 decoded.old.1)) }
+    ensures ok { OnOk result (TookStrings K.allows (true ∷ []) state.old.values.now state.new.values.now strings.old strings.new) }
+    ensures err { IfErr result (CannotTake O.limit 1 (stored_strings K.allows state.old.values.now) strings.old) }
+    ensures same { IfErr result (λ e. (strings.new ≡ strings.old) × (state.new.values.now ≡ state.old.values.now)) }
 {
     match take_string(state.values) {
         None => Err(Error::OutOfSpec(S::S6)),
@@ -222,10 +228,50 @@ fn push_next<'a, O: Offset, K: StringKind>(
             if !K::is_value(string) {
                 return Err(Error::OutOfSpec(S::S7));
             }
+            strings.push(string)?;
             state.values = behind;
-            decoded.push(string)
+            Ok(())
         }
     }
+}
+
+// Takes the next string where one is there, else an empty one.
+fn take_slot<'a, O: Offset, K: StringKind>(
+    state: &mut PlainStrings<'a>,
+    strings: &mut Binary<O>,
+    is_valid: bool,
+) -> Result<()>
+    ensures ok { OnOk result (TookStrings K.allows (is_valid ∷ []) state.old.values.now state.new.values.now strings.old strings.new) }
+    ensures err { IfErr result (CannotTake O.limit (ones (is_valid ∷ [])) (stored_strings K.allows state.old.values.now) strings.old) }
+    ensures same { IfErr result (λ e. (strings.new ≡ strings.old) × (state.new.values.now ≡ state.old.values.now)) }
+{
+    if is_valid {
+        take_next::<O, K>(state, strings)
+    } else {
+        strings.extend_constant(1)
+    }
+}
+
+// Takes a string for each of the low bits of a word: the next one where it is set, else an empty one.
+fn take_strings<'a, O: Offset, K: StringKind>(
+    state: &mut PlainStrings<'a>,
+    strings: &mut Binary<O>,
+    valid: u64,
+    count: usize,
+) -> Result<()>
+    ensures some { TookSome K.allows valid count state.old.values.now state.new.values.now strings.old strings.new }
+    ensures ok { OnOk result (TookStrings K.allows (word_bits valid count) state.old.values.now state.new.values.now strings.old strings.new) }
+    ensures err { IfErr result (CannotTake O.limit (ones (word_bits valid count)) (stored_strings K.allows state.old.values.now) strings.old) }
+{
+    let mut bits = valid;
+    for i in 0..count {
+        match take_slot::<O, K>(state, strings, bits % 2 == 1) {
+            Ok(()) => {}
+            Err(error) => return Err(error),
+        }
+        bits /= 2;
+    }
+    Ok(())
 }
 
 impl<'a, O: Offset, K: StringKind> NestedDecoder<'a> for StringDecoder<O, K> {
@@ -250,11 +296,14 @@ impl<'a, O: Offset, K: StringKind> NestedDecoder<'a> for StringDecoder<O, K> {
         ensures ok { OnOk result (Decodes count (stored_strings K.allows state.old.values.now) (stored_strings K.allows state.new.values.now) (string_slots decoded.old.0 decoded.old.1) (string_slots decoded.new.0 decoded.new.1)) }
         ensures err { IfErr result (CannotDecode O.limit count (stored_strings K.allows state.old.values.now) (string_slots decoded.old.0 decoded.old.1)) }
     {
-        for i in 0..count {
-            match push_next::<O, K>(state, decoded) {
+        let mut left = count;
+        while left > 0 {
+            let some = left.min(64);
+            match decoded.push_word(state, u64::MAX, some) {
                 Ok(()) => {}
                 Err(error) => return Err(error),
             }
+            left -= some;
         }
         Ok(())
     }
@@ -264,5 +313,19 @@ impl<'a, O: Offset, K: StringKind> NestedDecoder<'a> for StringDecoder<O, K> {
         ensures err { IfErr result (λ e. e ≡ Error.Memory) }
     {
         decoded.push_nulls(count)
+    }
+
+    fn push_mixed(
+        &self,
+        state: &mut PlainStrings<'a>,
+        decoded: &mut StringValues<O, K>,
+        valid: u64,
+        count: usize,
+    ) -> Result<()>
+        requires few { count ≤ 64 }
+        ensures ok { OnOk result (DecodesMixed (word_bits valid count) (stored_strings K.allows state.old.values.now) (stored_strings K.allows state.new.values.now) (string_slots decoded.old.0 decoded.old.1) (string_slots decoded.new.0 decoded.new.1)) }
+        ensures err { IfErr result (CannotDecode O.limit (ones (word_bits valid count)) (stored_strings K.allows state.old.values.now) (string_slots decoded.old.0 decoded.old.1)) }
+    {
+        decoded.push_word(state, valid, count)
     }
 }

@@ -6,3 +6,4 @@ pub mod SameRuns
 pub mod Long
 pub mod Places
 pub mod Empty
+pub mod Validities

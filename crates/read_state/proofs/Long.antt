@@ -64,6 +64,11 @@ stretch-is-block n r d reps defs ks new h a b fit e =
     let m : marks_of reps defs (replicate 64 false) ≡ replicate n (record { repetition = r; definition = d; hidden = false }) = rw (a, b) (marks-alike n 64 r d h) in
     rw m (e ∙ stretches-blocks n r d ks (rw m at fit))
 
+pub copies-are-block : (n r d : ℕ) (ks new : List Kept) → AllFit (marks_of (replicate n r) (replicate n d) (replicate n false)) ks → new ≡ step n r d false 0 0 ks → new ≡ block (marks_of (replicate n r) (replicate n d) (replicate n false)) 0 0 ks
+copies-are-block n r d ks new fit e =
+    let m = marks-alike n n r d (omega arith) in
+    rw m (e ∙ stretches-blocks n r d ks (rw m at fit))
+
 pub all-replicate : (xs : List ℕ) (x : ℕ) → ((k : ℕ) → k < length xs → get_or xs k 0 ≡ x) → xs ≡ replicate (length xs) x
 all-replicate [] x h = refl
 all-replicate (y ∷ ys) x h = rw (h 0 (omega arith)) (ap (λ (zs : List ℕ). x ∷ zs) (all-replicate ys x (λ k b. h (suc k) (omega (arith, b)))))

@@ -1,11 +1,12 @@
 //! A block of pairs, part by part.
-ghost use Rattle.std.specs.Prelude.{◌≡◌, ℕ, ◌+◌, ◌*◌, ◌<◌, ◌≤◌, ◌^◌, ◌++◌, ◌∷◌, [], IfErr, OnOk, IsTrue, Bool, replicate, slice_index, Some, None, slice_index_or, false, true, length};
+ghost use Rattle.std.specs.Prelude.{◌≡◌, ℕ, ◌+◌, ◌*◌, ◌<◌, ◌≤◌, ◌^◌, ◌++◌, ◌∷◌, [], IfErr, OnOk, IsTrue, Bool, replicate, slice_index, Some, None, slice_index_or, false, true, List, length};
 ghost use Rattle.columns_base.specs.declared.error.Error.{Error};
+ghost use Rattle.columns_core.specs.Bits.{word_bits};
 ghost use Rattle.read_laws.specs.State.{kept_leaf, kept_list, kept_struct};
 ghost use Rattle.read_laws.specs.Step.{bit, is_list};
 ghost use Rattle.read_laws.specs.Block.{pushed_all, block, AllFit};
 ghost use Rattle.read_state.specs.Kinds.{kept_box, all_kept, starts_of, HasLongItems};
-ghost use Rattle.read_state.specs.Marks.{marks_of, hides_at};
+ghost use Rattle.read_state.specs.Marks.{marks_of, hides_at, validities};
 
 use crate::boxes::NestedBox;
 use crate::kinds::Nested;
@@ -62,8 +63,41 @@ fn hidden_beneath(
     [false; 64]
 }
 
-// How many of the pairs push to a part that only counts them.
-fn count_block(reps: &[u32], defs: &[u32], hidden: &[bool], depth: usize, def: usize) -> usize
+// Whether no pair lies beneath a null.
+fn none_hidden(hidden: &[bool]) -> bool
+    ensures { IsTrue result → (k : ℕ) → k < length hidden.now → slice_index_or hidden.now k false ≡ false }
+{
+    let mut any = false;
+    for one in hidden {
+        any = any || *one;
+    }
+    !any
+}
+
+// 1 for true, 0 for false.
+fn one_if(b: bool) -> u32
+    ensures { result ≡ bit b }
+{
+    if b { 1 } else { 0 }
+}
+
+// How many of the pairs push to a part that only counts them, where none lies beneath a null.
+fn count_plain(reps: &[u32], defs: &[u32], depth: u32, def: u32) -> u32
+    requires few { length reps.now ≤ 64 }
+    requires defs { length defs.now ≡ length reps.now }
+    ensures leaf { (hidden : List Bool) → length reps.now ≤ length hidden → ((k : ℕ) → k < length reps.now → slice_index_or hidden k false ≡ false) → (n : Bool) → (c place : ℕ) → pushed_all (kept_leaf n c) place depth def (marks_of reps.now defs.now hidden) ≡ kept_leaf n (c + result) }
+    ensures required { (hidden : List Bool) → length reps.now ≤ length hidden → ((k : ℕ) → k < length reps.now → slice_index_or hidden k false ≡ false) → (c place : ℕ) → pushed_all (kept_struct None c) place depth def (marks_of reps.now defs.now hidden) ≡ kept_struct None (c + result) }
+{
+    let mut count = 0;
+    for j in 0..reps.len() {
+        let reaches = both(reps[j] <= depth, def <= defs[j]);
+        count += one_if(reaches);
+    }
+    count
+}
+
+// How many of the pairs push to a part that only counts them, one by one.
+fn count_each(reps: &[u32], defs: &[u32], hidden: &[bool], depth: usize, def: usize) -> usize
     requires defs { length defs.now ≡ length reps.now }
     requires hidden { length reps.now ≤ length hidden.now }
     ensures leaf { (n : Bool) → (c place : ℕ) → pushed_all (kept_leaf n c) place depth def (marks_of reps.now defs.now hidden.now) ≡ kept_leaf n (c + result) }
@@ -74,6 +108,20 @@ fn count_block(reps: &[u32], defs: &[u32], hidden: &[bool], depth: usize, def: u
         count += bit(pushes(reps[j] as usize, defs[j] as usize, hidden[j], depth, def));
     }
     count
+}
+
+// How many of the pairs push to a part that only counts them.
+fn count_block(reps: &[u32], defs: &[u32], hidden: &[bool], depth: usize, def: usize) -> usize
+    requires few { length reps.now ≤ 64 }
+    requires defs { length defs.now ≡ length reps.now }
+    requires hidden { length reps.now ≤ length hidden.now }
+    ensures leaf { (n : Bool) → (c place : ℕ) → pushed_all (kept_leaf n c) place depth def (marks_of reps.now defs.now hidden.now) ≡ kept_leaf n (c + result) }
+    ensures required { (c place : ℕ) → pushed_all (kept_struct None c) place depth def (marks_of reps.now defs.now hidden.now) ≡ kept_struct None (c + result) }
+{
+    if depth < 0x1_0000_0000 && def < 0x1_0000_0000 && none_hidden(hidden) {
+        return count_plain(reps, defs, depth as u32, def as u32) as usize;
+    }
+    count_each(reps, defs, hidden, depth, def)
 }
 
 // Pushes the pairs to a nullable list.
@@ -138,6 +186,45 @@ fn push_valid(
     Ok(())
 }
 
+// A word of bits and their number, with one more in front.
+fn add_bit(word: u64, count: usize, set: bool) -> (u64, usize)
+    requires below { word < 2 ^ count }
+    requires few { count < 64 }
+    ensures bits { word_bits result.0 result.1 ≡ set ∷ word_bits word count }
+    ensures below { result.0 < 2 ^ result.1 }
+    ensures few { result.1 ≡ count + 1 }
+{
+    (2 * word + u64::from(one_if(set)), count + 1)
+}
+
+// The validities of the pairs that push to a nullable part, the first as the lowest bit, and their number.
+fn validity_word(
+    reps: &[u32],
+    defs: &[u32],
+    hidden: &[bool],
+    depth: usize,
+    def: usize,
+) -> (u64, usize)
+    requires few { length reps.now ≤ 64 }
+    requires defs { length defs.now ≡ length reps.now }
+    requires hidden { length reps.now ≤ length hidden.now }
+    ensures bits { word_bits result.0 result.1 ≡ validities depth def (marks_of reps.now defs.now hidden.now) }
+    ensures few { result.1 ≤ 64 }
+{
+    let mut word = 0;
+    let mut count = 0;
+    for i in 0..reps.len() {
+        let j = reps.len() - 1 - i;
+        let level = defs[j] as usize;
+        if pushes(reps[j] as usize, level, hidden[j], depth, def) {
+            let (more, size) = add_bit(word, count, def < level);
+            word = more;
+            count = size;
+        }
+    }
+    (word, count)
+}
+
 // Pushes the pairs to a nullable struct.
 fn push_struct(
     validity: &mut MutableBitmap,
@@ -147,18 +234,14 @@ fn push_struct(
     depth: usize,
     def: usize,
 ) -> Result<()>
+    requires few { length reps.now ≤ 64 }
     requires defs { length defs.now ≡ length reps.now }
     requires hidden { length reps.now ≤ length hidden.now }
     ensures ok { OnOk result ((place : ℕ) → kept_struct (Some validity.new.0) (length validity.new.0) ≡ pushed_all (kept_struct (Some validity.old.0) (length validity.old.0)) place depth def (marks_of reps.now defs.now hidden.now)) }
     ensures err { IfErr result (λ e. e ≡ Error.Memory) }
 {
-    for j in 0..reps.len() {
-        let level = defs[j] as usize;
-        if pushes(reps[j] as usize, level, hidden[j], depth, def) {
-            validity.push(def < level)?;
-        }
-    }
-    Ok(())
+    let (word, count) = validity_word(reps, defs, hidden, depth, def);
+    validity.extend_from_word(word, count)
 }
 
 // Pushes the pairs to one part, where the part beneath it has `first` slots before them.
@@ -290,4 +373,19 @@ pub fn push_all(parts: &mut [NestedBox], reps: &[u32], defs: &[u32]) -> Result<(
     }
     let hidden = [false; 64];
     block_to(parts, reps, defs, &hidden, 0, 0)
+}
+
+/// Pushes so many equal pairs to all parts of a state.
+///
+/// # Errors
+///
+/// `Memory`; some parts may then have the pushes.
+pub fn push_equal(parts: &mut [NestedBox], rep: usize, level: usize, count: usize) -> Result<()>
+    requires few { count ≤ 2 ^ 31 }
+    requires fits { AllFit (marks_of (replicate count rep) (replicate count level) (replicate count false)) (all_kept parts.old) }
+    requires counted { HasLongItems (all_kept parts.old) → ⊥ }
+    ensures ok { OnOk result (all_kept parts.new ≡ block (marks_of (replicate count rep) (replicate count level) (replicate count false)) 0 0 (all_kept parts.old)) }
+    ensures err { IfErr result (λ e. e ≡ Error.Memory) }
+{
+    push_to(parts, rep, level, false, 0, 0, count)
 }

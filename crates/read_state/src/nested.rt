@@ -11,7 +11,7 @@ ghost use Rattle.read_laws.specs.Block.{block, AllFit};
 ghost use Rattle.read_state.specs.Kinds.{all_kept, kept_box, part_at, HasLongItems};
 ghost use Rattle.read_state.specs.Marks.{marks_of};
 
-use crate::block::push_all;
+use crate::block::{push_all, push_equal};
 use crate::boxes::NestedBox;
 use crate::kinds::Nested;
 use crate::parts::{has_long_items, inside_of, leaf_len_of, lists_of, top_of};
@@ -147,6 +147,28 @@ impl NestedState {
             return Err(Error::Overflow(V::V1));
         }
         push_all(&mut self.nested, reps, defs)?;
+        if has_long_items(&self.nested) {
+            return Err(Error::Overflow(V::V1));
+        }
+        Ok(())
+    }
+    /// Pushes `count` equal pairs to all parts.
+    ///
+    /// # Errors
+    ///
+    /// `Memory`, and V1 where with these pairs a part beneath a list has more slots than offsets of 64 bits count. Some parts may then have the
+    /// pushes.
+    pub fn push_equal(&mut self, rep: usize, level: usize, count: usize) -> Result<()>
+        requires few { count ≤ 2 ^ 31 }
+        requires fits { AllFit (marks_of (replicate count rep) (replicate count level) (replicate count false)) self.old }
+        ensures ok { OnOk result (self.new ≡ block (marks_of (replicate count rep) (replicate count level) (replicate count false)) 0 0 self.old) }
+        ensures counted { OnOk result (HasLongItems self.new → ⊥) }
+        ensures err { IfErr result (λ e. (e ≡ Error.Memory) ⊎ ((e ≡ Error.Overflow V.V1) × HasLongItems (block (marks_of (replicate count rep) (replicate count level) (replicate count false)) 0 0 self.old))) }
+    {
+        if has_long_items(&self.nested) {
+            return Err(Error::Overflow(V::V1));
+        }
+        push_equal(&mut self.nested, rep, level, count)?;
         if has_long_items(&self.nested) {
             return Err(Error::Overflow(V::V1));
         }

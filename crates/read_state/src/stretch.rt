@@ -35,7 +35,7 @@ pub fn push_to(
 ) -> Result<()>
     requires few { def + 2 * length parts.old < 2 ^ 64 }
     requires deep { depth + length parts.old < 2 ^ 64 }
-    requires block { count ≤ 64 }
+    requires block { count ≤ 2 ^ 31 }
     requires counted { HasLongItems (all_kept parts.old) → ⊥ }
     ensures ok { OnOk result (all_kept parts.new ≡ step count rep level hidden depth def (all_kept parts.old)) }
     ensures err { IfErr result (λ e. e ≡ Error.Memory) }

@@ -101,17 +101,13 @@ fn laid_texts<O: Offset>(
     validity: Bitmap,
 ) -> Result<Utf8Array<O>>
     requires places { IsPlaces offsets (length content.items) }
-    requires counted { length content.items < O.limit }
     requires mask { length validity ≡ length offsets - 1 }
     requires typed { is_text O.large (base (type_view data_type)) ≡ true }
     requires texts { AreAllowed is_utf8 (pieces offsets content.items) }
     ensures ok { IfOk result (λ a. a ≡ (type_view data_type, (offsets, (content.items, Some validity)))) }
     ensures err { IfErr result (λ e. e ≡ Memory) }
 {
-    match Utf8Array::try_new(alloc, data_type, offsets, content, Some(validity)) {
-        Ok(array) => Ok(array),
-        Err(error) => Err(error),
-    }
+    Utf8Array::from_parts(alloc, data_type, offsets, content, Some(validity))
 }
 
 // Texts as an array.

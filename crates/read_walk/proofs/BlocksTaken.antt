@@ -132,15 +132,15 @@ marks-blank (r ∷ rs) [] = refl
 marks-blank (r ∷ rs) (d ∷ ds) = ap (λ (ms : List Mark). mark_pair (r, d) ∷ ms) (marks-blank rs ds)
 
 -- each state on the way fits
-pub all-fit : (before : Option ℕ) (rs ds : List ℕ) (ks : List Kept) → length ds ≡ length rs → length rs ≤ 64 → StateFits ks → Follows (kept_way ks) before (zipped rs ds) → EndedAt before ks → AllFit (marks_of rs ds (replicate 64 false)) ks
-all-fit before rs ds ks z h f follow ended =
+pub all-fit : (n : ℕ) (before : Option ℕ) (rs ds : List ℕ) (ks : List Kept) → length ds ≡ length rs → length rs ≤ n → StateFits ks → Follows (kept_way ks) before (zipped rs ds) → EndedAt before ks → AllFit (marks_of rs ds (replicate n false)) ks
+all-fit n before rs ds ks z h f follow ended =
     let fit = pairs-fit (level-or before) ks (blank rs ds) f (starts-blank (kept_way ks) before ks rs ds follow ended) (follow-blank (kept_way ks) before rs ds follow) in
-    rw (marks-zipped rs ds 64 z h, ← marks-blank rs ds) fit
+    rw (marks-zipped rs ds n z h, ← marks-blank rs ds) fit
 
-pub long-walk : (rs ds : List ℕ) (ks : List Kept) → length ds ≡ length rs → length rs ≤ 64 → AllFit (marks_of rs ds (replicate 64 false)) ks → HasLongItems (block (marks_of rs ds (replicate 64 false)) 0 0 ks) → HasLongItems (walk (map mark_pair (zipped rs ds)) ks)
-long-walk rs ds ks z h fit long =
-    let e = walked (marks_of rs ds (replicate 64 false)) ks fit in
-    let m = marks-zipped rs ds 64 z h in
+pub long-walk : (n : ℕ) (rs ds : List ℕ) (ks : List Kept) → length ds ≡ length rs → length rs ≤ n → AllFit (marks_of rs ds (replicate n false)) ks → HasLongItems (block (marks_of rs ds (replicate n false)) 0 0 ks) → HasLongItems (walk (map mark_pair (zipped rs ds)) ks)
+long-walk n rs ds ks z h fit long =
+    let e = walked (marks_of rs ds (replicate n false)) ks fit in
+    let m = marks-zipped rs ds n z h in
     rw (← m) (rw e at long)
 
 -- ---- the last pair
@@ -158,8 +158,8 @@ nothing-grown : (rs ds : List ℕ) (os : List (Option Value)) (ks : List Kept) �
 nothing-grown [] ds os ks n = refl
 nothing-grown (r ∷ rs) ds os ks n = absurd (omega (arith, n))
 
-pub took-block : (before : Option ℕ) (floor top : ℕ) (rs ds : List ℕ) (ks ks' : List Kept) (slots slots' : List Slot) (left left' : List Stored) → length rs ≤ 64 → length ds ≡ length rs → StateFits ks → Follows (kept_way ks) before (zipped rs ds) → EndedAt before ks → length slots ≡ leaf_count ks → floor ≡ inside (kept_way ks) (max_repetition (kept_way ks)) → top ≡ max_definition (kept_way ks) → ks' ≡ block (marks_of rs ds (replicate 64 false)) 0 0 ks → (HasLongItems ks' → ⊥) → Decoded floor top ds left left' slots slots' → TookBlock before rs ds ks ks' slots slots' left left'
-took-block before floor top rs ds ks ks' slots slots' left left' h z f follow s size lf lt made short d =
+pub took-block : (n : ℕ) (before : Option ℕ) (floor top : ℕ) (rs ds : List ℕ) (ks ks' : List Kept) (slots slots' : List Slot) (left left' : List Stored) → length rs ≤ n → length ds ≡ length rs → StateFits ks → Follows (kept_way ks) before (zipped rs ds) → EndedAt before ks → length slots ≡ leaf_count ks → floor ≡ inside (kept_way ks) (max_repetition (kept_way ks)) → top ≡ max_definition (kept_way ks) → ks' ≡ block (marks_of rs ds (replicate n false)) 0 0 ks → (HasLongItems ks' → ⊥) → Decoded floor top ds left left' slots slots' → TookBlock before rs ds ks ks' slots slots' left left'
+took-block n before floor top rs ds ks ks' slots slots' left left' h z f follow s size lf lt made short d =
     let w = kept_way ks in
     let ts = triples_of rs ds d.gives in
     let level = level-or before in
@@ -167,7 +167,7 @@ took-block before floor top rs ds ks ks' slots slots' left left' h z f follow s 
     let follows : FollowEach w level ts = follow-each w before rs ds d.gives follow in
     let gives : GivesEach w (slot_of slots') (leaf_count ks) ts = rw (← size) (gives-each w level (length slots) (slot_of slots') rs ds d.gives z follows each) in
     let g = blocks-grow (slot_of slots') level ks ts f (starts-each w before ks rs ds d.gives follow s) follows gives in
-    let marks : marks_of rs ds (replicate 64 false) ≡ map mark_of ts = marks-zipped rs ds 64 z h ∙ sym (marks-triples (inside w (max_repetition w)) (max_definition w) (length slots) (slot_of slots') rs ds d.gives z each) in
+    let marks : marks_of rs ds (replicate n false) ≡ map mark_of ts = marks-zipped rs ds n z h ∙ sym (marks-triples (inside w (max_repetition w)) (max_definition w) (length slots) (slot_of slots') rs ds d.gives z each) in
     let is : ks' ≡ block (map mark_of ts) 0 0 ks = made ∙ ap (λ (ms : List Mark). block ms 0 0 ks) marks in
     let g' : IsGrown (slot_of slots') level ks ks' ts = rw is g in
     let front : kept_column (slot_of slots') ks ≡ kept_column (slot_of slots) ks = rw d.pushed (front-same ks slots d.more f size) in
@@ -179,11 +179,11 @@ took-block before floor top rs ds ks ks' slots slots' left left' h z f follow s 
       each = each;
       fits = g'.fits;
       way = g'.way;
-      ended = ended-at before level rs ds d.gives (inside w (max_repetition w)) (max_definition w) (length slots) (slot_of slots') ks ks' z each (λ n. rw (g'.walked ∙ nothing-grown rs ds d.gives ks n) s) g'.ended;
+      ended = ended-at before level rs ds d.gives (inside w (max_repetition w)) (max_definition w) (length slots) (slot_of slots') ks ks' z each (λ none. rw (g'.walked ∙ nothing-grown rs ds d.gives ks none) s) g'.ended;
       column = g'.column ∙ ap (λ (cs : List Triple). cs ++ ts) front;
       decoded = omega (arith, longer, grown, leaves, size, g'.leaves);
       values = d.values;
-      sized = rw d.pushed (slots-append slots d.more ∙ ap (λ (n : ℕ). bytes_in slots + n) d.sized);
+      sized = rw d.pushed (slots-append slots d.more ∙ ap (λ (b : ℕ). bytes_in slots + b) d.sized);
       walked = g'.walked;
       counted = short;
     }

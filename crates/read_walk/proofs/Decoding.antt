@@ -5,12 +5,12 @@ use Rattle.std.proofs.Common.{Bool}
 use Rattle.std.proofs.lemmas.Bool.{le-leb, eq-eqb, ne_eqb}
 use Rattle.std.proofs.lemmas.List.{length-map, map-append}
 use Rattle.columns_base.specs.declared.error.Error.{Error}
-use Rattle.std.proofs.lemmas.Bool.Decides.{leb_tells}
+use Rattle.std.proofs.lemmas.Bool.Decides.{leb_tells, eqb_tells}
 use Rattle.shredding.specs.Slot.{Value, Slot, null, value}
 use Rattle.read_laws.specs.Step.{bit}
 use Rattle.read_laws.specs.Column.{slot_of}
-use Rattle.read_walk.specs.Values.{Stored, Decodes, CannotDecode, bytes_of, bytes_in, byte_size}
-use Rattle.read_walk.specs.Gives.{called, Decoded}
+use Rattle.read_walk.specs.Values.{Stored, Decodes, DecodesMixed, ones, spread, CannotDecode, bytes_of, bytes_in, byte_size}
+use Rattle.read_walk.specs.Gives.{called, mixed, Decoded}
 
 pub decoded-none : (floor top : ℕ) (left : List Stored) (slots : List Slot) → Decoded floor top [] left left slots slots
 decoded-none floor top left slots = record { gives = []; more = []; pushed = sym (append-nil slots); each = tt; values = refl; grown = refl; sized = refl }
@@ -181,3 +181,68 @@ cannot-less most n top level ds left slots e differ c = cannot-more most (called
 -- those that one stretch calls for are among all
 pub cannot-front : (most n top level : ℕ) (ds : List ℕ) (left : List Stored) (slots : List Slot) (e : Error) → level ≡ top → CannotDecode most n left slots e → CannotDecode most (called top (replicate n level ++ ds)) left slots e
 cannot-front most n top level ds left slots e same c = cannot-more most n (called top (replicate n level ++ ds)) left slots e (omega (arith, called-top n top level ds same)) c
+
+-- ---- levels from the floor on by their bits
+module _ (floor top : ℕ) (under : floor ≤ top) where
+  at-top : (x : ℕ) (xs ds : List ℕ) (vs : List Value) (left left' : List Stored) (slots slots' : List Slot) → x ≡ top → length vs ≡ 1 + ones (mixed floor top xs) → Decoded floor top ds left left' (slots ++ spread (true ∷ mixed floor top xs) vs) slots' → ((vs' : List Value) (slots1 : List Slot) → length vs' ≡ ones (mixed floor top xs) → Decoded floor top ds left left' (slots1 ++ spread (mixed floor top xs) vs') slots' → Decoded floor top (xs ++ ds) (map Some vs' ++ left) left' slots1 slots') → Decoded floor top (x ∷ (xs ++ ds)) (map Some vs ++ left) left' slots slots'
+  at-top x xs ds [] left left' slots slots' e z d others = absurd (omega (arith, z))
+  at-top x xs ds (v ∷ vs) left left' slots slots' e z d others = rw e (one-value floor top (xs ++ ds) v (map Some vs ++ left) left' slots slots' under (others vs (slots ++ value v ∷ []) (omega (arith, z)) (rw (append_assoc slots (value v ∷ []) (spread (mixed floor top xs) vs)) d)))
+
+  pub mixed-front : (xs ds : List ℕ) (vs : List Value) (left left' : List Stored) (slots slots' : List Slot) → length vs ≡ ones (mixed floor top xs) → Decoded floor top ds left left' (slots ++ spread (mixed floor top xs) vs) slots' → Decoded floor top (xs ++ ds) (map Some vs ++ left) left' slots slots'
+  mixed-front [] ds [] left left' slots slots' z d = rw (append-nil slots) at d
+  mixed-front [] ds (v ∷ vs) left left' slots slots' z d = absurd (omega (arith, z))
+  mixed-front (x ∷ xs) ds vs left left' slots slots' z d = elim (leb_tells floor x) [
+    | inr low ↦
+        let less : x < floor = omega (arith, low.1) in
+        one-less floor top x (xs ++ ds) (map Some vs ++ left) left' slots slots' (λ e. omega (arith, e, less, under)) less (mixed-front xs ds vs left left' slots slots' (rw low.0 at z) (rw low.0 at d))
+    | inl high ↦ elim (eqb_tells x top) [
+      | inl same ↦ at-top x xs ds vs left left' slots slots' same.1 (rw (high.0, same.0) at z) (rw (high.0, same.0) at d) (λ vs' slots1 z' d'. mixed-front xs ds vs' left left' slots1 slots' z' d')
+      | inr other ↦
+          let same-size : length vs ≡ 0 + ones (mixed floor top xs) = rw (high.0, other.0) at z in
+          one-null floor top x (xs ++ ds) (map Some vs ++ left) left' slots slots' other.1 high.1 (mixed-front xs ds vs left left' (slots ++ null ∷ []) slots' (omega (arith, same-size)) (rw (append_assoc slots (null ∷ []) (spread (mixed floor top xs) vs)) (rw (high.0, other.0) at d)))
+    ]
+  ]
+
+  pub called-mixed : (xs ds : List ℕ) → called top (xs ++ ds) ≡ ones (mixed floor top xs) + called top ds
+  called-mixed [] ds = omega arith
+  called-mixed (x ∷ xs) ds = elim (leb_tells floor x) [
+    | inr low ↦ rw (low.0, ne_eqb x top (λ e. omega (arith, e, low.1, under))) (omega (arith, called-mixed xs ds))
+    | inl high ↦ rw high.0 (omega (arith, called-mixed xs ds))
+  ]
+
+pub bytes-spread : (bs : List Bool) (vs : List Value) → length vs ≡ ones bs → bytes_in (spread bs vs) ≡ bytes_of vs
+bytes-spread [] [] e = refl
+bytes-spread [] (v ∷ vs) e = absurd (omega (arith, e))
+bytes-spread (false ∷ bs) vs e = omega (arith, bytes-spread bs vs (omega (arith, e)))
+bytes-spread (true ∷ bs) [] e = absurd (omega (arith, e))
+bytes-spread (true ∷ bs) (v ∷ vs) e = ap (λ (n : ℕ). byte_size v + n) (bytes-spread bs vs (omega (arith, e)))
+
+pub front-mixed : (floor top : ℕ) (xs ds : List ℕ) (bits : List Bool) (left left1 left' : List Stored) (slots slots1 slots' : List Slot) → floor ≤ top → bits ≡ mixed floor top xs → DecodesMixed bits left left1 slots slots1 → Decoded floor top ds left1 left' slots1 slots' → Decoded floor top (xs ++ ds) left left' slots slots'
+front-mixed floor top xs ds bits left left1 left' slots slots1 slots' h e r d =
+    let size : length r.values ≡ ones (mixed floor top xs) = r.size ∙ ap ones e in
+    let pushed : slots1 ≡ slots ++ spread (mixed floor top xs) r.values = r.pushed ∙ ap (λ (bs : List Bool). slots ++ spread bs r.values) e in
+    rw r.taken (mixed-front floor top h xs ds r.values left1 left' slots slots' size (rw pushed at d))
+
+pub cannot-mixed : (most floor top : ℕ) (xs ds : List ℕ) (bits : List Bool) (left left1 : List Stored) (slots slots1 : List Slot) (e : Error) → floor ≤ top → bits ≡ mixed floor top xs → DecodesMixed bits left left1 slots slots1 → CannotDecode most (called top ds) left1 slots1 e → CannotDecode most (called top (xs ++ ds)) left slots e
+cannot-mixed most floor top xs ds bits left left1 slots slots1 e h b r c =
+    let bytes : bytes_in slots1 ≡ bytes_in slots + bytes_of r.values = ap bytes_in r.pushed ∙ (slots-append slots (spread bits r.values) ∙ ap (λ (k : ℕ). bytes_in slots + k) (bytes-spread bits r.values r.size)) in
+    let behind = cannot-behind most (called top ds) r.values left left1 slots slots1 e r.taken bytes c in
+    cannot-more most (length r.values + called top ds) (called top (xs ++ ds)) left slots e (omega (arith, called-mixed floor top h xs ds, r.size, ap ones b)) behind
+
+pub cannot-first : (most floor top : ℕ) (xs ds : List ℕ) (bits : List Bool) (left : List Stored) (slots : List Slot) (e : Error) → floor ≤ top → bits ≡ mixed floor top xs → CannotDecode most (ones bits) left slots e → CannotDecode most (called top (xs ++ ds)) left slots e
+cannot-first most floor top xs ds bits left slots e h b c = cannot-more most (ones bits) (called top (xs ++ ds)) left slots e (omega (arith, called-mixed floor top h xs ds, ap ones b)) c
+
+-- ---- equal levels alone
+pub copies-values : (n floor top level : ℕ) (left left' : List Stored) (slots slots' : List Slot) → floor ≤ top → level ≡ top → Decodes n left left' slots slots' → Decoded floor top (replicate n level) left left' slots slots'
+copies-values n floor top level left left' slots slots' h e r = rw (append-nil (replicate n level)) at (values-front n floor top level [] left left' left' slots slots' slots' h e r (decoded-none floor top left' slots'))
+
+pub copies-nulls : (n floor top level : ℕ) (left : List Stored) (slots slots' : List Slot) → (level ≡ top → ⊥) → floor ≤ level → slots' ≡ slots ++ replicate n null → Decoded floor top (replicate n level) left left slots slots'
+copies-nulls n floor top level left slots slots' not h e =
+    let none : Decoded floor top [] left left (slots ++ replicate n null) slots' = rw e (decoded-none floor top left (slots ++ replicate n null)) in
+    rw (append-nil (replicate n level)) at (many-nulls n floor top level [] left left slots slots' not h none)
+
+pub copies-less : (n floor top level : ℕ) (left : List Stored) (slots : List Slot) → (level ≡ top → ⊥) → level < floor → Decoded floor top (replicate n level) left left slots slots
+copies-less n floor top level left slots not h = rw (append-nil (replicate n level)) at (many-less n floor top level [] left left slots slots not h (decoded-none floor top left slots))
+
+pub cannot-copies : (most n top level : ℕ) (left : List Stored) (slots : List Slot) (e : Error) → level ≡ top → CannotDecode most n left slots e → CannotDecode most (called top (replicate n level)) left slots e
+cannot-copies most n top level left slots e same c = rw (append-nil (replicate n level)) at (cannot-front most n top level [] left slots e same c)

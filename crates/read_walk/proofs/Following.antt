@@ -1,5 +1,5 @@
 -- Pairs that may follow one another.
-use Rattle.std.proofs.Common.{◌≡◌, inl, inr, ℕ, zero, suc, ◌+◌, ◌<◌, ◌≤◌, Option, Some, None, List, [], ◌∷◌, length, drop, get_or, refl, arith, ap, add-one}
+use Rattle.std.proofs.Common.{◌≡◌, inl, inr, ℕ, zero, suc, ◌+◌, ◌<◌, ◌≤◌, Option, Some, None, List, [], ◌∷◌, length, replicate, drop, get_or, refl, arith, ap, add-one}
 use Rattle.std.proofs.Math.Seq.{drop-cons}
 use Rattle.columns_base.specs.declared.error.Error.{Error}
 use Rattle.shredding.specs.Shape.{Way, at_leaf, in_list, in_struct}
@@ -16,6 +16,10 @@ inside-more w (suc r) zero h = absurd (omega (arith, h))
 inside-more (at_leaf n) (suc r) (suc s) h = omega arith
 inside-more (in_list n w) (suc r) (suc s) h = omega (arith, inside-more w r s (omega (arith, h)), up-bit n (suc (inside w r)), up-bit n (suc (inside w s)))
 inside-more (in_struct n i w) (suc r) (suc s) h = omega (arith, inside-more w (suc r) (suc s) h, up-bit n (inside w (suc r)), up-bit n (inside w (suc s)))
+
+-- deep enough for the innermost list, so for each
+pub deep-enough : (w : Way) (r lists floor low : ℕ) → lists ≡ max_repetition w → floor ≡ inside w lists → r ≤ lists → floor ≤ low → inside w r ≤ low
+deep-enough w r lists floor low l f h k = omega (arith, inside-more w r lists h, f, k)
 
 pub next-pair : (reps defs : List ℕ) (j : ℕ) → j < length reps → length defs ≡ length reps → zipped (drop j reps) (drop j defs) ≡ (get_or reps j 0, get_or defs j 0) ∷ zipped (drop (j + 1) reps) (drop (j + 1) defs)
 next-pair reps defs j h e =
@@ -61,3 +65,25 @@ plainly w before reps defs lists top floor e l t f p =
       | inl rows ↦ rows-follow w before reps defs e within rows
       | inr items ↦ rw items.0.1 (items-follow w items.0.0 floor reps defs f items.0.2 e within items.1)
     ]
+
+-- ---- equal pairs
+copies-follow : (w : Way) (n r d : ℕ) → r ≤ max_repetition w → d ≤ max_definition w → MayCome w (Some d) (r, d) → Follows w (Some d) (zipped (replicate n r) (replicate n d))
+copies-follow w zero r d a b m = tt
+copies-follow w (suc n) r d a b m = (a, b, m, copies-follow w n r d a b m)
+
+-- the first may come, and one behind it
+pub follow-copies : (w : Way) (before : Option ℕ) (n r d : ℕ) → r ≤ max_repetition w → d ≤ max_definition w → MayCome w before (r, d) → MayCome w (Some d) (r, d) → Follows w before (zipped (replicate n r) (replicate n d))
+follow-copies w before zero r d a b m k = tt
+follow-copies w before (suc n) r d a b m k = (a, b, m, copies-follow w n r d a b k)
+
+pub follow-one : (w : Way) (before : Option ℕ) (n r d : ℕ) → n ≡ 1 → r ≤ max_repetition w → d ≤ max_definition w → MayCome w before (r, d) → Follows w before (zipped (replicate n r) (replicate n d))
+follow-one w before n r d e a b m = rw e (a, b, m, tt)
+
+pub first-not : (w : Way) (before : Option ℕ) (n r d : ℕ) (e : Error) → 0 < n → WhyNot w before (r, d) e → OneMayNot w before (zipped (replicate n r) (replicate n d)) e
+first-not w before zero r d e h why = absurd (omega (arith, h))
+first-not w before (suc n) r d e h why = here-not w before (r, d) (zipped (replicate n r) (replicate n d)) e why
+
+pub second-not : (w : Way) (before : Option ℕ) (n r d : ℕ) (e : Error) → 0 < n → (n ≡ 1 → ⊥) → WhyNot w (Some d) (r, d) e → OneMayNot w before (zipped (replicate n r) (replicate n d)) e
+second-not w before zero r d e h one why = absurd (omega (arith, h))
+second-not w before (suc zero) r d e h one why = absurd (one refl)
+second-not w before (suc (suc n)) r d e h one why = later-not w before (r, d) (zipped (replicate (suc n) r) (replicate (suc n) d)) e (here-not w (Some d) (r, d) (zipped (replicate n r) (replicate n d)) e why)

@@ -8,3 +8,4 @@ pub mod Maxima
 pub mod Refusing
 pub mod Walking
 pub mod Zips
+pub mod Mixing

@@ -1,12 +1,13 @@
 -- Blocks of pairs up to the first of which a level is above its greatest.
-use Rattle.std.proofs.Common.{◌≡◌, inl, inr, ℕ, zero, suc, ◌+◌, ◌-◌, ◌<◌, ◌≤◌, Bool, true, false, ◌||◌, nat_lt, Ok, List, [], ◌∷◌, ◌++◌, length, take, drop, get_or, refl, arith, ap, sym, ◌∙◌, append_assoc, add-one}
+use Rattle.std.proofs.Common.{◌≡◌, inl, inr, ℕ, zero, suc, ◌+◌, ◌-◌, ◌<◌, ◌≤◌, Bool, true, false, ◌||◌, nat_lt, Ok, List, [], ◌∷◌, ◌++◌, length, replicate, take, drop, get_or, refl, arith, ap, sym, ◌∙◌, append_assoc, add-one}
 use Rattle.std.proofs.lemmas.Bool.{cases_lt}
 use Rattle.std.proofs.lemmas.Bool.Decides.{leb_tells}
-use Rattle.std.proofs.lemmas.List.{length-take, length-drop}
+use Rattle.std.proofs.lemmas.List.{length-take, length-drop, length-replicate}
 use Rattle.std.proofs.Math.Seq.{drop-cons}
 use Rattle.pq_runs.specs.Hybrid.{Item as LevelItem}
 use Rattle.read_walk.specs.Pairs.{Item, Pair, zip_items, block_items, pair_items, up_to_maxima, is_within, behind, fault, StopsAt}
-use Rattle.read_walk.proofs.Zips.{front_behind}
+use Rattle.read_walk.proofs.Zips.{front_behind, zip-even}
+use Rattle.pq_runs.specs.Hybrid.{given}
 
 module _ (mr md : ℕ) where
   go-on : (p : Pair) (is : List Item) → is_within mr md p ≡ true → up_to_maxima mr md (Ok p ∷ is) ≡ Ok p ∷ up_to_maxima mr md is
@@ -122,3 +123,12 @@ taken-front rs ds at end count rest h k l =
     let m : at + count - at ≡ count = omega arith in
     let front : block_items rs ds at count ≡ pair_items (take count (drop at rs)) (take count (drop at ds)) = block-pairs rs ds at count (omega (arith, h, k)) (omega (arith, h, l)) in
     rw (n, m, block-split rs ds at count (end - (at + count)), front) (append_assoc (pair_items (take count (drop at rs)) (take count (drop at ds))) (block_items rs ds (at + count) (end - (at + count))) rest)
+
+-- ---- copies of both levels
+copies-within : (mr md n r d : ℕ) (t : List Item) → is_within mr md (r, d) ≡ true → up_to_maxima mr md (pair_items (replicate n r) (replicate n d) ++ t) ≡ pair_items (replicate n r) (replicate n d) ++ up_to_maxima mr md t
+copies-within mr md zero r d t e = refl
+copies-within mr md (suc n) r d t e = go-on mr md (r, d) (pair_items (replicate n r) (replicate n d) ++ t) e ∙ ap (λ (is : List Item). Ok (r, d) ∷ is) (copies-within mr md n r d t e)
+
+pub copies-first : (mr md n r d at at' : ℕ) (f : Bool) (xs ys : List ℕ) (rs ds rs' ds' : List LevelItem) → f ≡ false → at ≡ 0 → at' ≡ 0 → is_within mr md (r, d) ≡ true → rs ≡ given (replicate n r) ++ rs' → ds ≡ given (replicate n d) ++ ds' → (a b : ℕ) → block_items xs ys a at ++ behind mr md f rs ds ≡ pair_items (replicate n r) (replicate n d) ++ (block_items xs ys b at' ++ behind mr md f rs' ds')
+copies-first mr md n r d at at' f xs ys rs ds rs' ds' e z z' w p q a b =
+    rw (e, z, z', p, q) (ap (up_to_maxima mr md) (zip-even (replicate n r) (replicate n d) rs' ds' (length-replicate n r ∙ sym (length-replicate n d))) ∙ copies-within mr md n r d (zip_items rs' ds') w)

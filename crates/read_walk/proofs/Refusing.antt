@@ -1,5 +1,5 @@
 -- Why the walk is refused, from why a block of it is.
-use Rattle.std.proofs.Common.{◌≡◌, ◌⊎◌, inl, inr, ℕ, ◌+◌, ◌<◌, ◌≤◌, Option, Some, None, Ok, Err, List, [], ◌∷◌, ◌++◌, map, length, refl, arith, ap, sym, ◌∙◌, append_assoc, length-append, append-nil}
+use Rattle.std.proofs.Common.{◌≡◌, ◌⊎◌, inl, inr, ℕ, ◌+◌, ◌<◌, ◌≤◌, Option, Some, None, Ok, List, [], ◌∷◌, ◌++◌, map, length, refl, arith, ap, sym, ◌∙◌, append_assoc, length-append, append-nil}
 use Rattle.std.proofs.lemmas.List.{map-append}
 use Rattle.columns_base.specs.declared.error.Error.{Error}
 use Rattle.shredding.specs.Slot.{Slot}
@@ -8,9 +8,12 @@ use Rattle.shredding.specs.Shred.{Triple, max_definition}
 use Rattle.read_laws.specs.State.{Kept, kept_way}
 use Rattle.read_walk.specs.Gives.{called}
 use Rattle.read_walk.specs.Order.{zipped, last_level, OneMayNot}
-use Rattle.read_walk.specs.Pairs.{Pair, Item, pair_items, TakesBlock}
+use Rattle.read_walk.specs.Pairs.{Pair, Item, fault, pair_items, TakesPairs}
 use Rattle.read_walk.specs.Values.{Stored, AreThere}
+use Rattle.columns_base.specs.declared.error.Error.TheVariants.{OutOfSpec}
+use Rattle.columns_base.specs.declared.error.S.TheVariants.{S4}
 use Rattle.read_walk.specs.Blocks.{CannotTake}
+use Rattle.read_walk.specs.Steps.{CannotStep}
 use Rattle.read_walk.specs.Walk.{pair_of, begun, values_of, AreWithin, AreWanted, GoesOn, Refuses, mark_pair}
 use Rattle.read_walk.proofs.Decoding.{cannot-behind, cannot-more}
 use Rattle.read_walk.proofs.Walking.{Progress, begun-append, begun-zipped, items-zipped, last-append, walk-append, marks-pairs, called-append, called-triples, length-zipped, second-zipped}
@@ -34,21 +37,21 @@ all-there w ts reps defs left left' z within e there = record {
 
 -- the pairs so far and some of the block's are wanted
 some-wanted : (rows rest n : ℕ) (before : Option ℕ) (reps defs : List ℕ) (page page' page'' : List Item) (left left' : List Stored) (ks ks' : List Kept) (s s' : List Slot) (front back : List Pair) →
-    Progress rows rest before page page' left left' ks ks' s s' → TakesBlock rest page' (Some (Ok n)) reps defs page'' → (p : zipped reps defs ≡ front ++ back) →
+    Progress rows rest before page page' left left' ks ks' s s' → TakesPairs rest page' n reps defs page'' → (p : zipped reps defs ≡ front ++ back) →
     (triples : List Triple) → page ≡ map Ok (map pair_of triples) ++ page' → begun (map pair_of triples) + rest ≡ rows → AreWanted rows page (map pair_of triples ++ front) (map Ok back ++ page'')
 some-wanted rows rest n before reps defs page page' page'' left left' ks ks' s s' front back p b parts triples pairs counted =
     let so-far = map pair_of triples in
     let items : page' ≡ map Ok front ++ (map Ok back ++ page'') = b.0 ∙ (ap (λ (is : List Item). is ++ page'') (items-zipped reps defs ∙ (ap (map Ok) parts ∙ map-append Ok front back)) ∙ append_assoc (map Ok front) (map Ok back) page'') in
     record {
       pairs = pairs ∙ (ap (λ (is : List Item). map Ok so-far ++ is) items ∙ (sym (append_assoc (map Ok so-far) (map Ok front) (map Ok back ++ page'')) ∙ ap (λ (is : List Item). is ++ (map Ok back ++ page'')) (sym (map-append Ok so-far front))));
-      few = omega (arith, begun-append so-far front, begun-append front back, ap begun parts, begun-zipped reps defs b.1, b.4, b.5, counted);
+      few = omega (arith, begun-append so-far front, begun-append front back, ap begun parts, begun-zipped reps defs b.1, b.3, b.4, counted);
     }
 
 one-more : (ps qs : List Pair) (p : Pair) (back : List Pair) → ps ≡ qs ++ (p ∷ back) → ps ≡ (qs ++ p ∷ []) ++ back
 one-more ps qs p back e = e ∙ sym (append_assoc qs (p ∷ []) back)
 
 pub refused-block : (most rows rest n : ℕ) (before : Option ℕ) (reps defs : List ℕ) (page page' page'' : List Item) (left left' : List Stored) (ks ks' : List Kept) (s s' : List Slot) (e : Error) →
-    Progress rows rest before page page' left left' ks ks' s s' → TakesBlock rest page' (Some (Ok n)) reps defs page'' →
+    Progress rows rest before page page' left left' ks ks' s s' → TakesPairs rest page' n reps defs page'' →
     (OneMayNot (kept_way ks') before (zipped reps defs) e) ⊎ (CannotTake most reps defs ks' left' s' e) → Refuses most rows page left ks s e
 refused-block most rows rest n before reps defs page page' page'' left left' ks ks' s s' e p b why =
     let so-far = map pair_of p.triples in
@@ -105,9 +108,9 @@ refused-block most rows rest n before reps defs page page' page'' left left' ks 
         let all : page ≡ map Ok (so-far ++ front) ++ (Ok first ∷ (map Ok back ++ page'')) = p ∙ (ap (λ (is : List Item). map Ok so-far ++ is) (b ∙ (ap (λ (is : List Item). is ++ page'') items ∙ append_assoc (map Ok front) (Ok first ∷ map Ok back) page'')) ∙ (sym (append_assoc (map Ok so-far) (map Ok front) (Ok first ∷ (map Ok back ++ page''))) ∙ ap (λ (is : List Item). is ++ (Ok first ∷ (map Ok back ++ page''))) (sym (map-append Ok so-far front)))) in
         record { first = first; rest = map Ok back ++ page''; pairs = rw nothing at all; repeats = repeats }
 
-pub refused-page : (most rows rest : ℕ) (before : Option ℕ) (reps defs : List ℕ) (page page' page'' : List Item) (left left' : List Stored) (ks ks' : List Kept) (s s' : List Slot) (e : Error) →
-    Progress rows rest before page page' left left' ks ks' s s' → TakesBlock rest page' (Some (Err e)) reps defs page'' → Refuses most rows page left ks s e
-refused-page most rows rest before reps defs page page' page'' left left' ks ks' s s' e p b =
+pub refused-page : (most rows rest : ℕ) (before : Option ℕ) (page page' : List Item) (left left' : List Stored) (ks ks' : List Kept) (s s' : List Slot) (e : Error) →
+    Progress rows rest before page page' left left' ks ks' s s' → (e ≡ OutOfSpec S4) × ((is : List Item) × (page' ≡ fault ∷ is)) → Refuses most rows page left ks s e
+refused-page most rows rest before page page' left left' ks ks' s s' e p b =
     inl (
       b.0,
       record {
@@ -116,3 +119,10 @@ refused-page most rows rest before reps defs page page' page'' left left' ks ks'
         bad = inl (record { pairs = p.pairs ∙ ap (λ (is : List Item). map Ok (map pair_of p.triples) ++ is) b.1.1; few = omega (arith, p.wanted) });
       },
     )
+
+pub refused-step : (most rows rest : ℕ) (before : Option ℕ) (page page' : List Item) (left left' : List Stored) (ks ks' : List Kept) (s s' : List Slot) (e : Error) →
+    Progress rows rest before page page' left left' ks ks' s s' → CannotStep most rest before page' left' ks' s' e → Refuses most rows page left ks s e
+refused-step most rows rest before page page' left left' ks ks' s s' e p why = elim why [
+  | inl fault' ↦ refused-page most rows rest before page page' left left' ks ks' s s' e p fault'
+  | inr pairs ↦ refused-block most rows rest pairs.begun before pairs.reps pairs.defs page page' pairs.rest left left' ks ks' s s' e p pairs.takes pairs.why
+]

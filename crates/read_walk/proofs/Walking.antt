@@ -1,5 +1,5 @@
 -- The walk, block by block.
-use Rattle.std.proofs.Common.{◌≡◌, ℕ, suc, ◌+◌, ◌-◌, ◌<◌, Bool, nat_le, nat_eq, is_some, Option, Some, None, Ok, List, [], ◌∷◌, ◌++◌, map, length, refl, arith, ap, sym, ◌∙◌, append_assoc, append-nil, cond, eq-eqb, ne_eqb}
+use Rattle.std.proofs.Common.{◌≡◌, ℕ, zero, suc, replicate, ◌+◌, ◌-◌, ◌<◌, ◌≤◌, Bool, nat_le, nat_eq, is_some, Option, Some, None, Ok, List, [], ◌∷◌, ◌++◌, map, length, refl, arith, ap, sym, ◌∙◌, append_assoc, append-nil, cond, eq-eqb, ne_eqb}
 use Rattle.std.proofs.lemmas.List.{map-append}
 use Rattle.std.proofs.lemmas.List.Sums.{sum_by-append, sum_by-cons}
 use Rattle.shredding.specs.Slot.{Value, Slot}
@@ -14,9 +14,10 @@ use Rattle.read_laws.specs.Blocks.{mark_of}
 use Rattle.read_state.specs.Kinds.{HasLongItems}
 use Rattle.read_walk.specs.Gives.{given, called, LeafIs, Each}
 use Rattle.read_walk.specs.Order.{zipped, last_level, Follows, EndedAt}
-use Rattle.read_walk.specs.Pairs.{Pair, Item, pair_items, rows_in, is_row, TakesBlock}
+use Rattle.read_walk.specs.Pairs.{Pair, Item, pair_items, rows_in, is_row, TakesBlock, TakesPairs}
 use Rattle.read_walk.specs.Values.{Stored, bytes_of, bytes_in}
 use Rattle.read_walk.specs.Blocks.{triples_of, TookBlock}
+use Rattle.read_walk.specs.Steps.{TookPairs, TookNone}
 use Rattle.read_walk.specs.Walk.{pair_of, begins, begun, values_of, AreWithin, Extends, mark_pair}
 
 -- What was taken so far: as `Extends`, with the rows that are still wanted, the definition level of the last pair, the state as the pairs make it
@@ -164,7 +165,7 @@ joined xs ys rest all next a b = a ∙ (ap (λ t. xs ++ t) b ∙ sym (append_ass
 
 -- ---- one block more
 pub progress-step : (rows rest n : ℕ) (before : Option ℕ) (reps defs : List ℕ) (page page' page'' : List Item) (left left' left'' : List Stored) (ks ks' ks'' : List Kept) (s s' s'' : List Slot) →
-    Progress rows rest before page page' left left' ks ks' s s' → TakesBlock rest page' (Some (Ok n)) reps defs page'' → Follows (kept_way ks') before (zipped reps defs) → TookBlock before reps defs ks' ks'' s' s'' left' left'' →
+    Progress rows rest before page page' left left' ks ks' s s' → TakesPairs rest page' n reps defs page'' → Follows (kept_way ks') before (zipped reps defs) → TookBlock before reps defs ks' ks'' s' s'' left' left'' →
     Progress rows (rest - n) (last_level before (zipped reps defs)) page page'' left left'' ks ks'' s s''
 progress-step rows rest n before reps defs page page' page'' left left' left'' ks ks' ks'' s s' s'' p b f t =
     let w = kept_way ks' in
@@ -177,7 +178,7 @@ progress-step rows rest n before reps defs page page' page'' left left' left'' k
     let values-new : values_of new ≡ given t.gives = values-triples floor top (length s') (slot_of s'') reps defs t.gives b.1 t.each in
     let values-all : values_of (p.triples ++ new) ≡ values_of p.triples ++ given t.gives = values-append p.triples new ∙ ap (λ (vs : List Value). values_of p.triples ++ vs) values-new in
     let stored-all : map Some (values_of (p.triples ++ new)) ≡ map Some (values_of p.triples) ++ map Some (given t.gives) = ap (map Some) values-all ∙ map-append Some (values_of p.triples) (given t.gives) in
-    let begun-all : begun (map pair_of (p.triples ++ new)) ≡ begun (map pair_of p.triples) + n = ap begun pairs-all ∙ (begun-append (map pair_of p.triples) (zipped reps defs) ∙ ap (λ (k : ℕ). begun (map pair_of p.triples) + k) (begun-zipped reps defs b.1 ∙ sym b.4)) in
+    let begun-all : begun (map pair_of (p.triples ++ new)) ≡ begun (map pair_of p.triples) + n = ap begun pairs-all ∙ (begun-append (map pair_of p.triples) (zipped reps defs) ∙ ap (λ (k : ℕ). begun (map pair_of p.triples) + k) (begun-zipped reps defs b.1 ∙ sym b.3)) in
     record {
       triples = p.triples ++ new;
       pairs = rw items-all (joined (map Ok (map pair_of p.triples)) (pair_items reps defs) page'' page page' p.pairs b.0);
@@ -188,20 +189,45 @@ progress-step rows rest n before reps defs page page' page'' left left' left'' k
       fits = t.fits;
       decoded = t.decoded;
       counted = λ some. t.counted;
-      wanted = omega (arith, begun-all, p.wanted, b.5);
+      wanted = omega (arith, begun-all, p.wanted, b.4);
       last = ap (λ (o : Option ℕ). last_level o (zipped reps defs)) p.last ∙ (sym (last-append None (map pair_of p.triples) (zipped reps defs)) ∙ ap (last_level None) (sym pairs-all));
       ended = t.ended;
       walked = t.walked ∙ (ap (walk (map mark_of new)) p.walked ∙ (sym (walk-append (map mark_of p.triples) (map mark_of new) ks) ∙ ap (λ (ms : List Mark). walk ms ks) (sym (map-append mark_of p.triples new))));
       sized = omega (arith, t.sized, p.sized, ap bytes_of values-all, bytes-append (values_of p.triples) (given t.gives));
     }
 
-pub finished : (rows rest : ℕ) (before : Option ℕ) (reps defs : List ℕ) (page page' page'' : List Item) (left left' : List Stored) (ks ks' : List Kept) (s s' : List Slot) → Progress rows rest before page page' left left' ks ks' s s' → TakesBlock rest page' None reps defs page'' → Extends rows page page'' left left' ks ks' s s'
-finished rows rest before reps defs page page' page'' left left' ks ks' s s' p b =
+pub block-takes : (rest n : ℕ) (reps defs : List ℕ) (page page' : List Item) → TakesBlock rest page (Some (Ok n)) reps defs page' → TakesPairs rest page n reps defs page'
+block-takes rest n reps defs page page' b = (b.0, b.1, b.2, b.4, b.5)
+
+-- one step more
+pub progress-more : (rows rest rest' : ℕ) (before before' : Option ℕ) (page page' page'' : List Item) (left left' left'' : List Stored) (ks ks' ks'' : List Kept) (s s' s'' : List Slot) → Progress rows rest before page page' left left' ks ks' s s' → TookPairs rest rest' before before' page' page'' left' left'' ks' ks'' s' s'' → Progress rows rest' before' page page'' left left'' ks ks'' s s''
+progress-more rows rest rest' before before' page page' page'' left left' left'' ks ks' ks'' s s' s'' p t = rw (t.wanted, t.last) (progress-step rows rest t.begun before t.reps t.defs page page' page'' left left' left'' ks ks' ks'' s s' s'' p t.takes t.follow t.took)
+
+-- ---- equal pairs
+pub last-copies : (before : Option ℕ) (n r d : ℕ) → 0 < n → last_level before (zipped (replicate n r) (replicate n d)) ≡ Some d
+last-copies before zero r d h = absurd (omega (arith, h))
+last-copies before (suc zero) r d h = refl
+last-copies before (suc (suc n)) r d h = last-copies (Some d) (suc n) r d (omega arith)
+
+pub rows-zero : (n r : ℕ) → r ≡ 0 → rows_in (replicate n r) ≡ n
+rows-zero zero r e = refl
+rows-zero (suc n) r e = rows-cons r (replicate n r) ∙ (rw e (rw (rows-zero n 0 refl) (omega arith)))
+
+pub rows-none : (n r : ℕ) → (r ≡ 0 → ⊥) → rows_in (replicate n r) ≡ 0
+rows-none zero r h = refl
+rows-none (suc n) r h = rows-cons r (replicate n r) ∙ (rw (ne_eqb r 0 h) (rw (rows-none n r h) (omega arith)))
+
+pub rows-most : (n r rows : ℕ) → (r ≡ 0 → n ≤ rows) → rows_in (replicate n r) ≤ rows
+rows-most n zero rows h = omega (arith, rows-zero n 0 refl, h refl)
+rows-most n (suc r) rows h = omega (arith, rows-none n (suc r) (λ e. omega (arith, e)))
+
+pub finished : (rows rest : ℕ) (before : Option ℕ) (page page' page'' : List Item) (left left' left'' : List Stored) (ks ks' ks'' : List Kept) (s s' s'' : List Slot) → Progress rows rest before page page' left left' ks ks' s s' → TookNone rest page' page'' left' left'' ks' ks'' s' s'' → Extends rows page page'' left left'' ks ks'' s s''
+finished rows rest before page page' page'' left left' left'' ks ks' ks'' s s' s'' p b =
     let n = begun (map pair_of p.triples) in
     let more : rest ≡ rows - n = omega (arith, p.wanted) in
-    record {
+    rw (b.same, b.values, b.state, b.decoded) (record {
       triples = p.triples;
-      pairs = rw b.0 p.pairs;
+      pairs = p.pairs;
       values = p.values;
       column = p.column;
       within = p.within;
@@ -212,5 +238,5 @@ finished rows rest before reps defs page page' page'' left left' ks ks' s s' p b
       sized = p.sized;
       counted = p.counted;
       most = omega (arith, p.wanted);
-      stops = rw (← more, b.0) b.1;
-    }
+      stops = rw (← more) b.stops;
+    })

@@ -40,7 +40,7 @@ zip-end-right x rs (Err e ∷ ds) h = refl
 zip-end-right x rs (Ok n ∷ ds) h = absurd h
 
 -- as many of both
-zip-even : (xs ys : List ℕ) (rs ds : List LevelItem) → length xs ≡ length ys → zip_items (given xs ++ rs) (given ys ++ ds) ≡ pair_items xs ys ++ zip_items rs ds
+pub zip-even : (xs ys : List ℕ) (rs ds : List LevelItem) → length xs ≡ length ys → zip_items (given xs ++ rs) (given ys ++ ds) ≡ pair_items xs ys ++ zip_items rs ds
 zip-even [] [] rs ds e = refl
 zip-even [] (y ∷ ys) rs ds e = absurd (omega (arith, e))
 zip-even (x ∷ xs) [] rs ds e = absurd (omega (arith, e))

@@ -1,5 +1,5 @@
 -- What the definition levels of a block call for at the leaf.
-use Rattle.std.specs.Prelude.{◌≡◌, ℕ, ◌+◌, ◌≤◌, nat_le, nat_eq, Option, Some, None, List, [], ◌∷◌, ◌++◌, map, length}
+use Rattle.std.specs.Prelude.{◌≡◌, ℕ, ◌+◌, ◌≤◌, Bool, cond, nat_le, nat_eq, Option, Some, None, List, [], ◌∷◌, ◌++◌, map, length}
 use Rattle.shredding.specs.Slot.{Value, Slot, null, value}
 use Rattle.read_laws.specs.Step.{bit}
 use Rattle.read_laws.specs.Column.{slot_of}
@@ -31,6 +31,11 @@ grows floor (d ∷ ds) = bit (nat_le floor d) + grows floor ds
 abbrev pub called : ℕ → List ℕ → ℕ
 called top [] = 0
 called top (d ∷ ds) = bit (nat_eq d top) + called top ds
+
+-- a bit for each level from the floor on, set at the top
+abbrev pub mixed : ℕ → ℕ → List ℕ → List Bool
+mixed floor top [] = []
+mixed floor top (d ∷ ds) = cond (nat_le floor d) (nat_eq d top ∷ mixed floor top ds) (mixed floor top ds)
 
 -- levels decoded: a value for each at the top, a slot for each from the floor on
 pub record Decoded (floor top : ℕ) (defs : List ℕ) (left left' : List Stored) (slots slots' : List Slot) : Type 0 where

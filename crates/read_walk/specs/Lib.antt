@@ -5,5 +5,6 @@ pub mod Levels
 pub mod Order
 pub mod Pairs
 pub mod Spelled
+pub mod Steps
 pub mod Values
 pub mod Walk

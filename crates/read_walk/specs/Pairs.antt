@@ -1,5 +1,5 @@
 -- The level pairs of a page (Parquet format, "Nested Encoding" and "Data Pages").
-use Rattle.std.specs.Prelude.{◌≡◌, ℕ, zero, suc, ◌+◌, ◌≤◌, Bool, true, false, ◌&&◌, nat_le, nat_eq, if◌then◌else◌, Option, Some, None, Result, Ok, Err, List, [], ◌∷◌, ◌++◌, length, replicate, slice_index, count_by}
+use Rattle.std.specs.Prelude.{◌≡◌, ℕ, zero, suc, ◌+◌, ◌^◌, ◌≤◌, Bool, true, false, ◌&&◌, nat_le, nat_eq, if◌then◌else◌, Option, Some, None, Result, Ok, Err, List, [], ◌∷◌, ◌++◌, length, replicate, slice_index, count_by}
 use Rattle.columns_base.specs.declared.error.Error.{Error}
 use Rattle.columns_base.specs.declared.error.Error.TheVariants.{OutOfSpec}
 use Rattle.columns_base.specs.declared.error.S.TheVariants.{S4}
@@ -73,6 +73,15 @@ abbrev pub TakesBlock : ℕ → List Item → Option (Result ℕ Error) → List
 TakesBlock rows old None reps defs new = (new ≡ old) × StopsAt rows old
 TakesBlock rows old (Some (Ok begun)) reps defs new = (old ≡ pair_items reps defs ++ new) × (length defs ≡ length reps) × (1 ≤ length reps) × (length reps ≤ 64) × (begun ≡ rows_in reps) × (begun ≤ rows)
 TakesBlock rows old (Some (Err e)) reps defs new = (e ≡ OutOfSpec S4) × ((is : List Item) × (old ≡ fault ∷ is))
+
+-- One pair or more taken, of which so many begin a row, and no more than wanted.
+abbrev pub TakesPairs : ℕ → List Item → ℕ → List ℕ → List ℕ → List Item → Type 0
+TakesPairs rows old begun reps defs new = (old ≡ pair_items reps defs ++ new) × (length defs ≡ length reps) × (1 ≤ length reps) × (begun ≡ rows_in reps) × (begun ≤ rows)
+
+-- So many equal pairs taken, or nothing.
+abbrev pub TakesCopies : ℕ → List Item → Option (ℕ × ℕ × ℕ) → List Item → Type 0
+TakesCopies rows old None new = new ≡ old
+TakesCopies rows old (Some s) new = TakesPairs rows old (rows_in (replicate s.2 s.0)) (replicate s.2 s.0) (replicate s.2 s.1) new × (s.2 ≤ 2 ^ 31)
 
 -- The next equal pairs, at most so many; an error where the next pair is one, and nothing behind it; nothing at the end.
 abbrev pub TakesRun : ℕ → List Item → Option (Result (ℕ × ℕ × ℕ) Error) → List Item → Type 0

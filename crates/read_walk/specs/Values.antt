@@ -1,10 +1,11 @@
 -- The stored values of a page, and what a decoder makes of them.
-use Rattle.std.specs.Prelude.{◌≡◌, ◌⊎◌, ℕ, ◌+◌, ◌<◌, ◌≤◌, Option, Some, None, List, [], ◌∷◌, ◌++◌, map, length}
+use Rattle.std.specs.Prelude.{◌≡◌, ◌⊎◌, refl, ℕ, ◌+◌, ◌<◌, ◌≤◌, Bool, true, false, Option, Some, None, List, [], ◌∷◌, ◌++◌, map, length}
 use Rattle.columns_base.specs.declared.error.Error.{Error}
 use Rattle.columns_base.specs.declared.error.Error.TheVariants.{OutOfSpec, Overflow, Memory}
 use Rattle.columns_base.specs.declared.error.S.TheVariants.{S6, S7}
 use Rattle.columns_base.specs.declared.error.V.TheVariants.{V1}
-use Rattle.shredding.specs.Slot.{Value, bytes, Slot, value}
+use Rattle.shredding.specs.Slot.{Value, truth, bytes, Slot, null, value}
+use Rattle.read_laws.specs.Step.{bit}
 
 -- A stored value as a value of the leaf; none where it is no value of the leaf's Arrow type.
 abbrev pub Stored : Type 0
@@ -16,6 +17,31 @@ pub record Decodes (n : ℕ) (left left' : List Stored) (slots slots' : List Slo
   pub size : length values ≡ n
   pub taken : left ≡ map Some values ++ left'
   pub pushed : slots' ≡ slots ++ map value values
+
+-- ---- values among nulls
+
+-- how many bits are set
+abbrev pub ones : List Bool → ℕ
+ones [] = 0
+ones (b ∷ bs) = bit b + ones bs
+
+-- a slot for each bit: the next value where it is set, null elsewhere
+abbrev pub spread : List Bool → List Value → List Slot
+spread [] vs = []
+spread (false ∷ bs) vs = null ∷ spread bs vs
+spread (true ∷ bs) [] = []
+spread (true ∷ bs) (v ∷ vs) = value v ∷ spread bs vs
+
+-- the second of three slots is null
+worked : spread (true ∷ false ∷ true ∷ []) (truth true ∷ truth false ∷ []) ≡ value (truth true) ∷ null ∷ value (truth false) ∷ []
+worked = refl
+
+-- as many values decoded as bits are set, and a slot for each bit
+pub record DecodesMixed (bits : List Bool) (left left' : List Stored) (slots slots' : List Slot) : Type 0 where
+  pub values : List Value
+  pub size : length values ≡ ones bits
+  pub taken : left ≡ map Some values ++ left'
+  pub pushed : slots' ≡ slots ++ spread bits values
 
 -- the next n are values of the leaf
 pub record AreThere (n : ℕ) (left : List Stored) : Type 0 where

@@ -1,27 +1,87 @@
 //! The values of a block of pairs.
-ghost use Rattle.std.specs.Prelude.{◌≡◌, ℕ, ◌+◌, ◌<◌, ◌≤◌, ◌++◌, OnOk, IfErr, length, replicate, drop, slice_index};
-ghost use Rattle.read_walk.specs.Gives.{Decoded, called};
+ghost use Rattle.std.specs.Prelude.{◌≡◌, ℕ, ◌+◌, ◌^◌, ◌<◌, ◌≤◌, List, ◌∷◌, ◌++◌, OnOk, IfErr, length, replicate, drop};
+ghost use Rattle.columns_core.specs.Bits.{word_bits};
+ghost use Rattle.read_laws.specs.Step.{bit};
+ghost use Rattle.read_walk.specs.Gives.{Decoded, called, mixed};
 ghost use Rattle.read_walk.specs.Values.{CannotDecode};
 
 use crate::traits::NestedDecoder;
 use columns_base::Result;
 
-// How many levels from a place on are equal.
-fn alike(levels: &[u32], at: usize) -> usize
-    requires { at < length levels.now }
-    ensures some { 0 < result }
-    ensures within { at + result ≤ length levels.now }
-    ensures all { drop at levels.now ≡ replicate result (slice_index levels.now at) ++ drop (at + result) levels.now }
+// 1 for true, 0 for false.
+fn one_if(set: bool) -> u64
+    ensures { result ≡ bit set }
 {
-    let level = levels[at];
-    let mut count = 1;
-    while at + count < levels.len() {
-        if levels[at + count] != level {
-            break;
-        }
-        count += 1;
+    if set { 1 } else { 0 }
+}
+
+// A word of bits and their number, with a bit for a level in front of them where it is from `floor` on, set where it is `top`.
+fn add_level(word: u64, count: usize, level: usize, floor: usize, top: usize) -> (u64, usize)
+    requires below { word < 2 ^ count }
+    requires few { count < 64 }
+    ensures bits { (levels : List ℕ) → word_bits word count ≡ mixed floor top levels → word_bits result.0 result.1 ≡ mixed floor top (level ∷ levels) }
+    ensures below { result.0 < 2 ^ result.1 }
+    ensures few { result.1 ≤ count + 1 }
+{
+    if level < floor {
+        return (word, count);
     }
-    count
+    (2 * word + one_if(level == top), count + 1)
+}
+
+// A bit for each level from `floor` on, set where it is `top`, the lowest for the first, and how many these are.
+fn mixed_word(levels: &[u32], floor: usize, top: usize) -> (u64, usize)
+    requires few { length levels.now ≤ 64 }
+    ensures bits { word_bits result.0 result.1 ≡ mixed floor top levels.now }
+    ensures few { result.1 ≤ 64 }
+{
+    let mut word = 0;
+    let mut count = 0;
+    for i in 0..levels.len() {
+        let level = levels[levels.len() - 1 - i] as usize;
+        let (more, size) = add_level(word, count, level, floor, top);
+        word = more;
+        count = size;
+    }
+    (word, count)
+}
+
+// The levels from a place on, at most 64.
+fn some_levels(levels: &[u32], at: usize) -> &[u32]
+    requires { at < length levels.now }
+    ensures some { 0 < length result.now }
+    ensures few { length result.now ≤ 64 }
+    ensures parts { drop at levels.now ≡ result.now ++ drop (at + length result.now) levels.now }
+{
+    let count = (levels.len() - at).min(64);
+    &levels[at..at + count]
+}
+
+/// Decodes what so many pairs of one definition level call for.
+///
+/// # Errors
+///
+/// Those of the decoder.
+pub fn decode_copies<'a, D: NestedDecoder<'a>>(
+    values: &mut D::State,
+    decoded: &mut D::DecodedState,
+    decoder: &D,
+    level: usize,
+    count: usize,
+    floor: usize,
+    top: usize,
+) -> Result<()>
+    requires ordered { floor ≤ top }
+    ensures ok { OnOk result (Decoded floor top (replicate count level) (D.left values.old) (D.left values.new) (D.slots decoded.old) (D.slots decoded.new)) }
+    ensures err { IfErr result (CannotDecode D.byte_limit (called top (replicate count level)) (D.left values.old) (D.slots decoded.old)) }
+{
+    if level == top {
+        return decoder.push_valid(values, decoded, count);
+    }
+    if floor <= level {
+        return decoder.push_null(decoded, count);
+    }
+    Ok(())
 }
 
 /// Decodes what pairs of these definition levels call for: a value at each `top`, and a null from `floor` on.
@@ -43,20 +103,13 @@ pub fn decode_levels<'a, D: NestedDecoder<'a>>(
 {
     let mut at = 0;
     while at < defs.len() {
-        let count = alike(defs, at);
-        let level = defs[at] as usize;
-        if level == top {
-            match decoder.push_valid(values, decoded, count) {
-                Ok(()) => {}
-                Err(error) => return Err(error),
-            }
-        } else if floor <= level {
-            match decoder.push_null(decoded, count) {
-                Ok(()) => {}
-                Err(error) => return Err(error),
-            }
+        let part = some_levels(defs, at);
+        let (valid, count) = mixed_word(part, floor, top);
+        match decoder.push_mixed(values, decoded, valid, count) {
+            Ok(()) => {}
+            Err(error) => return Err(error),
         }
-        at += count;
+        at += part.len();
     }
     Ok(())
 }

@@ -1,14 +1,16 @@
 //! The walk.
-ghost use Rattle.std.specs.Prelude.{◌≡◌, ◌⊎◌, ℕ, ◌<◌, ◌≤◌, OnOk, IfErr, IfOk, Option, Some, length};
+ghost use Rattle.std.specs.Prelude.{◌≡◌, ◌⊎◌, ℕ, ◌<◌, ◌≤◌, ◌^◌, OnOk, IfErr, IfOk, Option, Some, length, replicate};
 ghost use Rattle.read_laws.specs.State.{kept_way, leaf_count, StateFits};
 ghost use Rattle.read_walk.specs.Blocks.{TookBlock, CannotTake};
 ghost use Rattle.read_walk.specs.Order.{zipped, last_level, Follows, EndedAt, OneMayNot};
 ghost use Rattle.read_walk.specs.Walk.{Extends, Refuses};
+ghost use Rattle.read_walk.specs.Pairs.{TakesBlock, rows_in};
+ghost use Rattle.read_walk.specs.Steps.{Steps, CannotStep};
 
 use crate::block::PairBlock;
-use crate::order::check_order;
+use crate::order::{check_copies, check_order};
 use crate::page::NestedPage;
-use crate::take::take_block;
+use crate::take::{take_block, take_copies};
 use crate::traits::NestedDecoder;
 use columns_base::Result;
 use read_state::NestedState;
@@ -48,6 +50,106 @@ fn last_of(reps: &[u32], defs: &[u32], before: Option<usize>) -> Option<usize>
     Some(defs[reps.len() - 1] as usize)
 }
 
+// Takes so many equal pairs, one or more, behind one of the definition level `before`.
+fn walk_copies<'a, D: NestedDecoder<'a>>(
+    values: &mut D::State,
+    nested: &mut NestedState,
+    decoded: &mut D::DecodedState,
+    decoder: &D,
+    before: Option<usize>,
+    rep: usize,
+    level: usize,
+    count: usize,
+) -> Result<()>
+    requires some { 0 < count }
+    requires few { count ≤ 2 ^ 31 }
+    requires fits { StateFits nested.old }
+    requires ended { EndedAt before nested.old }
+    requires decoded { length (D.slots decoded.old) ≡ leaf_count nested.old }
+    ensures ok { OnOk result (Follows (kept_way nested.old) before (zipped (replicate count rep) (replicate count level)) × TookBlock before (replicate count rep) (replicate count level) nested.old nested.new (D.slots decoded.old) (D.slots decoded.new) (D.left values.old) (D.left values.new)) }
+    ensures err { IfErr result (λ e. OneMayNot (kept_way nested.old) before (zipped (replicate count rep) (replicate count level)) e ⊎ CannotTake D.byte_limit (replicate count rep) (replicate count level) nested.old (D.left values.old) (D.slots decoded.old) e) }
+{
+    match check_copies(nested, before, rep, level, count) {
+        Ok(()) => take_copies(values, nested, decoded, decoder, before, rep, level, count),
+        Err(error) => Err(error),
+    }
+}
+
+// How many of so many equal pairs begin a row.
+fn begun_by(rep: usize, count: usize) -> usize
+    ensures { result ≡ rows_in (replicate count rep) }
+{
+    if rep == 0 { count } else { 0 }
+}
+
+// Takes the next block, and keeps how many rows are still wanted and the definition level of its last pair; false where there is none.
+fn step_block<'a, 'b, D: NestedDecoder<'b>>(
+    page: &mut NestedPage<'a>,
+    values: &mut D::State,
+    nested: &mut NestedState,
+    decoded: &mut D::DecodedState,
+    decoder: &D,
+    block: &mut PairBlock,
+    before: &mut Option<usize>,
+    rows: &mut usize,
+) -> Result<bool>
+    requires fits { StateFits nested.old }
+    requires ended { EndedAt before.old nested.old }
+    requires decoded { length (D.slots decoded.old) ≡ leaf_count nested.old }
+    ensures ok { IfOk result (λ more. Steps more rows.old rows.new before.old before.new page.old page.new (D.left values.old) (D.left values.new) nested.old nested.new (D.slots decoded.old) (D.slots decoded.new)) }
+    ensures err { IfErr result (CannotStep D.byte_limit rows.old before.old page.old (D.left values.old) nested.old (D.slots decoded.old)) }
+{
+    let begun = match page.next_block(*rows, block) {
+        None => return Ok(false),
+        Some(Err(error)) => return Err(error),
+        Some(Ok(begun)) => begun,
+    };
+    match walk_block(
+        values,
+        nested,
+        decoded,
+        decoder,
+        *before,
+        block.reps(),
+        block.defs(),
+    ) {
+        Ok(()) => {}
+        Err(error) => return Err(error),
+    }
+    *before = last_of(block.reps(), block.defs(), *before);
+    *rows -= begun;
+    Ok(true)
+}
+
+// The same with equal pairs at once where both levels stand in copies.
+fn step_pairs<'a, 'b, D: NestedDecoder<'b>>(
+    page: &mut NestedPage<'a>,
+    values: &mut D::State,
+    nested: &mut NestedState,
+    decoded: &mut D::DecodedState,
+    decoder: &D,
+    block: &mut PairBlock,
+    before: &mut Option<usize>,
+    rows: &mut usize,
+) -> Result<bool>
+    requires fits { StateFits nested.old }
+    requires ended { EndedAt before.old nested.old }
+    requires decoded { length (D.slots decoded.old) ≡ leaf_count nested.old }
+    ensures ok { IfOk result (λ more. Steps more rows.old rows.new before.old before.new page.old page.new (D.left values.old) (D.left values.new) nested.old nested.new (D.slots decoded.old) (D.slots decoded.new)) }
+    ensures err { IfErr result (CannotStep D.byte_limit rows.old before.old page.old (D.left values.old) nested.old (D.slots decoded.old)) }
+{
+    let Some((rep, level, count)) = page.next_copies(*rows) else {
+        return step_block(page, values, nested, decoded, decoder, block, before, rows);
+    };
+    match walk_copies(values, nested, decoded, decoder, *before, rep, level, count) {
+        Ok(()) => {}
+        Err(error) => return Err(error),
+    }
+    *before = Some(level);
+    *rows -= begun_by(rep, count);
+    Ok(true)
+}
+
 /// Takes pairs of the page until `additional` rows are whole or the page ends. A row is whole where another begins or the page ends.
 ///
 /// # Errors
@@ -72,25 +174,20 @@ pub fn extend_levels<'a, 'b, D: NestedDecoder<'b>>(
     let mut block = PairBlock::new();
     let mut rows = additional;
     let mut before = None;
-    'pairs: while let Some(taken) = page.next_block(rows, &mut block) {
-        let begun = match taken {
-            Ok(begun) => begun,
-            Err(error) => return Err(error),
-        };
-        match walk_block(
+    'pairs: loop {
+        match step_pairs(
+            page,
             values,
             nested,
             decoded,
             decoder,
-            before,
-            block.reps(),
-            block.defs(),
+            &mut block,
+            &mut before,
+            &mut rows,
         ) {
-            Ok(()) => {}
+            Ok(true) => {}
+            Ok(false) => return Ok(()),
             Err(error) => return Err(error),
         }
-        before = last_of(block.reps(), block.defs(), before);
-        rows -= begun;
     }
-    Ok(())
 }

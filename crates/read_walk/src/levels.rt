@@ -1,11 +1,12 @@
 //! Level pairs in blocks of 64.
-ghost use Rattle.std.specs.Prelude.{◌≡◌, ◌⊎◌, ℕ, ◌+◌, ◌-◌, ◌<◌, ◌≤◌, ◌||◌, ◌&&◌, [], true, false, length, take, drop, slice_index, Ok, count_by};
+ghost use Rattle.std.specs.Prelude.{◌≡◌, ◌⊎◌, ℕ, ◌+◌, ◌-◌, ◌<◌, ◌≤◌, ◌^◌, ◌||◌, ◌&&◌, [], true, false, length, take, drop, slice_index, Ok, count_by};
 ghost use Rattle.read_walk.specs.LevelRuns.{IsReading};
 ghost use Rattle.read_walk.specs.Levels.{levels_left, IsLevels};
-ghost use Rattle.read_walk.specs.Pairs.{TakesBlock, TakesRun, is_within, rows_in, is_row};
+ghost use Rattle.read_walk.specs.Pairs.{TakesBlock, TakesCopies, TakesRun, is_within, rows_in, is_row};
 
 use crate::block::PairBlock;
-use crate::runs::{LevelRuns, fill, stop_runs};
+use crate::folds::{are_within, count_zeros};
+use crate::runs::{LevelRuns, drop_copies, fill, stop_runs};
 use columns_base::{Error, Result, S};
 
 /// The levels that were unpacked, from one place of a block to another, those that were not, and whether a fault stands behind the block.
@@ -40,8 +41,8 @@ fn is_within(rep: usize, def: usize, max_rep: usize, max_def: usize) -> bool
     rep <= max_rep && def <= max_def
 }
 
-// How many pairs from the front on have no level above its greatest.
-fn count_within(reps: &[u32], defs: &[u32], end: usize, max_rep: usize, max_def: usize) -> usize
+// The same one by one.
+fn first_above(reps: &[u32], defs: &[u32], end: usize, max_rep: usize, max_def: usize) -> usize
     requires reps { end ≤ length reps.now }
     requires defs { end ≤ length defs.now }
     ensures within { result ≤ end }
@@ -54,6 +55,22 @@ fn count_within(reps: &[u32], defs: &[u32], end: usize, max_rep: usize, max_def:
         }
     }
     end
+}
+
+// How many pairs from the front on have no level above its greatest.
+fn count_within(reps: &[u32], defs: &[u32], end: usize, max_rep: usize, max_def: usize) -> usize
+    requires reps { end ≤ length reps.now }
+    requires defs { end ≤ length defs.now }
+    ensures within { result ≤ end }
+    ensures before { (k : ℕ) → k < result → is_within max_rep max_def (slice_index reps.now k, slice_index defs.now k) ≡ true }
+    ensures next { result < end → is_within max_rep max_def (slice_index reps.now result, slice_index defs.now result) ≡ false }
+{
+    if are_within(part_of(reps, 0, end), max_rep) {
+        if are_within(part_of(defs, 0, end), max_def) {
+            return end;
+        }
+    }
+    first_above(reps, defs, end, max_rep, max_def)
 }
 
 // Unpacks the next block.
@@ -93,8 +110,8 @@ fn prepare<'a>(levels: &mut Levels<'a>)
     }
 }
 
-// How many of the pairs come before one that begins a row too many, and how many of them begin a row.
-fn cut_rows(reps: &[u32], rows: usize) -> (usize, usize)
+// The same one by one.
+fn first_rows(reps: &[u32], rows: usize) -> (usize, usize)
     ensures within { result.0 ≤ length reps.now }
     ensures begun { result.1 ≡ rows_in (take result.0 reps.now) }
     ensures few { result.1 ≤ rows }
@@ -110,6 +127,21 @@ fn cut_rows(reps: &[u32], rows: usize) -> (usize, usize)
         }
     }
     (reps.len(), begun)
+}
+
+// How many of the pairs come before one that begins a row too many, and how many of them begin a row.
+fn cut_rows(reps: &[u32], rows: usize) -> (usize, usize)
+    requires short { length reps.now ≤ 64 }
+    ensures within { result.0 ≤ length reps.now }
+    ensures begun { result.1 ≡ rows_in (take result.0 reps.now) }
+    ensures few { result.1 ≤ rows }
+    ensures stops { result.0 < length reps.now → (slice_index reps.now result.0 ≡ 0) × (result.1 ≡ rows) }
+{
+    let begun = count_zeros(reps);
+    if begun <= rows {
+        return (reps.len(), begun);
+    }
+    first_rows(reps, rows)
 }
 
 // The levels from a place to another.
@@ -177,6 +209,44 @@ fn alike(reps: &[u32], defs: &[u32], at: usize, end: usize) -> usize
         count += 1;
     }
     count
+}
+
+// The least of two copies and a greatest number, and of the rows that are wanted where each pair begins one.
+fn count_copies(reps: usize, defs: usize, rep: u32, rows: usize) -> usize
+    ensures reps { result ≤ reps }
+    ensures defs { result ≤ defs }
+    ensures most { result ≤ 2 ^ 31 }
+    ensures rows { rep ≡ 0 → result ≤ rows }
+{
+    let count = reps.min(defs).min(0x8000_0000);
+    if rep == 0 { count.min(rows) } else { count }
+}
+
+/// The next equal pairs, as their levels and number, where both runs of levels go on with copies: at most 2^31, and of pairs that begin a row at
+/// most `rows`. None, and nothing taken, where there are few.
+pub fn next_copies<'a>(levels: &mut Levels<'a>, rows: usize) -> Option<(usize, usize, usize)>
+    requires is { IsLevels levels.old }
+    ensures is { IsLevels levels.new }
+    ensures taken { TakesCopies rows (levels_left levels.old) result (levels_left levels.new) }
+{
+    if levels.failed {
+        return None;
+    }
+    if levels.at < levels.end {
+        return None;
+    }
+    let rep = levels.reps.number;
+    let def = levels.defs.number;
+    let count = count_copies(levels.reps.copies, levels.defs.copies, rep, rows);
+    if count < 16 {
+        return None;
+    }
+    if !is_within(rep as usize, def as usize, levels.max_rep, levels.max_def) {
+        return None;
+    }
+    drop_copies(&mut levels.reps, count);
+    drop_copies(&mut levels.defs, count);
+    Some((rep as usize, def as usize, count))
 }
 
 // Nothing is left.

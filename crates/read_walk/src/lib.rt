@@ -9,6 +9,7 @@ mod bits;
 mod block;
 mod decode;
 mod extend;
+mod folds;
 mod laws;
 mod levels;
 mod order;

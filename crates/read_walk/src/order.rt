@@ -1,10 +1,11 @@
 //! Whether pairs may follow one another.
-ghost use Rattle.std.specs.Prelude.{◌≡◌, ◌⊎◌, ℕ, ◌+◌, ◌<◌, ◌≤◌, OnOk, IfErr, IsTrue, IfSome, Some, Option, length, slice_index};
+ghost use Rattle.std.specs.Prelude.{◌≡◌, ◌⊎◌, ℕ, ◌+◌, ◌<◌, ◌≤◌, OnOk, IfErr, IsTrue, IfSome, Some, Option, length, replicate, slice_index};
 ghost use Rattle.shredding.specs.Shred.{max_definition, max_repetition};
 ghost use Rattle.shredding.specs.Local.{inside};
 ghost use Rattle.read_laws.specs.State.{kept_way};
 ghost use Rattle.read_walk.specs.Order.{zipped, Follows, MayCome, WhyNot, OneMayNot, PlainlyFollow};
 
+use crate::folds::{all_bits, are_from, are_within};
 use columns_base::{Error, Result, S};
 use read_state::NestedState;
 
@@ -32,9 +33,11 @@ fn check_pair(
     level: usize,
     lists: usize,
     top: usize,
+    floor: usize,
 ) -> Result<()>
     requires lists { lists ≡ max_repetition (kept_way nested.now) }
     requires top { top ≡ max_definition (kept_way nested.now) }
+    requires floor { floor ≡ inside (kept_way nested.now) lists }
     ensures ok { OnOk result ((rep ≤ max_repetition (kept_way nested.now)) × (level ≤ max_definition (kept_way nested.now)) × MayCome (kept_way nested.now) before (rep, level)) }
     ensures err { IfErr result (WhyNot (kept_way nested.now) before (rep, level)) }
 {
@@ -48,7 +51,12 @@ fn check_pair(
         return Ok(());
     }
     match before {
-        Some(before) => check_repeated(nested, before, rep, level),
+        Some(before) => {
+            if floor <= before.min(level) {
+                return Ok(());
+            }
+            check_repeated(nested, before, rep, level)
+        }
         None => Err(Error::OutOfSpec(S::S5)),
     }
 }
@@ -61,17 +69,19 @@ fn check_each(
     defs: &[u32],
     lists: usize,
     top: usize,
+    floor: usize,
 ) -> Result<()>
     requires defs { length defs.now ≡ length reps.now }
     requires lists { lists ≡ max_repetition (kept_way nested.now) }
     requires top { top ≡ max_definition (kept_way nested.now) }
+    requires floor { floor ≡ inside (kept_way nested.now) lists }
     ensures ok { OnOk result (Follows (kept_way nested.now) before (zipped reps.now defs.now)) }
     ensures err { IfErr result (OneMayNot (kept_way nested.now) before (zipped reps.now defs.now)) }
 {
     let mut last = before;
     for j in 0..reps.len() {
         let level = defs[j] as usize;
-        match check_pair(nested, last, reps[j] as usize, level, lists, top) {
+        match check_pair(nested, last, reps[j] as usize, level, lists, top, floor) {
             Ok(()) => last = Some(level),
             Err(error) => return Err(error),
         }
@@ -79,26 +89,33 @@ fn check_each(
     Ok(())
 }
 
-// A level that none of these is above.
-fn greatest(levels: &[u32]) -> u32
-    ensures { (k : ℕ) → k < length levels.now → slice_index levels.now k ≤ result }
+/// Whether so many equal pairs may come behind one of the definition level `before`.
+///
+/// # Errors
+///
+/// As `check_order`.
+pub fn check_copies(
+    nested: &NestedState,
+    before: Option<usize>,
+    rep: usize,
+    level: usize,
+    count: usize,
+) -> Result<()>
+    requires some { 0 < count }
+    ensures ok { OnOk result (Follows (kept_way nested.now) before (zipped (replicate count rep) (replicate count level))) }
+    ensures err { IfErr result (OneMayNot (kept_way nested.now) before (zipped (replicate count rep) (replicate count level))) }
 {
-    let mut most = 0;
-    for level in levels {
-        most = most.max(*level);
+    let lists = nested.max_repetition();
+    let top = nested.max_definition();
+    let floor = nested.inside(lists);
+    match check_pair(nested, before, rep, level, lists, top, floor) {
+        Ok(()) => {}
+        Err(error) => return Err(error),
     }
-    most
-}
-
-// A level that none of these is below.
-fn least(levels: &[u32]) -> u32
-    ensures { (k : ℕ) → k < length levels.now → result ≤ slice_index levels.now k }
-{
-    let mut few = u32::MAX;
-    for level in levels {
-        few = few.min(*level);
+    if count == 1 {
+        return Ok(());
     }
-    few
+    check_pair(nested, Some(level), rep, level, lists, top, floor)
 }
 
 // Whether there was a pair, of this definition level or a greater one.
@@ -123,17 +140,16 @@ fn plainly_follow(
     requires defs { length defs.now ≡ length reps.now }
     ensures { IsTrue result → PlainlyFollow before reps.now defs.now lists top floor }
 {
-    let deepest = greatest(reps) as usize;
-    if deepest > lists {
+    if !are_within(reps, lists) {
         return false;
     }
-    if greatest(defs) as usize > top {
+    if !are_within(defs, top) {
         return false;
     }
-    if deepest == 0 {
+    if all_bits(reps) == 0 {
         return true;
     }
-    floor <= least(defs) as usize && reaches(before, floor)
+    are_from(defs, floor) && reaches(before, floor)
 }
 
 /// Whether the pairs may come behind one of the definition level `before`, one after another.
@@ -158,5 +174,5 @@ pub fn check_order(
     if plainly_follow(before, reps, defs, lists, top, floor) {
         return Ok(());
     }
-    check_each(nested, before, reps, defs, lists, top)
+    check_each(nested, before, reps, defs, lists, top, floor)
 }

@@ -3,10 +3,10 @@ ghost use Rattle.std.specs.Prelude.{◌≡◌, ◌⊎◌, ◌<◌, ◌≤◌, �
 ghost use Rattle.columns_base.specs.declared.error.Error.{Error};
 ghost use Rattle.columns_base.specs.declared.error.S.{S};
 ghost use Rattle.pq_numbers.specs.Bits.{IsWidth};
-ghost use Rattle.read_walk.specs.Pairs.{page_items, TakesBlock, TakesRun};
+ghost use Rattle.read_walk.specs.Pairs.{page_items, TakesBlock, TakesCopies, TakesRun};
 
 use crate::block::PairBlock;
-use crate::levels::{Levels, next_block, next_run};
+use crate::levels::{Levels, next_block, next_copies, next_run};
 use crate::runs::level_runs;
 use columns_base::{Error, Result, S};
 use pq_runs::get_bit_width;
@@ -79,6 +79,14 @@ impl<'a> NestedPage<'a> {
         ensures { TakesBlock rows self.old result block.new.0 block.new.1 self.new }
     {
         next_block(&mut self.levels, rows, block)
+    }
+
+    /// The next equal pairs, as their levels and number, where both sections go on with a run of copies: at most 2^31, and of pairs that begin a
+    /// row at most `rows`. None, and nothing taken, where there are few; what comes is then `next_block`'s to say.
+    pub fn next_copies(&mut self, rows: usize) -> Option<(usize, usize, usize)>
+        ensures { TakesCopies rows self.old result self.new }
+    {
+        next_copies(&mut self.levels, rows)
     }
 
     /// The next equal pairs, as their levels and number: at most `limit`, and none beyond the pairs that were unpacked together. None at the end.

@@ -157,6 +157,17 @@ fn take_copies<'a>(levels: &mut LevelRuns<'a>, out: &mut [u32]) -> usize
     count
 }
 
+/// Passes over so many of the copies.
+pub fn drop_copies<'a>(levels: &mut LevelRuns<'a>, count: usize)
+    requires is { IsReading levels.old }
+    requires within { count ≤ levels.old.copies }
+    ensures is { IsReading levels.new }
+    ensures left { runs_left levels.old ≡ given (replicate count levels.old.number) ++ runs_left levels.new }
+{
+    levels.copies -= count;
+    levels.left -= count;
+}
+
 // Eight packed numbers.
 fn take_eight<'a>(levels: &mut LevelRuns<'a>, out: &mut [u32])
     requires is { IsReading levels.old }
@@ -165,6 +176,8 @@ fn take_eight<'a>(levels: &mut LevelRuns<'a>, out: &mut [u32])
     requires narrow { levels.old.runs.num_bits ≤ 7 }
     requires room { 8 ≤ length out.old }
     ensures is { IsReading levels.new }
+    ensures none { levels.new.copies ≡ 0 }
+    ensures bits { levels.new.runs.num_bits ≡ levels.old.runs.num_bits }
     ensures left { runs_left levels.old ≡ given (take 8 out.new) ++ runs_left levels.new }
 {
     let width = levels.runs.num_bits;
@@ -174,6 +187,27 @@ fn take_eight<'a>(levels: &mut LevelRuns<'a>, out: &mut [u32])
     levels.packed = skip(levels.packed, width as usize);
     levels.standing -= 8;
     levels.left -= 8;
+}
+
+// Packed numbers, eight at a time, as long as so many stand there and there is room.
+fn take_eights<'a>(levels: &mut LevelRuns<'a>, out: &mut [u32]) -> usize
+    requires is { IsReading levels.old }
+    requires none { levels.old.copies ≡ 0 }
+    requires some { 8 ≤ levels.old.standing }
+    requires narrow { levels.old.runs.num_bits ≤ 7 }
+    requires room { 8 ≤ length out.old }
+    ensures within { result ≤ length out.old }
+    ensures some { 0 < result }
+    ensures is { IsReading levels.new }
+    ensures left { runs_left levels.old ≡ given (take result out.new) ++ runs_left levels.new }
+{
+    let mut done = 0;
+    while levels.standing >= 8 && out.len() - done >= 8 {
+        let part = &mut out[done..];
+        take_eight(levels, part);
+        done += 8;
+    }
+    done
 }
 
 // One packed number.
@@ -208,8 +242,7 @@ fn take_some<'a>(levels: &mut LevelRuns<'a>, out: &mut [u32]) -> usize
         return take_copies(levels, out);
     }
     if levels.runs.num_bits <= 7 && levels.standing >= 8 && out.len() >= 8 {
-        take_eight(levels, out);
-        return 8;
+        return take_eights(levels, out);
     }
     out[0] = take_one(levels);
     1

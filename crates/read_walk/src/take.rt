@@ -1,12 +1,12 @@
 //! One block.
-ghost use Rattle.std.specs.Prelude.{◌≡◌, ◌⊎◌, ℕ, ◌≤◌, OnOk, IfErr, Option, length};
+ghost use Rattle.std.specs.Prelude.{◌≡◌, ◌⊎◌, ℕ, ◌<◌, ◌≤◌, ◌^◌, OnOk, IfErr, Option, length, replicate};
 ghost use Rattle.shredding.specs.Shred.{max_definition, max_repetition};
 ghost use Rattle.shredding.specs.Local.{inside};
 ghost use Rattle.read_laws.specs.State.{kept_way, leaf_count, StateFits};
 ghost use Rattle.read_walk.specs.Blocks.{TookBlock, CannotTake};
 ghost use Rattle.read_walk.specs.Order.{zipped, Follows, EndedAt};
 
-use crate::decode::decode_levels;
+use crate::decode::{decode_copies, decode_levels};
 use crate::traits::NestedDecoder;
 use columns_base::Result;
 use read_state::NestedState;
@@ -49,6 +49,36 @@ pub fn take_block<'a, D: NestedDecoder<'a>>(
     let (floor, top) = leaf_levels(nested);
     match decode_levels(values, decoded, decoder, defs, floor, top) {
         Ok(()) => nested.push_levels(reps, defs),
+        Err(error) => Err(error),
+    }
+}
+
+/// Takes so many equal pairs that may come behind one of the definition level `before`.
+///
+/// # Errors
+///
+/// As `take_block`.
+pub fn take_copies<'a, D: NestedDecoder<'a>>(
+    values: &mut D::State,
+    nested: &mut NestedState,
+    decoded: &mut D::DecodedState,
+    decoder: &D,
+    before: Option<usize>,
+    rep: usize,
+    level: usize,
+    count: usize,
+) -> Result<()>
+    requires few { count ≤ 2 ^ 31 }
+    requires fits { StateFits nested.old }
+    requires follow { Follows (kept_way nested.old) before (zipped (replicate count rep) (replicate count level)) }
+    requires ended { EndedAt before nested.old }
+    requires decoded { length (D.slots decoded.old) ≡ leaf_count nested.old }
+    ensures ok { OnOk result (TookBlock before (replicate count rep) (replicate count level) nested.old nested.new (D.slots decoded.old) (D.slots decoded.new) (D.left values.old) (D.left values.new)) }
+    ensures err { IfErr result (CannotTake D.byte_limit (replicate count rep) (replicate count level) nested.old (D.left values.old) (D.slots decoded.old)) }
+{
+    let (floor, top) = leaf_levels(nested);
+    match decode_copies(values, decoded, decoder, level, count, floor, top) {
+        Ok(()) => nested.push_equal(rep, level, count),
         Err(error) => Err(error),
     }
 }

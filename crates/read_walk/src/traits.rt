@@ -1,8 +1,9 @@
 //! What the walk decodes values with.
-ghost use Rattle.std.specs.Prelude.{◌≡◌, List, ◌++◌, ℕ, replicate, OnOk, IfErr};
+ghost use Rattle.std.specs.Prelude.{◌≡◌, ◌≤◌, List, ◌++◌, ℕ, replicate, OnOk, IfErr};
 ghost use Rattle.columns_base.specs.declared.error.Error.{Error};
+ghost use Rattle.columns_core.specs.Bits.{word_bits};
 ghost use Rattle.shredding.specs.Slot.{Slot, null};
-ghost use Rattle.read_walk.specs.Values.{Stored, Decodes, CannotDecode};
+ghost use Rattle.read_walk.specs.Values.{Stored, Decodes, DecodesMixed, ones, CannotDecode};
 
 use columns_base::{Error, Result};
 
@@ -46,4 +47,20 @@ pub trait NestedDecoder<'a> {
     fn push_null(&self, decoded: &mut Self::DecodedState, count: usize) -> Result<()>
         ensures ok { OnOk result (slots decoded.new ≡ slots decoded.old ++ replicate count null) }
         ensures err { IfErr result (λ e. e ≡ Error.Memory) };
+
+    /// The next `count` slots, at most 64: the next stored value where the slot's bit of `valid` is set, the lowest bit first, and null elsewhere.
+    ///
+    /// # Errors
+    ///
+    /// Those of `push_valid` for as many values as bits are set. Nothing is said of the state and the slots then.
+    fn push_mixed(
+        &self,
+        state: &mut Self::State,
+        decoded: &mut Self::DecodedState,
+        valid: u64,
+        count: usize,
+    ) -> Result<()>
+        requires few { count ≤ 64 }
+        ensures ok { OnOk result (DecodesMixed (word_bits valid count) (left state.old) (left state.new) (slots decoded.old) (slots decoded.new)) }
+        ensures err { IfErr result (CannotDecode byte_limit (ones (word_bits valid count)) (left state.old) (slots decoded.old)) };
 }

@@ -2,10 +2,10 @@
 //! "Variable-size List Layout", "Struct Layout").
 #![tactic(auto)]
 
-mod alike;
 mod laws;
 mod reach;
 mod taker;
+mod there;
 mod walk;
 
 pub use laws::{columns_are_stored, values_are_at_places};

@@ -47,6 +47,10 @@ fn step<T: Taker>(taker: &mut T, parts: &[Nested], place: usize, to: usize) -> R
             taker.take(place, end)?;
             Ok(end)
         }
+        Reach::Picked(word, end) => {
+            taker.take_some(place, word, end - place)?;
+            Ok(end)
+        }
         Reach::Below(rest, first, last, end) => {
             walk(taker, rest, first, last)?;
             Ok(end)

@@ -79,3 +79,13 @@ adds-more p count stored places first old new from to m q low high h e f g =
       plain = λ z. omega (arith, h.plain z, e, g, plain-places p stored places more q);
       within = all-append (λ i. i < count) places more h.within (All-from_recursion (λ i. i < count) more (each-range count from (to - from) (omega (arith, low, high))));
     }
+
+pub adds_list : (p : Physical) (count : ℕ) (stored : ℕ → Value) (places : List ℕ) (first old new : Measured) (more : List ℕ) (n m : ℕ) → p ≢ boolean → Each (λ i. i < count) more → n ≡ length more
+    → Adds p count stored places first old → m ≡ plain_length p (map stored more) → new.values ≡ min (old.values + n) (2 ^ 64 - 1) → new.plain ≡ min (old.plain + m) (2 ^ 128 - 1)
+    → Adds p count stored (places ++ more) first new
+adds_list p count stored places first old new more n m q each k h e f g =
+    record {
+      values = λ z. omega (arith, h.values z, f, k, length-append places more);
+      plain = λ z. omega (arith, h.plain z, e, g, plain-places p stored places more q);
+      within = all-append (λ i. i < count) places more h.within (All-from_recursion (λ i. i < count) more each);
+    }

@@ -3,6 +3,7 @@ pub mod Counted
 pub mod InRows
 pub mod Made
 pub mod NumberPlaces
+pub mod Picked
 pub mod ServedTypes
 pub mod StringPlaces
 pub mod ServedColumns

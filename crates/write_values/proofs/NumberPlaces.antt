@@ -15,6 +15,7 @@ use Rattle.write_places.specs.Places.{gather, range}
 use Rattle.write_values.specs.Lengths.{plain_sum}
 use Rattle.write_values.specs.Numbers.{at_place, is_number, numbers_in_a_row}
 use Rattle.write_values.specs.Stored.{stored_value, stored_at}
+use Rattle.pq_files.specs.Plain.{InARow}
 use Rattle.write_values.specs.Rows.{AppendsRow}
 use Rattle.write_values.proofs.InRows.{length-range, row-more}
 use Rattle.write_values.proofs.ServedTypes.{leaf_base}
@@ -85,8 +86,51 @@ numbers_size p w stored from count n h =
     let k : length (map stored (range from count)) ≡ count = length-map (range from count) stored ∙ length-range from count in
     sym (plain_sum p (map stored (range from count)) (numbers_in_a_row p n) ∙ (sum_alike p w h (map stored (range from count)) ∙ ap (λ (j : ℕ). j * w) k))
 
+pub picked_size : (p : Physical) (w : ℕ) (stored : ℕ → Value) (places : List ℕ) → is_number p ≡ true → ((v : Value) → plain_size p v ≡ w) → length places * w ≡ plain_length p (map stored places)
+picked_size p w stored places n h =
+    sym (plain_sum p (map stored places) (numbers_in_a_row p n) ∙ (sum_alike p w h (map stored places) ∙ ap (λ (j : ℕ). j * w) (length-map places stored)))
+
 pub numbers_more : {A : Type 0} (p : Physical) (f : A → Value) (xs : List A) (i : ℕ) (x : A) (a b c : List ℕ) → i < length xs → x ≡ get_or xs i x → AppendsRow p a b (map f (take i xs)) → AppendsRow p b c (f x ∷ []) → AppendsRow p a c (map f (take (i + 1) xs))
 numbers_more {A} p f xs i x a b c l e h g =
     let same : map f (take i xs) ++ (f x ∷ []) ≡ map f (take (i + 1) xs) =
     ap (λ (y : A). map f (take i xs) ++ (f y ∷ [])) e ∙ (sym (map-append f (take i xs) (get_or xs i x ∷ [])) ∙ ap (map f) (sym (take_more xs i x l))) in
     subst (λ (vs : List Value). AppendsRow p a c vs) same (row-more p a b c (map f (take i xs)) (f x ∷ []) h g)
+
+-- ---- in places that are there
+
+-- room for the numbers that are left, once one more stands
+pub room_left : (at i n w k size more : ℕ) → i < n → at + (n - i) * w ≤ size → k ≡ w → more ≡ size → at + k + (n - (i + 1)) * w ≤ more
+room_left at i n w k size more l h e s =
+    let step : n - i ≡ suc (n - (i + 1)) = omega (arith, l) in
+    let room : at + suc (n - (i + 1)) * w ≤ size = subst (λ (j : ℕ). at + j * w ≤ size) step h in
+    omega (arith, room, e, s)
+
+-- one more number in its place
+pub number_placed : {A : Type 0} (p : Physical) (f : A → Value) (xs : List A) (i : ℕ) (x : A) (at k w : ℕ) (old new : List ℕ) → i < length xs → x ≡ get_or xs i x → k ≡ w → AppendsRow p [] (take at old) (map f (take i xs)) → AppendsRow p (take at old) (take (at + w) new) (f x ∷ []) → AppendsRow p [] (take (at + k) new) (map f (take (i + 1) xs))
+number_placed {A} p f xs i x at k w old new l e q h g =
+    numbers_more p f xs i x [] (take at old) (take (at + k) new) l e h (subst (λ (j : ℕ). AppendsRow p (take at old) (take (at + j) new) (f x ∷ [])) (sym q) g)
+
+-- what stands in its own places is appended
+row-behind : (p : Physical) (a text : List ℕ) (vs : List Value) → AppendsRow p [] text vs → AppendsRow p a (a ++ text) vs
+row-behind p a text vs h = record { text = text; parts = refl; row = subst (λ (t : List ℕ). InARow p t vs) (sym h.parts) h.row }
+
+take_on : {X : Type 0} (xs : List X) (i n : ℕ) → take (i + n) xs ≡ take i xs ++ take n (drop i xs)
+take_on xs zero n = let e : 0 + n ≡ n = omega arith in ap (λ (k : ℕ). take k xs) e
+take_on {X} [] (suc i) n = nothing (suc i + n) ∙ sym (nothing n)
+  where
+    nothing : (k : ℕ) → ◌≡◌ {A = List X} (take k []) []
+    nothing zero = refl
+    nothing (suc k) = refl
+take_on {X} (x ∷ xs) (suc i) n =
+    let e : suc i + n ≡ suc (i + n) = omega arith in
+    ap (λ (k : ℕ). take k (x ∷ xs)) e ∙ ap (λ (ys : List X). x ∷ ys) (take_on xs i n)
+
+-- the numbers of one more block
+pub numbers_further : {A : Type 0} (p : Physical) (f : A → Value) (xs : List A) (at end : ℕ) (a b text c : List ℕ) → at ≤ end → c ≡ b ++ text → AppendsRow p a b (map f (take at xs)) → AppendsRow p [] text (map f (take (end - at) (drop at xs))) → AppendsRow p a c (map f (take end xs))
+numbers_further {A} p f xs at end a b text c l e h g =
+    let n : at + (end - at) ≡ end = omega (arith, l) in
+    let same : map f (take at xs) ++ map f (take (end - at) (drop at xs)) ≡ map f (take end xs) =
+    sym (map-append f (take at xs) (take (end - at) (drop at xs))) ∙ (ap (map f) (sym (take_on xs at (end - at))) ∙ ap (λ (k : ℕ). map f (take k xs)) n) in
+    subst (λ (vs : List Value). AppendsRow p a c vs) same
+    (row-more p a b c (map f (take at xs)) (map f (take (end - at) (drop at xs))) h
+    (subst (λ (t : List ℕ). AppendsRow p b t (map f (take (end - at) (drop at xs)))) (sym e) (row-behind p b text (map f (take (end - at) (drop at xs))) g)))

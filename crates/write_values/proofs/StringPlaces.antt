@@ -1,6 +1,7 @@
 -- Byte strings by place, one behind the other.
 use Rattle.std.proofs.Common.{◌≡◌, ℕ, zero, suc, ◌+◌, ◌-◌, ◌*◌, ◌<◌, ◌≤◌, ◌^◌, false, List, [], ◌∷◌, ◌++◌, length, take, drop, map, refl, sym, ap, subst, ◌∙◌, arith}
 use Rattle.std.specs.Prelude.{sum_by, slice_index_or}
+use Rattle.std.specs.List.{AllByRecursion as Each}
 use Rattle.std.proofs.lemmas.List.{length-take, length-drop, map-append, length-map, get_or-map}
 use Rattle.std.proofs.lemmas.List.Sums.{sum_by-cons}
 use Rattle.shredding.specs.Slot.{Value, truth, bytes}
@@ -14,11 +15,13 @@ use Rattle.levels.proofs.Rising.{rising}
 use Rattle.pq_tree.specs.Physical.{byte_array}
 use Rattle.pq_files.specs.Layout.{plain_length, plain_size}
 use Rattle.pq_files.specs.Room.{max_size}
-use Rattle.write_places.specs.Places.{gather, range}
+use Rattle.write_places.specs.Places.{gather, range, picked}
 use Rattle.write_places.proofs.Gather.{gather-split, gather-more, gather-none}
+use Rattle.write_places.proofs.Picked.{IsNext, each_picked}
 use Rattle.write_values.specs.Numbers.{at_place}
 use Rattle.write_values.specs.Rows.{AppendsRow, row-none}
 use Rattle.write_values.proofs.InRows.{row-more}
+use Rattle.write_values.proofs.Picked.{few_picked}
 
 -- ---- one string
 
@@ -31,7 +34,7 @@ piece_size os bs i p h =
     let s = step_of_places os (length bs) i p h in
     omega (arith, s.0, s.1, length-take (slice_index_or os (i + 1) 0 - slice_index_or os i 0) (drop (slice_index_or os i 0) bs), length-drop (slice_index_or os i 0) bs)
 
-string_size : (os bs : List ℕ) (i : ℕ) → IsPlaces os (length bs) → i + 1 < length os → plain_size byte_array (at_place (pieces_values os bs) i) ≡ 4 + (slice_index_or os (i + 1) 0 - slice_index_or os i 0)
+pub string_size : (os bs : List ℕ) (i : ℕ) → IsPlaces os (length bs) → i + 1 < length os → plain_size byte_array (at_place (pieces_values os bs) i) ≡ 4 + (slice_index_or os (i + 1) 0 - slice_index_or os i 0)
 string_size os bs i p h = ap (plain_size byte_array) (sym (piece_is os bs i h)) ∙ ap (λ (n : ℕ). 4 + n) (piece_size os bs i p h)
 
 -- ---- strings side by side
@@ -85,3 +88,36 @@ place_within os bs to p h = omega (arith, h, length-map (pieces os bs) bytes, pi
 
 pub piece_between : (os bs : List ℕ) (i start end : ℕ) → i + 1 < length os → start ≡ slice_index_or os i 0 → end ≡ slice_index_or os (i + 1) 0 → bytes (take (end - start) (drop start bs)) ≡ at_place (pieces_values os bs) i
 piece_between os bs i start end h s e = rw (s, e) (piece_is os bs i h)
+
+-- ---- at picked places
+
+-- the first of the strings picked, and the others
+pub picked_less : (os bs : List ℕ) (word left from count t : ℕ) → IsNext word left from count t → plain_length byte_array (map (at_place (pieces_values os bs)) (picked word from count)) ≡ plain_size byte_array (at_place (pieces_values os bs) (from + t)) + plain_length byte_array (map (at_place (pieces_values os bs)) (picked left from count))
+picked_less os bs word left from count t n =
+    ap (λ (ns : List ℕ). sum_by (plain_size byte_array) (map (at_place (pieces_values os bs)) ns)) n.places
+    ∙ sum_by-cons (plain_size byte_array) (at_place (pieces_values os bs) (from + t)) (map (at_place (pieces_values os bs)) (picked left from count))
+
+-- the bytes of some strings have a number below 2 ^ 128
+sum_few : (os bs : List ℕ) (limit : ℕ) (places : List ℕ) → IsPlaces os (length bs) → length bs < 2 ^ 64 → limit < length os → Each (λ i. i < limit) places → sum_by (plain_size byte_array) (map (at_place (pieces_values os bs)) places) ≤ length places * 2 ^ 65
+sum_few os bs limit [] p few h each = omega arith
+sum_few os bs limit (i ∷ places) p few h each =
+    let within : i + 1 < length os = omega (arith, h, each.0) in
+    let s = step_of_places os (length bs) i p within in
+    let one = string_size os bs i p within in
+    let more = sum_few os bs limit places p few h each.1 in
+    let all = sum_by-cons (plain_size byte_array) (at_place (pieces_values os bs) i) (map (at_place (pieces_values os bs)) places) in
+    omega (arith, all, one, s.1, more, few)
+
+pub picked_few : (os bs : List ℕ) (word from count : ℕ) → IsPlaces os (length bs) → length bs < 2 ^ 64 → from + count < length os → count ≤ 64 → word < 2 ^ count → plain_length byte_array (map (at_place (pieces_values os bs)) (picked word from count)) < 2 ^ 128
+picked_few os bs word from count p few within n low =
+    let sum = sum_few os bs (from + count) (picked word from count) p few within (each_picked (from + count) word from count (omega arith)) in
+    omega (arith, sum, few_picked word from count low, n)
+
+-- a string among some that fit into a page is short
+pub picked_short : (os bs : List ℕ) (word left from count t size : ℕ) → IsPlaces os (length bs) → IsNext word left from count t → from + count < length os → plain_length byte_array (map (at_place (pieces_values os bs)) (picked word from count)) ≤ max_size → size ≡ slice_index_or os (from + t + 1) 0 - slice_index_or os (from + t) 0 → size < 2 ^ 32
+picked_short os bs word left from count t size p n within h e =
+    omega (arith, e, h, picked_less os bs word left from count t n, string_size os bs (from + t) p (omega (arith, n.within, within)))
+
+-- the others fit too
+pub others_fit : (os bs : List ℕ) (word left from count t : ℕ) → IsNext word left from count t → plain_length byte_array (map (at_place (pieces_values os bs)) (picked word from count)) ≤ max_size → plain_length byte_array (map (at_place (pieces_values os bs)) (picked left from count)) ≤ max_size
+others_fit os bs word left from count t n h = omega (arith, h, picked_less os bs word left from count t n)

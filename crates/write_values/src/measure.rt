@@ -47,6 +47,18 @@ impl<'a, L: LeafValues> Taker for Measuring<'a, L> {
         };
         Ok(())
     }
+
+    fn take_some(&mut self, from: usize, bits: u64, count: usize) -> Result<()> {
+        let plain = self.leaf.some_size(from, bits, count);
+        self.measured = Measured {
+            values: self
+                .measured
+                .values
+                .saturating_add(bits.count_ones() as usize),
+            plain: self.measured.plain.saturating_add(plain),
+        };
+        Ok(())
+    }
 }
 
 // The number of the values that a path reaches and that of the bytes of their plain spelling. It takes no memory.

@@ -1,10 +1,12 @@
 //! Numbers that are stored as numbers of 32 or 64 bits.
-ghost use Rattle.std.specs.Prelude.{◌≡◌, ◌∷◌, [], true, map, OnOk, IfErr};
+ghost use Rattle.std.specs.Prelude.{◌≡◌, ◌<◌, ◌≤◌, ◌+◌, ◌*◌, ◌^◌, ◌∷◌, [], true, length, take, map, OnOk, IfErr};
 ghost use Rattle.columns_base.specs.declared.error.Error.TheVariants.{Memory};
 ghost use Rattle.shredding.specs.Slot.{number};
 ghost use Rattle.columns_core.specs.Shapes.{base, leaf_type};
 ghost use Rattle.pq_tree.specs.Views.{physical_view};
 ghost use Rattle.pq_files.specs.Statistics.{has_order};
+ghost use Rattle.write_places.specs.Places.{picked};
+ghost use Rattle.write_values.specs.Numbers.{at_place};
 ghost use Rattle.write_values.specs.Rows.{AppendsRow};
 
 use crate::row::LeafValues;
@@ -15,11 +17,17 @@ use std::marker::PhantomData;
 
 // A number of 32 or 64 bits, as columns have them (Parquet format, "Types": INT32 and INT64).
 pub trait StoredNumber: PlainNumber {
-    ghost use Rattle.std.specs.Prelude.{◌≡◌, ◌≤◌, true};
+    ghost use Rattle.std.specs.Prelude.{◌≡◌, ◌≤◌, ◌+◌, ◌++◌, true, length, take};
     ghost use Rattle.shredding.specs.Slot.{Value};
     ghost use Rattle.pq_tree.specs.Views.{physical_view};
     ghost use Rattle.pq_files.specs.Layout.{plain_size};
     ghost use Rattle.write_values.specs.Numbers.{is_number};
+
+    // Its bytes take their place, lowest first, and those before it stay.
+    fn put_le_bytes(&self, places: &mut [u8], at: usize)
+        requires { at + Self.byte_count ≤ length places.old }
+        ensures len { length places.new ≡ length places.old }
+        ensures front { take (at + Self.byte_count) places.new ≡ take at places.old ++ Self.stored self.now };
 
     ghost is_number_type: { is_number (physical_view Self.physical) ≡ true };
 
@@ -37,6 +45,10 @@ impl StoredNumber for i32 {
     ghost size_is = { λ v. refl };
 
     ghost few_bytes = { lit≤ tt };
+
+    fn put_le_bytes(&self, places: &mut [u8], at: usize) {
+        places[at..at + 4].copy_from_slice(&self.to_le_bytes());
+    }
 }
 
 impl StoredNumber for i64 {
@@ -48,6 +60,10 @@ impl StoredNumber for i64 {
     ghost size_is = { λ v. refl };
 
     ghost few_bytes = { lit≤ tt };
+
+    fn put_le_bytes(&self, places: &mut [u8], at: usize) {
+        places[at..at + 8].copy_from_slice(&self.to_le_bytes());
+    }
 }
 
 // A number that a column of `P` can always store: decimals, which it cannot, are none of these.
@@ -102,14 +118,125 @@ fn push_number<T: AlwaysStored<P>, P: StoredNumber>(out: &mut Vec<u8>, value: T)
     Ok(())
 }
 
-// Appends numbers one behind the other.
-fn push_numbers<T: AlwaysStored<P>, P: StoredNumber>(out: &mut Vec<u8>, values: &[T]) -> Result<()>
+// A number takes its place, lowest byte first, and the bytes before it stay.
+fn put_number<T: AlwaysStored<P>, P: StoredNumber>(places: &mut [u8], at: usize, value: T)
+    requires { at + P.byte_count ≤ length places.old }
+    ensures len { length places.new ≡ length places.old }
+    ensures is { AppendsRow (physical_view P.physical) (take at places.old) (take (at + P.byte_count) places.new) (number (T.stored_number value) ∷ []) }
+{
+    let stored: P = value.to_stored();
+    stored.know();
+    stored.put_le_bytes(places, at);
+}
+
+// Numbers stand one behind the other from the front on, in so many bytes.
+fn put_numbers<T: AlwaysStored<P>, P: StoredNumber>(places: &mut [u8], values: &[T]) -> usize
+    requires { length values.now * P.byte_count ≤ length places.old }
+    ensures len { length places.new ≡ length places.old }
+    ensures within { result ≤ length places.new }
+    ensures are { AppendsRow (physical_view P.physical) [] (take result places.new) (map (λ x. number (T.stored_number x)) values.now) }
+{
+    let mut at = 0;
+    for value in values {
+        put_number::<T, P>(places, at, *value);
+        at += P::width();
+    }
+    at
+}
+
+// Appends numbers one behind the other, each by itself.
+fn push_each<T: AlwaysStored<P>, P: StoredNumber>(out: &mut Vec<u8>, values: &[T]) -> Result<()>
     ensures ok { OnOk result (AppendsRow (physical_view P.physical) out.old.items out.new.items (map (λ x. number (T.stored_number x)) values.now)) }
     ensures err { IfErr result (λ e. e ≡ Memory) }
 {
     for value in values {
         push_number::<T, P>(out, *value)?;
     }
+    Ok(())
+}
+
+// Where a block of at most 64 places ends.
+fn block_end(at: usize, len: usize) -> usize
+    requires { at < len }
+    ensures past { at < result }
+    ensures within { result ≤ len }
+    ensures few { result ≤ at + 64 }
+{
+    if len - at < 64 { len } else { at + 64 }
+}
+
+// Appends numbers one behind the other, in blocks that are spelled before they are appended.
+fn push_blocks<T: AlwaysStored<P>, P: StoredNumber>(out: &mut Vec<u8>, values: &[T]) -> Result<()>
+    ensures ok { OnOk result (AppendsRow (physical_view P.physical) out.old.items out.new.items (map (λ x. number (T.stored_number x)) values.now)) }
+    ensures err { IfErr result (λ e. e ≡ Memory) }
+{
+    let mut block = [0; 512];
+    let mut at = 0;
+    while at < values.len() {
+        let end = block_end(at, values.len());
+        let size = put_numbers::<T, P>(&mut block, &values[at..end]);
+        out.extend_from_slice(&block[..size])?;
+        at = end;
+    }
+    Ok(())
+}
+
+// Appends numbers one behind the other. For a few a block costs more than it saves.
+fn push_numbers<T: AlwaysStored<P>, P: StoredNumber>(out: &mut Vec<u8>, values: &[T]) -> Result<()>
+    ensures ok { OnOk result (AppendsRow (physical_view P.physical) out.old.items out.new.items (map (λ x. number (T.stored_number x)) values.now)) }
+    ensures err { IfErr result (λ e. e ≡ Memory) }
+{
+    if values.len() < 8 {
+        push_each::<T, P>(out, values)
+    } else {
+        push_blocks::<T, P>(out, values)
+    }
+}
+
+// The numbers at picked places stand one behind the other from the front on, in so many bytes.
+fn put_some<T: AlwaysStored<P>, P: StoredNumber>(
+    places: &mut [u8],
+    values: &[T],
+    from: usize,
+    bits: u64,
+    count: usize,
+) -> usize
+    requires few { count ≤ 64 }
+    requires low { bits < 2 ^ count }
+    requires within { from + count ≤ length values.now }
+    requires room { count * P.byte_count ≤ length places.old }
+    ensures len { length places.new ≡ length places.old }
+    ensures within { result ≤ length places.new }
+    ensures are { AppendsRow (physical_view P.physical) [] (take result places.new) (map (at_place (map (λ x. number (T.stored_number x)) values.now)) (picked bits from count)) }
+{
+    let mut left = bits;
+    let mut at = 0;
+    while left != 0 {
+        let i = left.trailing_zeros() as usize;
+        put_number::<T, P>(places, at, values[from + i]);
+        at += P::width();
+        left ^= 1 << i;
+    }
+    at
+}
+
+// Appends the numbers at picked places one behind the other, in a block that is spelled before it is appended.
+fn push_picked<T: AlwaysStored<P>, P: StoredNumber>(
+    out: &mut Vec<u8>,
+    values: &[T],
+    from: usize,
+    bits: u64,
+    count: usize,
+) -> Result<()>
+    requires few { count ≤ 64 }
+    requires low { bits < 2 ^ count }
+    requires within { from + count ≤ length values.now }
+    ensures ok { OnOk result (AppendsRow (physical_view P.physical) out.old.items out.new.items (map (at_place (map (λ x. number (T.stored_number x)) values.now)) (picked bits from count))) }
+    ensures err { IfErr result (λ e. e ≡ Memory) }
+{
+    let mut block = [0; 512];
+    let size = put_some::<T, P>(&mut block, values, from, bits, count);
+    out.extend_from_slice(&block[..size])?;
     Ok(())
 }
 
@@ -158,5 +285,14 @@ impl<'a, T: AlwaysStored<P>, P: StoredNumber> LeafValues for Numbers<'a, T, P> {
     fn push_plain(&self, out: &mut Vec<u8>, from: usize, to: usize) -> Result<()> {
         self.array.know();
         push_numbers::<T, P>(out, &self.array.values()[from..to])
+    }
+
+    fn some_size(&self, from: usize, bits: u64, places: usize) -> u128 {
+        bits.count_ones() as u128 * P::width() as u128
+    }
+
+    fn push_some(&self, out: &mut Vec<u8>, from: usize, bits: u64, places: usize) -> Result<()> {
+        self.array.know();
+        push_picked::<T, P>(out, self.array.values(), from, bits, places)
     }
 }

@@ -49,6 +49,11 @@ impl<'a, L: LeafValues> Taker for Plain<'a, L> {
         self.leaf.push_plain(&mut self.out, from, to)?;
         Ok(())
     }
+
+    fn take_some(&mut self, from: usize, bits: u64, count: usize) -> Result<()> {
+        self.leaf.push_some(&mut self.out, from, bits, count)?;
+        Ok(())
+    }
 }
 
 // Appends the plain spelling of the values that a path reaches, which has at most 2^31 - 1 bytes.

@@ -5,9 +5,9 @@ ghost use Rattle.shredding.specs.Slot.{bytes};
 ghost use Rattle.columns_slots.specs.Slots.{IsPlaces};
 ghost use Rattle.columns_slots.specs.Bytes.{pieces_values};
 ghost use Rattle.pq_tree.specs.Physical.{byte_array};
-ghost use Rattle.pq_files.specs.Layout.{plain_length};
+ghost use Rattle.pq_files.specs.Layout.{plain_length, plain_size};
 ghost use Rattle.pq_files.specs.Room.{max_size};
-ghost use Rattle.write_places.specs.Places.{range};
+ghost use Rattle.write_places.specs.Places.{range, picked};
 ghost use Rattle.write_values.specs.Numbers.{at_place};
 ghost use Rattle.write_values.specs.Rows.{AppendsRow};
 
@@ -76,6 +76,70 @@ fn push_strings<O: Offset>(
     Ok(())
 }
 
+// The number of bytes of the plain spelling of a string.
+#[tactic(auto, using(columns_leaf::proofs::Texts::step_of_places))]
+fn string_size<O: Offset>(offsets: &OffsetsBuffer<O>, all: &[u8], i: usize) -> u128
+    requires places { IsPlaces offsets.now (length all.now) }
+    requires within { i + 1 < length offsets.now }
+    ensures { result ≡ plain_size byte_array (at_place (pieces_values offsets.now all.now) i) }
+{
+    let _strings = offsets.len_proxy();
+    let size = offsets.place(i + 1) - offsets.place(i);
+    4 + size as u128
+}
+
+// The number of bytes of the plain spelling of the strings at picked places.
+fn picked_size<O: Offset>(
+    offsets: &OffsetsBuffer<O>,
+    all: &[u8],
+    from: usize,
+    bits: u64,
+    count: usize,
+) -> u128
+    requires places { IsPlaces offsets.now (length all.now) }
+    requires few { count ≤ 64 }
+    requires low { bits < 2 ^ count }
+    requires within { from + count < length offsets.now }
+    ensures { result ≡ plain_length byte_array (map (at_place (pieces_values offsets.now all.now)) (picked bits from count)) }
+{
+    let _strings = offsets.len_proxy();
+    let mut left = bits;
+    let mut plain = 0;
+    while left != 0 {
+        let i = left.trailing_zeros() as usize;
+        plain += string_size(offsets, all, from + i);
+        left ^= 1 << i;
+    }
+    plain
+}
+
+// Appends the strings at picked places, each behind its length.
+fn push_picked<O: Offset>(
+    offsets: &OffsetsBuffer<O>,
+    all: &[u8],
+    out: &mut Vec<u8>,
+    from: usize,
+    bits: u64,
+    count: usize,
+) -> Result<()>
+    requires places { IsPlaces offsets.now (length all.now) }
+    requires few { count ≤ 64 }
+    requires low { bits < 2 ^ count }
+    requires within { from + count < length offsets.now }
+    requires small { plain_length byte_array (map (at_place (pieces_values offsets.now all.now)) (picked bits from count)) ≤ max_size }
+    ensures ok { OnOk result (AppendsRow byte_array out.old.items out.new.items (map (at_place (pieces_values offsets.now all.now)) (picked bits from count))) }
+    ensures err { IfErr result (λ e. e ≡ Memory) }
+{
+    let _strings = offsets.len_proxy();
+    let mut left = bits;
+    while left != 0 {
+        let i = left.trailing_zeros() as usize;
+        push_string(out, string_at(offsets, all, from + i))?;
+        left ^= 1 << i;
+    }
+    Ok(())
+}
+
 // The texts of an array.
 #[derive(Clone, Copy, Drop)]
 pub struct Texts<'a, O: Offset> {
@@ -106,6 +170,29 @@ impl<'a, O: Offset> LeafValues for Texts<'a, O> {
     fn push_plain(&self, out: &mut Vec<u8>, from: usize, to: usize) -> Result<()> {
         self.array.know();
         push_strings(self.array.offsets(), self.array.values(), out, from, to)
+    }
+
+    fn some_size(&self, from: usize, bits: u64, places: usize) -> u128 {
+        self.array.know();
+        picked_size(
+            self.array.offsets(),
+            self.array.values(),
+            from,
+            bits,
+            places,
+        )
+    }
+
+    fn push_some(&self, out: &mut Vec<u8>, from: usize, bits: u64, places: usize) -> Result<()> {
+        self.array.know();
+        push_picked(
+            self.array.offsets(),
+            self.array.values(),
+            out,
+            from,
+            bits,
+            places,
+        )
     }
 }
 
@@ -139,5 +226,28 @@ impl<'a, O: Offset> LeafValues for Strings<'a, O> {
     fn push_plain(&self, out: &mut Vec<u8>, from: usize, to: usize) -> Result<()> {
         self.array.know();
         push_strings(self.array.offsets(), self.array.values(), out, from, to)
+    }
+
+    fn some_size(&self, from: usize, bits: u64, places: usize) -> u128 {
+        self.array.know();
+        picked_size(
+            self.array.offsets(),
+            self.array.values(),
+            from,
+            bits,
+            places,
+        )
+    }
+
+    fn push_some(&self, out: &mut Vec<u8>, from: usize, bits: u64, places: usize) -> Result<()> {
+        self.array.know();
+        push_picked(
+            self.array.offsets(),
+            self.array.values(),
+            out,
+            from,
+            bits,
+            places,
+        )
     }
 }

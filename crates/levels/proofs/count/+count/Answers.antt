@@ -1,9 +1,8 @@
 use Rattle.std.proofs.Common.{◌+◌, ◌-◌, arith, ◌∙◌}
-use Rattle.std.proofs.lemmas.List.{length-map}
-use Rattle.levels.specs.Nested.{part_of, parts_of}
+use Rattle.levels.specs.Nested.{parts_of}
 use Rattle.levels.specs.Stretch.{level_of}
 use Rattle.levels.specs.declared.walk.Level.TheVariants.{Definition}
-use Rattle.levels.proofs.Sizes.{total-steps, total-end, total-leaf, stretch-size, length-like, length-slots}
+use Rattle.levels.proofs.Sizes.{total-steps, total-end, stretch-size, length-like, length-slots}
 use Rattle.levels.proofs.count.+count.Goals as goal
 
 pub count_stretch-returns-in-Ends-clause-pairs : goal.count_stretch-returns-in-Ends-clause-pairs
@@ -20,11 +19,6 @@ pub count_stretch-returns-in-Items-clause-pairs : goal.count_stretch-returns-in-
 count_stretch-returns-in-Items-clause-pairs t c =
     let size = stretch-size (level_of Definition) (parts_of c.args.parts.now) c.args.place (c.in-Items.end - c.args.place) _ (c.in-Items.ensures.levels 0 0 0) ∙ length-slots (parts_of c.in-Items.rest.now) (0 + c.in-Items.field-1) (0 + 1) 0 (0 + 1) c.in-Items.first (c.in-Items.last - c.in-Items.first) in
     omega (arith, size, c.count-in-Items.ensures)
-
-pub count-returns-then-parts-eq1 : goal.count-returns-then-parts-eq1
-count-returns-then-parts-eq1 t c =
-    let all = total-leaf (parts_of c.args.parts.now) c.args.from (c.args.to - c.args.from) c.requires.well (length-map c.args.parts.now part_of ∙ c.if-parts-eq1.true) in
-    omega (arith, all)
 
 pub count-loop-place-preserved : goal.count-loop-place-preserved
 count-loop-place-preserved t c =

@@ -12,18 +12,18 @@ use Rattle.read_walk.proofs.Walking.{given-called}
 use Rattle.read_walk.proofs.take.take_block.Goals as goal
 
 pub push_levels-requires-clause-fits : goal.push_levels-requires-clause-fits
-push_levels-requires-clause-fits g c = all-fit c.args.before c.args.reps.now c.args.defs.now c.args.nested.now c.requires.defs c.requires.reps c.requires.fits c.requires.follow c.requires.ended
+push_levels-requires-clause-fits g c = all-fit 64 c.args.before c.args.reps.now c.args.defs.now c.args.nested.now c.requires.defs c.requires.reps c.requires.fits c.requires.follow c.requires.ended
 
 pub returns-in-Ok-clause-ok : goal.returns-in-Ok-clause-ok
 returns-in-Ok-clause-ok g c =
-    both_ok c.push_levels.result (λ made short. took-block c.args.before c.leaf_levels-floor.result.0 c.leaf_levels-floor.result.1 c.args.reps.now c.args.defs.now c.args.nested.now c.push_levels.new.self (g.D.NestedDecoder.slots c.args.decoded.now) (g.D.NestedDecoder.slots c.decode_levels.new.decoded) (g.D.NestedDecoder.left c.args.values.now) (g.D.NestedDecoder.left c.decode_levels.new.values) c.requires.reps c.requires.defs c.requires.fits c.requires.follow c.requires.ended c.requires.decoded c.leaf_levels-floor.ensures.floor c.leaf_levels-floor.ensures.top made short c.in-Ok.ensures.ok) c.push_levels.ensures.ok c.push_levels.ensures.counted
+    both_ok c.push_levels.result (λ made short. took-block 64 c.args.before c.leaf_levels-floor.result.0 c.leaf_levels-floor.result.1 c.args.reps.now c.args.defs.now c.args.nested.now c.push_levels.new.self (g.D.NestedDecoder.slots c.args.decoded.now) (g.D.NestedDecoder.slots c.decode_levels.new.decoded) (g.D.NestedDecoder.left c.args.values.now) (g.D.NestedDecoder.left c.decode_levels.new.values) c.requires.reps c.requires.defs c.requires.fits c.requires.follow c.requires.ended c.requires.decoded c.leaf_levels-floor.ensures.floor c.leaf_levels-floor.ensures.top made short c.in-Ok.ensures.ok) c.push_levels.ensures.ok c.push_levels.ensures.counted
 
 pub returns-in-Ok-clause-err : goal.returns-in-Ok-clause-err
 returns-in-Ok-clause-err g c =
     let most = g.D.NestedDecoder.byte_limit in
     let left = g.D.NestedDecoder.left c.args.values.now in
     let slots = g.D.NestedDecoder.slots c.args.decoded.now in
-    let fit = all-fit c.args.before c.args.reps.now c.args.defs.now c.args.nested.now c.requires.defs c.requires.reps c.requires.fits c.requires.follow c.requires.ended in
+    let fit = all-fit 64 c.args.before c.args.reps.now c.args.defs.now c.args.nested.now c.requires.defs c.requires.reps c.requires.fits c.requires.follow c.requires.ended in
     let d = c.in-Ok.ensures.ok in
     let there : AreThere (called (max_definition (kept_way c.args.nested.now)) c.args.defs.now) left = record {
       values = given d.gives;
@@ -33,7 +33,7 @@ returns-in-Ok-clause-err g c =
     } in
     IfErr-weaker c.push_levels.result _ (CannotTake most c.args.reps.now c.args.defs.now c.args.nested.now left slots) (λ e h. elim h [
       | inl memory ↦ inr (inl memory)
-      | inr long ↦ inl (long.0, long-walk c.args.reps.now c.args.defs.now c.args.nested.now c.requires.defs c.requires.reps fit long.1, there)
+      | inr long ↦ inl (long.0, long-walk 64 c.args.reps.now c.args.defs.now c.args.nested.now c.requires.defs c.requires.reps fit long.1, there)
     ]) c.push_levels.ensures.err
 
 pub returns-in-Err-clause-err : goal.returns-in-Err-clause-err

@@ -1,7 +1,6 @@
-use Rattle.std.proofs.Common.{◌≡◌, ◌≤◌, ◌^◌, ℕ, arith, subst, sym}
-use Rattle.pq_runs.specs.Writing.{Keeps}
+use Rattle.std.proofs.Common.{◌≡◌, ◌≤◌, ◌^◌, arith, sym}
 use Rattle.pq_runs.proofs.Steps.{was_ok}
-use Rattle.pq_runs.proofs.Kept.{waiting, keeps_more, keeps_packed, keeps_settled}
+use Rattle.pq_runs.proofs.Kept.{keeps_more, keeps_packed, keeps_settled}
 use Rattle.pq_runs.proofs.writer.RunWriter.push_some.Goals as goal
 use Rattle.pq_runs.proofs.writer.RunWriter.push_some.Goals.{else-number-self-via-then-number-self+else-self-lt-MOST_COPIES, else-number-self-via-else-number-self}
 
@@ -9,17 +8,14 @@ pub returns-then-self-lt-MOST_COPIES-clause-added : goal.returns-then-self-lt-MO
 returns-then-self-lt-MOST_COPIES-clause-added c = λ start xs k.
     rw c.if-number-self.true (keeps_more start c.args.out.now.items c.self.inside.width c.self.inside.block c.self.inside.number c.self.inside.count c.args.count xs (rw (← c.self.view_is) at k))
 
-pub returns-then-len-lt503-clause-added : goal.returns-then-len-lt503-clause-added
-returns-then-len-lt503-clause-added c =
-    let one : c.self.inside.count ≡ 1 = omega arith in
-    let ends : c.self.inside.number ≡ c.args.number → 2 ^ 40 ≤ 1 = λ e. elim c.else-number-self.branch [
-      | else-number-self-via-then-number-self+else-self-lt-MOST_COPIES w ↦ omega (arith, one, w.if-self-lt-MOST_COPIES.false)
+pub returns-then-len-lt496-clause-added : goal.returns-then-len-lt496-clause-added
+returns-then-len-lt496-clause-added c =
+    let ends : c.self.inside.number ≡ c.args.number → 2 ^ 40 ≤ c.self.inside.count = λ e. elim c.else-number-self.branch [
+      | else-number-self-via-then-number-self+else-self-lt-MOST_COPIES w ↦ omega (arith, w.if-self-lt-MOST_COPIES.false)
       | else-number-self-via-else-number-self w ↦ absurd (w.if-number-self.false (sym e))
     ] in
     λ start xs k.
-    let kept : Keeps start c.args.out.now.items (waiting c.self.inside.width c.self.inside.block c.self.inside.number c.self.inside.count) xs = rw (← c.self.view_is) at k in
-    keeps_packed start c.args.out.now.items c.self.inside.width c.self.inside.block c.push.new.self c.self.inside.number c.args.number c.args.count xs c.requires.some ends c.push.ensures
-    (subst (λ (n : ℕ). Keeps start c.args.out.now.items (waiting c.self.inside.width c.self.inside.block c.self.inside.number n) xs) one kept)
+    keeps_packed start c.args.out.now.items c.self.inside.width c.self.inside.block c.push_few.new.self c.self.inside.number c.self.inside.count c.args.number c.args.count xs c.requires.some ends (omega arith) c.push_few.ensures (rw (← c.self.view_is) at k)
 
 pub returns-clause-added : goal.returns-clause-added
 returns-clause-added c =

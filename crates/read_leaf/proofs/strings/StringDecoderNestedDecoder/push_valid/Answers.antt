@@ -1,8 +1,24 @@
+use Rattle.std.proofs.Common.{◌≡◌, ◌+◌, ◌-◌, ◌≤◌, ℕ, arith, subst}
+use Rattle.read_walk.specs.Values.{Decodes}
+use Rattle.read_leaf.specs.Strings.{stored_strings, string_slots}
 use Rattle.read_leaf.proofs.Standing.{decodes-more, cannot-next}
+use Rattle.read_leaf.proofs.MixedStrings.{word-valid, word-cannot}
 use Rattle.read_leaf.proofs.strings.StringDecoderNestedDecoder.push_valid.Goals as goal
 
 pub returns-in-Err-clause-err : goal.returns-in-Err-clause-err
-returns-in-Err-clause-err g c = cannot-next g.O.Offset.limit c.loop-i.i c.args.count _ _ _ _ c.in-Err.error c.loop-i-test.true c.loop-i.invariant c.in-Err.ensures.err
+returns-in-Err-clause-err g c =
+    let few : c.min-some.result ≤ 64 = omega arith in
+    let within : c.args.count - c.loop-left.left + c.min-some.result ≤ c.args.count = omega (arith, c.loop-left.invariant.most) in
+    cannot-next g.O.Offset.limit (c.args.count - c.loop-left.left) c.min-some.result c.args.count _ _ _ _ c.in-Err.error within c.loop-left.invariant.so_far (word-cannot g.O.Offset.limit c.min-some.result _ _ c.in-Err.error few c.in-Err.ensures.err)
 
-pub loop-i-preserved : goal.loop-i-preserved
-loop-i-preserved g c = decodes-more c.loop-i.i _ _ _ _ _ _ c.loop-i.invariant c.in-Ok.ensures.ok
+pub loop-left-preserved : goal.loop-left-preserved
+loop-left-preserved g c =
+    let few : c.min-some.result ≤ 64 = omega arith in
+    let place : c.args.count - c.loop-left.left + c.min-some.result ≡ c.args.count - (c.loop-left.left - c.min-some.result) = omega (arith, c.loop-left.invariant.most) in
+    record {
+      most = omega (arith, c.loop-left.invariant.most);
+      so_far = subst
+          (λ (k : ℕ). Decodes k (stored_strings g.K.StringKind.allows c.args.state.now.values.now) (stored_strings g.K.StringKind.allows c.push_word.new.state.values.now) (string_slots c.args.decoded.now.0 c.args.decoded.now.1) (string_slots c.push_word.new.self.0 c.push_word.new.self.1))
+          place
+          (decodes-more (c.args.count - c.loop-left.left) c.min-some.result _ _ _ _ _ _ c.loop-left.invariant.so_far (word-valid c.min-some.result _ _ _ _ few c.in-Ok.ensures.ok));
+    }

@@ -1,0 +1,121 @@
+-- Plain numbers among nulls.
+use Rattle.std.proofs.Common.{◌≡◌, ℕ, ◌+◌, ◌-◌, ◌*◌, ◌/◌, ◌%◌, ◌<◌, ◌≤◌, ◌==◌, ℤ, Bool, true, false, Option, Some, None, List, [], ◌∷◌, ◌++◌, map, length, take, drop, refl, arith, ap, sym, subst, ◌∙◌, append-nil, length-append}
+use Rattle.std.proofs.lemmas.List.{map-append, length-map}
+use Rattle.columns_core.specs.Bits.{word_bits}
+use Rattle.shredding.specs.Slot.{Value, number, Slot, null, value}
+use Rattle.read_walk.specs.Values.{DecodesMixed, ones, spread}
+use Rattle.read_leaf.specs.Numbers.{plain_numbers, stored_numbers, number_slots, TookOne, TookMixed, OneIsOutside}
+use Rattle.read_leaf.proofs.NumberSlots.{slots-more, taken-front}
+use Rattle.read_leaf.proofs.Reading.{IsReading, nothing-read, one-read, one-outside, enough-left}
+use Rattle.read_leaf.proofs.SetBits.{length-bits, next-bit, ones-append, spread-append}
+
+module _ (loaded : ℤ → Option ℤ) (spelled : List ℕ → ℤ) (size : ℕ) where
+  -- so many slots made, of n; the word has the bits of the others
+  pub record IsMixing (valid n i word : ℕ) (bytes rest : List ℕ) (xs : List ℤ) : Type 0 where
+    pub done : List Bool
+    pub numbers : List ℤ
+    pub all : done ++ word_bits word (n - i) ≡ word_bits valid n
+    pub made : length done ≡ i
+    pub even : length xs ≡ i
+    pub reading : IsReading loaded spelled size (ones done) (ones (word_bits valid n)) bytes rest [] numbers
+    pub stand : number_slots xs done ≡ spread done (map number numbers)
+
+  pub mixing-none : (valid n : ℕ) (bytes : List ℕ) → IsMixing valid n 0 valid bytes bytes []
+  mixing-none valid n bytes =
+      let whole : n - 0 ≡ n = omega arith in
+      record {
+        done = [];
+        numbers = [];
+        all = ap (word_bits valid) whole;
+        made = refl;
+        even = refl;
+        reading = nothing-read loaded spelled size (ones (word_bits valid n)) bytes [];
+        stand = refl;
+      }
+
+  -- one is left to be read
+  pub one-called : (valid n i word : ℕ) (bytes rest : List ℕ) (xs : List ℤ) → i < n → (word % 2 == 1) ≡ true → (m : IsMixing valid n i word bytes rest xs) → ones m.done < ones (word_bits valid n)
+  one-called valid n i word bytes rest xs l e m =
+      let next : (m.done ++ true ∷ []) ++ word_bits (word / 2) (n - (i + 1)) ≡ word_bits valid n = subst (λ (b : Bool). (m.done ++ b ∷ []) ++ word_bits (word / 2) (n - (i + 1)) ≡ word_bits valid n) e (next-bit valid n i word m.done l m.all) in
+      let all = sym (ap ones next) ∙ ones-append (m.done ++ true ∷ []) (word_bits (word / 2) (n - (i + 1))) in
+      omega (arith, all, ones-append m.done (true ∷ []))
+
+  pub mixing-enough : (valid n i word : ℕ) (bytes rest : List ℕ) (xs : List ℤ) → i < n → size * ones (word_bits valid n) ≤ length bytes → IsMixing valid n i word bytes rest xs → (word % 2 == 1) ≡ true → size ≤ length rest
+  mixing-enough valid n i word bytes rest xs l enough m e = enough-left loaded spelled size (ones m.done) (ones (word_bits valid n)) bytes rest (one-called valid n i word bytes rest xs l e m) enough m.reading.behind
+
+  pub mixing-outside : (valid n i word : ℕ) (bytes rest : List ℕ) (xs : List ℤ) → i < n → IsMixing valid n i word bytes rest xs → (word % 2 == 1) ≡ true → loaded (spelled (take size rest)) ≡ None → OneIsOutside loaded spelled size (ones (word_bits valid n)) bytes
+  mixing-outside valid n i word bytes rest xs l m e none = one-outside loaded spelled size (ones m.done) (ones (word_bits valid n)) bytes rest [] m.numbers (one-called valid n i word bytes rest xs l e m) m.reading none
+
+  pub mixing-more : (valid n i word : ℕ) (bytes rest rest' : List ℕ) (xs xs' : List ℤ) (z : ℤ) → i < n → IsMixing valid n i word bytes rest xs → TookOne loaded spelled size (word % 2 == 1) rest rest' z → xs' ≡ xs ++ z ∷ [] → IsMixing valid n (i + 1) (word / 2) bytes rest' xs'
+  mixing-more valid n i word bytes rest rest' xs xs' z l m t p = by (word % 2 == 1) refl t
+    where
+      even : length xs' ≡ i + 1
+      even = ap length p ∙ length-append xs (z ∷ []) ∙ omega (arith, m.even)
+
+      made : (b : Bool) → length (m.done ++ b ∷ []) ≡ i + 1
+      made b = length-append m.done (b ∷ []) ∙ omega (arith, m.made)
+
+      slots : (b : Bool) → number_slots xs' (m.done ++ b ∷ []) ≡ number_slots xs m.done ++ number_slots (z ∷ []) (b ∷ [])
+      slots b = ap (λ (t : List ℤ). number_slots t (m.done ++ b ∷ [])) p ∙ slots-more xs (z ∷ []) m.done (b ∷ []) (m.even ∙ sym m.made)
+
+      named : length (map number m.numbers) ≡ ones m.done
+      named = length-map m.numbers number ∙ (ap length m.reading.pushed ∙ m.reading.count)
+
+      by : (b : Bool) → (word % 2 == 1) ≡ b → TookOne loaded spelled size b rest rest' z → IsMixing valid n (i + 1) (word / 2) bytes rest' xs'
+      by true e t =
+          let more : ones (m.done ++ true ∷ []) ≡ ones m.done + 1 = ones-append m.done (true ∷ []) in
+          record {
+            done = m.done ++ true ∷ [];
+            numbers = m.numbers ++ z ∷ [];
+            all = subst (λ (b : Bool). (m.done ++ b ∷ []) ++ word_bits (word / 2) (n - (i + 1)) ≡ word_bits valid n) e (next-bit valid n i word m.done l m.all);
+            made = made true;
+            even = even;
+            reading = subst (λ (k : ℕ). IsReading loaded spelled size k (ones (word_bits valid n)) bytes rest' [] (m.numbers ++ z ∷ [])) (sym more) (one-read loaded spelled size (ones m.done) (ones (word_bits valid n)) bytes rest rest' [] m.numbers (m.numbers ++ z ∷ []) z (one-called valid n i word bytes rest xs l e m) m.reading t.0 t.1 refl);
+            stand = slots true ∙ (ap (λ (t : List Slot). t ++ value (number z) ∷ []) m.stand ∙ (sym (spread-append m.done (true ∷ []) (map number m.numbers) (number z ∷ []) named) ∙ ap (spread (m.done ++ true ∷ [])) (sym (map-append number m.numbers (z ∷ [])))));
+          }
+      by false e t =
+          let more : ones (m.done ++ false ∷ []) ≡ ones m.done = ones-append m.done (false ∷ []) ∙ omega arith in
+          record {
+            done = m.done ++ false ∷ [];
+            numbers = m.numbers;
+            all = subst (λ (b : Bool). (m.done ++ b ∷ []) ++ word_bits (word / 2) (n - (i + 1)) ≡ word_bits valid n) e (next-bit valid n i word m.done l m.all);
+            made = made false;
+            even = even;
+            reading = subst (λ (r : List ℕ). IsReading loaded spelled size (ones (m.done ++ false ∷ [])) (ones (word_bits valid n)) bytes r [] m.numbers) (sym t) (subst (λ (k : ℕ). IsReading loaded spelled size k (ones (word_bits valid n)) bytes rest [] m.numbers) (sym more) m.reading);
+            stand = slots false ∙ (ap (λ (t : List Slot). t ++ null ∷ []) m.stand ∙ (sym (spread-append m.done (false ∷ []) (map number m.numbers) [] named) ∙ ap (spread (m.done ++ false ∷ [])) (append-nil (map number m.numbers))));
+          }
+
+  pub mixing-done : (valid n i word : ℕ) (bytes rest : List ℕ) (xs : List ℤ) → i ≡ n → IsMixing valid n i word bytes rest xs → TookMixed loaded spelled size (word_bits valid n) bytes rest [] xs
+  mixing-done valid n i word bytes rest xs e m =
+      let none : n - i ≡ 0 = omega (arith, e) in
+      let all : m.done ≡ word_bits valid n = sym (append-nil m.done) ∙ (ap (λ (k : ℕ). m.done ++ word_bits word k) (sym none) ∙ m.all) in
+      let whole : ones m.done ≡ ones (word_bits valid n) = ap ones all in
+      let last : ones (word_bits valid n) - ones m.done ≡ 0 = omega (arith, whole) in
+      record {
+        numbers = m.numbers;
+        took = record {
+          numbers = m.reading.numbers;
+          count = m.reading.count ∙ whole;
+          are = m.reading.are ∙ (ap (λ (k : ℕ). map Some m.reading.numbers ++ map loaded (plain_numbers spelled size k rest)) last ∙ append-nil (map Some m.reading.numbers));
+          pushed = m.reading.pushed;
+          behind = m.reading.behind ∙ ap (λ (k : ℕ). drop (size * k) bytes) whole;
+        };
+        among = xs;
+        even = m.even ∙ (e ∙ sym (length-bits valid n));
+        stand = ap (number_slots xs) (sym all) ∙ (m.stand ∙ ap (λ (bs : List Bool). spread bs (map number m.numbers)) all);
+        pushed = refl;
+      }
+
+  -- what is decoded
+  pub mixed-decoded : (bits : List Bool) (bytes rest : List ℕ) (zs zs' : List ℤ) (bs bs' : List Bool) → 0 < size → ones bits ≤ length bytes / size → length zs ≡ length bs → TookMixed loaded spelled size bits bytes rest zs zs' → bs' ≡ bs ++ bits → DecodesMixed bits (stored_numbers loaded spelled size bytes) (stored_numbers loaded spelled size rest) (number_slots zs bs) (number_slots zs' bs')
+  mixed-decoded bits bytes rest zs zs' bs bs' some h even t b =
+      let same : map number t.took.numbers ≡ map number t.numbers = ap (map number) (sym t.took.pushed) in
+      record {
+        values = map number t.numbers;
+        size = length-map t.numbers number ∙ (ap length t.took.pushed ∙ t.took.count);
+        taken = taken-front loaded spelled size (ones bits) bytes rest [] t.numbers some h t.took ∙ ap (λ (vs : List Value). map Some vs ++ stored_numbers loaded spelled size rest) same;
+        pushed = ap (λ (cs : List Bool). number_slots zs' cs) b ∙ (ap (λ (ys : List ℤ). number_slots ys (bs ++ bits)) t.pushed ∙ (slots-more zs t.among bs bits even ∙ ap (λ (u : List Slot). number_slots zs bs ++ u) t.stand));
+      }
+
+  pub mixed-even : (bits : List Bool) (bytes rest : List ℕ) (zs zs' : List ℤ) (bs bs' : List Bool) → length zs ≡ length bs → TookMixed loaded spelled size bits bytes rest zs zs' → bs' ≡ bs ++ bits → length zs' ≡ length bs'
+  mixed-even bits bytes rest zs zs' bs bs' even t b = rw (t.pushed, b) (omega (arith, length-append zs t.among, length-append bs bits, even, t.even))

@@ -1,0 +1,47 @@
+use Rattle.std.proofs.Common.{◌≡◌, ℕ, ◌≤◌, inl, inr, length, replicate, sym, ◌∙◌, arith}
+use Rattle.std.proofs.lemmas.List.{length-replicate}
+use Rattle.std.proofs.lemmas.Result.{IfErr-weaker}
+use Rattle.shredding.specs.Shred.{max_definition}
+use Rattle.read_laws.specs.Column.{slot_of}
+use Rattle.read_laws.specs.State.{kept_way}
+use Rattle.read_walk.specs.Gives.{called, given}
+use Rattle.read_walk.specs.Values.{AreThere}
+use Rattle.read_walk.specs.Blocks.{CannotTake}
+use Rattle.pq_runs.proofs.Kept.{both_ok}
+use Rattle.read_walk.proofs.BlocksTaken.{took-block, all-fit, long-walk}
+use Rattle.read_walk.proofs.Walking.{given-called}
+use Rattle.read_walk.proofs.take.take_copies.Goals as goal
+
+same-size : (n r d : ℕ) → length (replicate n d) ≡ length (replicate n r)
+same-size n r d = length-replicate n d ∙ sym (length-replicate n r)
+
+enough : (n r : ℕ) → length (replicate n r) ≤ n
+enough n r = omega (arith, length-replicate n r)
+
+pub push_equal-requires-clause-fits : goal.push_equal-requires-clause-fits
+push_equal-requires-clause-fits g c = all-fit c.args.count c.args.before (replicate c.args.count c.args.rep) (replicate c.args.count c.args.level) c.args.nested.now (same-size c.args.count c.args.rep c.args.level) (enough c.args.count c.args.rep) c.requires.fits c.requires.follow c.requires.ended
+
+pub returns-in-Ok-clause-ok : goal.returns-in-Ok-clause-ok
+returns-in-Ok-clause-ok g c =
+    both_ok c.push_equal.result (λ made short. took-block c.args.count c.args.before c.leaf_levels-floor.result.0 c.leaf_levels-floor.result.1 (replicate c.args.count c.args.rep) (replicate c.args.count c.args.level) c.args.nested.now c.push_equal.new.self (g.D.NestedDecoder.slots c.args.decoded.now) (g.D.NestedDecoder.slots c.decode_copies.new.decoded) (g.D.NestedDecoder.left c.args.values.now) (g.D.NestedDecoder.left c.decode_copies.new.values) (enough c.args.count c.args.rep) (same-size c.args.count c.args.rep c.args.level) c.requires.fits c.requires.follow c.requires.ended c.requires.decoded c.leaf_levels-floor.ensures.floor c.leaf_levels-floor.ensures.top made short c.in-Ok.ensures.ok) c.push_equal.ensures.ok c.push_equal.ensures.counted
+
+pub returns-in-Ok-clause-err : goal.returns-in-Ok-clause-err
+returns-in-Ok-clause-err g c =
+    let most = g.D.NestedDecoder.byte_limit in
+    let left = g.D.NestedDecoder.left c.args.values.now in
+    let slots = g.D.NestedDecoder.slots c.args.decoded.now in
+    let fit = all-fit c.args.count c.args.before (replicate c.args.count c.args.rep) (replicate c.args.count c.args.level) c.args.nested.now (same-size c.args.count c.args.rep c.args.level) (enough c.args.count c.args.rep) c.requires.fits c.requires.follow c.requires.ended in
+    let d = c.in-Ok.ensures.ok in
+    let there : AreThere (called (max_definition (kept_way c.args.nested.now)) (replicate c.args.count c.args.level)) left = record {
+      values = given d.gives;
+      rest = g.D.NestedDecoder.left c.decode_copies.new.values;
+      next = d.values;
+      size = rw (← c.leaf_levels-floor.ensures.top) (given-called c.leaf_levels-floor.result.0 c.leaf_levels-floor.result.1 (length slots) (slot_of (g.D.NestedDecoder.slots c.decode_copies.new.decoded)) (replicate c.args.count c.args.level) d.gives d.each);
+    } in
+    IfErr-weaker c.push_equal.result _ (CannotTake most (replicate c.args.count c.args.rep) (replicate c.args.count c.args.level) c.args.nested.now left slots) (λ e h. elim h [
+      | inl memory ↦ inr (inl memory)
+      | inr long ↦ inl (long.0, long-walk c.args.count (replicate c.args.count c.args.rep) (replicate c.args.count c.args.level) c.args.nested.now (same-size c.args.count c.args.rep c.args.level) (enough c.args.count c.args.rep) fit long.1, there)
+    ]) c.push_equal.ensures.err
+
+pub returns-in-Err-clause-err : goal.returns-in-Err-clause-err
+returns-in-Err-clause-err g c = inr (rw c.leaf_levels-floor.ensures.top at c.in-Err.ensures.err)

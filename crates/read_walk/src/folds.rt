@@ -1,0 +1,65 @@
+//! Folds over the levels of a block, without an early exit, so that several levels are looked at together.
+ghost use Rattle.std.specs.Prelude.{◌≡◌, ℕ, ◌<◌, ◌≤◌, IsTrue, length, slice_index};
+ghost use Rattle.read_walk.specs.Pairs.{rows_in};
+
+/// The bits that any of the levels has.
+pub fn all_bits(levels: &[u32]) -> u32
+    ensures { (k : ℕ) → k < length levels.now → slice_index levels.now k ≤ result }
+{
+    let mut bits = 0;
+    for level in levels {
+        bits = bits | *level;
+    }
+    bits
+}
+
+// A level that none of these is above.
+fn greatest(levels: &[u32]) -> u32
+    ensures { (k : ℕ) → k < length levels.now → slice_index levels.now k ≤ result }
+{
+    let mut most = 0;
+    for level in levels {
+        most = most.max(*level);
+    }
+    most
+}
+
+// A level that none of these is below.
+fn least(levels: &[u32]) -> u32
+    ensures { (k : ℕ) → k < length levels.now → result ≤ slice_index levels.now k }
+{
+    let mut few = u32::MAX;
+    for level in levels {
+        few = few.min(*level);
+    }
+    few
+}
+
+/// Whether no level is above this one.
+pub fn are_within(levels: &[u32], max: usize) -> bool
+    ensures { IsTrue result → (k : ℕ) → k < length levels.now → slice_index levels.now k ≤ max }
+{
+    if all_bits(levels) as usize <= max {
+        return true;
+    }
+    greatest(levels) as usize <= max
+}
+
+/// Whether no level is below this one.
+pub fn are_from(levels: &[u32], floor: usize) -> bool
+    ensures { IsTrue result → (k : ℕ) → k < length levels.now → floor ≤ slice_index levels.now k }
+{
+    floor <= least(levels) as usize
+}
+
+/// How many of the repetition levels begin a row.
+pub fn count_zeros(reps: &[u32]) -> usize
+    requires few { length reps.now ≤ 64 }
+    ensures { result ≡ rows_in reps.now }
+{
+    let mut count: u32 = 0;
+    for i in 0..reps.len() {
+        count += u32::from(reps[i] == 0);
+    }
+    count as usize
+}

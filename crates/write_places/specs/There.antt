@@ -1,0 +1,18 @@
+-- Slots that are there in each struct in front of a path and in the leaf or list behind these.
+use Rattle.std.specs.Prelude.{ℕ, Bool, false, cond, List, [], ◌∷◌}
+use Rattle.shredding.specs.Parts.{Part, leaf_part, list_part, struct_part, is_present, item_start, item_count}
+use Rattle.write_places.specs.Places.{gather, slot_places}
+
+-- the slot at a place is there
+abbrev pub is_there : List Part → ℕ → Bool
+is_there [] i = false
+is_there (leaf_part is_optional mask count ∷ parts) i = is_present is_optional mask i
+is_there (list_part is_optional mask offsets ∷ parts) i = is_present is_optional mask i
+is_there (struct_part is_optional mask count ∷ parts) i = cond (is_present is_optional mask i) (is_there parts i) false
+
+-- the places that a slot reaches which is there
+abbrev pub there_places : List Part → ℕ → List ℕ
+there_places [] i = []
+there_places (leaf_part is_optional mask count ∷ parts) i = i ∷ []
+there_places (list_part is_optional mask offsets ∷ parts) i = gather (slot_places parts) (item_start offsets i) (item_count offsets i)
+there_places (struct_part is_optional mask count ∷ parts) i = there_places parts i

@@ -1,0 +1,151 @@
+//! Which slots of a path are there, 64 at once.
+ghost use Rattle.std.specs.Prelude.{◌≡◌, ℕ, ◌+◌, ◌-◌, ◌^◌, ◌<◌, ◌≤◌, ◌==◌, IsTrue, true};
+ghost use Rattle.std.specs.Int.{bit_at};
+ghost use Rattle.shredding.specs.Parts.{IsPath, MaskFits, is_present, slot_count};
+ghost use Rattle.levels.specs.Nested.{parts_of};
+ghost use Rattle.write_places.specs.Reach.{IsRun};
+ghost use Rattle.write_places.specs.There.{is_there};
+
+use columns_core::Bitmap;
+use levels::Nested;
+
+// A word whose low bits are set.
+pub fn full_word(count: usize) -> u64
+    requires some { 0 < count }
+    requires few { count ≤ 64 }
+    ensures { result ≡ 2 ^ count - 1 }
+{
+    u64::MAX >> (64 - count)
+}
+
+// Which slots a mask of so many has from a place on, as the low bits of a word.
+fn mask_word(
+    is_optional: bool,
+    mask: &Option<Bitmap>,
+    slots: usize,
+    from: usize,
+    count: usize,
+) -> u64
+    requires fits { MaskFits mask.now slots }
+    requires some { 0 < count }
+    requires few { count ≤ 64 }
+    requires within { from + count ≤ slots }
+    ensures bits { (i : ℕ) → i < count → (bit_at result i == 1) ≡ is_present is_optional mask.now (from + i) }
+    ensures low { result < 2 ^ count }
+{
+    if !is_optional {
+        return full_word(count);
+    }
+    match mask {
+        None => full_word(count),
+        Some(mask) => mask.word_at(from, count),
+    }
+}
+
+// Which slots of a path are there from a place on, as the low bits of a word.
+pub fn there_word(parts: &[Nested], from: usize, count: usize) -> u64
+    requires well { IsPath (parts_of parts.now) }
+    requires some { 0 < count }
+    requires few { count ≤ 64 }
+    requires within { from + count ≤ slot_count (parts_of parts.now) }
+    ensures bits { (i : ℕ) → i < count → (bit_at result i == 1) ≡ is_there (parts_of parts.now) (from + i) }
+    ensures low { result < 2 ^ count }
+{
+    let Some((part, rest)) = parts.split_first() else {
+        unreachable!()
+    };
+    match part {
+        Nested::Primitive(mask, is_optional, slots) => mask_word(
+            *is_optional,
+            mask,
+            *slots,
+            from,
+            count,
+        ),
+        Nested::List(list) => {
+            let lists = list.offsets.len_proxy();
+            mask_word(list.is_optional, &list.validity, lists, from, count)
+        }
+        Nested::LargeList(list) => {
+            let lists = list.offsets.len_proxy();
+            mask_word(list.is_optional, &list.validity, lists, from, count)
+        }
+        Nested::Struct(mask, is_optional, slots) => {
+            let word = mask_word(*is_optional, mask, *slots, from, count);
+            word & there_word(rest, from, count)
+        }
+    }
+}
+
+// Whether a part has no null.
+fn has_all(is_optional: bool, mask: &Option<Bitmap>) -> bool
+    ensures { IsTrue result → (i : ℕ) → is_present is_optional mask.now i ≡ true }
+{
+    !is_optional || mask.is_none()
+}
+
+// Whether all slots of a path are there.
+pub fn is_full(parts: &[Nested]) -> bool
+    requires { IsPath (parts_of parts.now) }
+    ensures { IsTrue result → (i : ℕ) → is_there (parts_of parts.now) i ≡ true }
+{
+    let Some((part, rest)) = parts.split_first() else {
+        unreachable!()
+    };
+    match part {
+        Nested::Primitive(mask, is_optional, _) => has_all(*is_optional, mask),
+        Nested::List(list) => has_all(list.is_optional, &list.validity),
+        Nested::LargeList(list) => has_all(list.is_optional, &list.validity),
+        Nested::Struct(mask, is_optional, _) => has_all(*is_optional, mask) && is_full(rest),
+    }
+}
+
+// How many places there are from one on, at most 64.
+pub fn word_size(place: usize, to: usize) -> usize
+    requires { place < to }
+    ensures some { 0 < result }
+    ensures few { result ≤ 64 }
+    ensures within { place + result ≤ to }
+{
+    if to - place < 64 { to - place } else { 64 }
+}
+
+// Where slots end that are all there from a place on, as far as whole words tell.
+pub fn full_end(parts: &[Nested], from: usize, to: usize) -> usize
+    requires well { IsPath (parts_of parts.now) }
+    requires ordered { from ≤ to }
+    requires within { to ≤ slot_count (parts_of parts.now) }
+    ensures after { from ≤ result }
+    ensures within { result ≤ to }
+    ensures there { (i : ℕ) → from ≤ i → i < result → is_there (parts_of parts.now) i ≡ true }
+{
+    let mut end = from;
+    while end < to {
+        let count = word_size(end, to);
+        if there_word(parts, end, count) != full_word(count) {
+            return end;
+        }
+        end += count;
+    }
+    end
+}
+
+// The next slots from a place on that are there, side by side, as far as 64 tell.
+pub fn next_run(parts: &[Nested], place: usize, to: usize) -> (usize, usize)
+    requires well { IsPath (parts_of parts.now) }
+    requires some { place < to }
+    requires within { to ≤ slot_count (parts_of parts.now) }
+    ensures { IsRun (is_there (parts_of parts.now)) place to result.0 result.1 }
+{
+    let count = word_size(place, to);
+    let word = there_word(parts, place, count);
+    if word == 0 {
+        return (place + count, place + count);
+    }
+    if word == u64::MAX {
+        return (place, place + count);
+    }
+    let gap = word.trailing_zeros() as usize;
+    let run = (word >> gap).trailing_ones() as usize;
+    (place + gap, place + gap + run)
+}

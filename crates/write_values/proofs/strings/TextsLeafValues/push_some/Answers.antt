@@ -1,0 +1,8 @@
+use Rattle.std.proofs.Common.{◌+◌}
+use Rattle.write_values.proofs.StringPlaces.{place_within}
+use Rattle.write_values.proofs.strings.TextsLeafValues.push_some.Goals as goal
+
+pub push_picked-requires-clause-within : goal.push_picked-requires-clause-within
+push_picked-requires-clause-within g c =
+    let a = c.args.self.now.array.now in
+    rw c.offsets.ensures (place_within a.1.0 a.1.1.0 (c.args.from + c.args.places) c.know.ensures.places c.requires.within)
