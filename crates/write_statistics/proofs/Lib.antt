@@ -1,0 +1,4 @@
+pub mod Bounds
+pub mod Further
+pub mod Kept
+pub mod Told
