@@ -1,5 +1,5 @@
 -- Extremes as the bounds of statistics.
-use Rattle.std.proofs.Common.{◌≡◌, ℕ, ℤ, List, [], ◌∷◌, map, slice_index_or, true, Option, Some, None, option_map, IfSome, subst, ap, ◌∙◌}
+use Rattle.std.proofs.Common.{refl, ◌≡◌, ℕ, ℤ, List, [], ◌∷◌, map, slice_index_or, true, Option, Some, None, option_map, IfSome, subst, ap, ◌∙◌}
 use Rattle.std.specs.List.{All, Contains}
 use Rattle.std.proofs.lemmas.List.{length-map, get_or-map}
 use Rattle.std.proofs.lemmas.List.Elements.{All-map, All-contains}
@@ -66,3 +66,12 @@ stored_bounds t p value ordinal stored text num is (x ∷ xs) all (Some a) (Some
 stored_bounds t p value ordinal stored text num is (x ∷ xs) all (Some a) (Some b) (Some c) None e i j k m = cc
 stored_bounds t p value ordinal stored text num is (x ∷ xs) all (Some a) None l h e i j k m = absurd e
 stored_bounds t p value ordinal stored text num is (x ∷ xs) all None high l h e i j k m = absurd e
+
+-- of no value nothing is stated
+pub nothing_stated : {A P : Type 0} (ordinal stored : A → ℤ) (num : P → ℤ) (xs : List A) (low high : Option A) (l h : Option P) → AreExtremes ordinal xs low high → option_map num l ≡ option_map stored low → option_map num h ≡ option_map stored high → xs ≡ [] → (l ≡ None) × (h ≡ None)
+nothing_stated ordinal stored num [] None None None None e i j n = (refl, refl)
+nothing_stated ordinal stored num [] None None (Some a) h e i j n = cc
+nothing_stated ordinal stored num [] None None None (Some b) e i j n = cc
+nothing_stated ordinal stored num [] None (Some b) l h e i j n = absurd e
+nothing_stated ordinal stored num [] (Some a) high l h e i j n = absurd e
+nothing_stated ordinal stored num (x ∷ xs) low high l h e i j n = cc

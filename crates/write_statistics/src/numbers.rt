@@ -1,5 +1,5 @@
 //! Statistics of arrays of numbers.
-ghost use Rattle.std.specs.Prelude.{◌≡◌, ◌+◌, ◌<◌, ◌≤◌, ◌^◌, All, true, pos, map, take, length, option_map, IfSome, MatchOption};
+ghost use Rattle.std.specs.Prelude.{◌≡◌, [], None, ◌+◌, ◌<◌, ◌≤◌, ◌^◌, All, true, pos, map, take, length, option_map, IfSome, MatchOption};
 ghost use Rattle.columns_core.specs.Shapes.{base, leaf_type};
 ghost use Rattle.columns_slots.specs.Slots.{nulls_in};
 ghost use Rattle.shredding.specs.Slot.{number};
@@ -100,6 +100,7 @@ pub fn build_statistics<T: OrderedNative + StoredAs<P>, P: PlainNumber>(
     requires storable { All T.is_storable (present array.now.1.1 array.now.1.0) }
     ensures about { result.primitive_type ≡ primitive_type }
     ensures nulls { MatchOption result.null_count (2 ^ 63 ≤ nulls_in array.now.1.1) (λ n. n ≡ pos (nulls_in array.now.1.1)) }
+    ensures none { present array.now.1.1 array.now.1.0 ≡ [] → (result.min_value ≡ None) × (result.max_value ≡ None) }
     ensures bounds { HasBounds (leaf_type (base array.now.0)) (physical_view P.physical) true (bounds_of P.stored result.min_value result.max_value) (map (T.value (base array.now.0)) (present array.now.1.1 array.now.1.0)) }
 {
     array.know();

@@ -1,7 +1,7 @@
 use Rattle.columns_core.specs.Shapes.{base, leaf_type}
 use Rattle.pq_tree.specs.Views.{physical_view}
 use Rattle.write_statistics.specs.Extremes.{present}
-use Rattle.write_statistics.proofs.Bounds.{extremes_hold, stored_bounds}
+use Rattle.write_statistics.proofs.Bounds.{extremes_hold, nothing_stated, stored_bounds}
 use Rattle.write_statistics.proofs.numbers.build_statistics.Goals as goal
 
 pub stored_of-requires : goal.stored_of-requires
@@ -17,3 +17,8 @@ returns-clause-bounds g c =
     (λ x. g.met.T.OrderedNative.in_order t x c.know.ensures.typed c.requires.ordered) (present c.args.array.now.1.1 c.args.array.now.1.0)
     (λ k d h. g.met.T.StoredAs.by_the_table t _ (c.requires.storable k d h) c.know.ensures.typed c.requires.ordered) c.extremes_of-extremes.result.least c.extremes_of-extremes.result.greatest c.stored_of.result c.stored_of-2.result
     c.extremes_of-extremes.ensures c.stored_of.ensures.number c.stored_of-2.ensures.number c.stored_of.ensures.spelled c.stored_of-2.ensures.spelled
+
+pub returns-clause-none : goal.returns-clause-none
+returns-clause-none g c =
+    nothing_stated g.T.OrderedNative.ordinal g.T.StoredAs.stored_number g.P.PlainNumber.plain_number (present c.args.array.now.1.1 c.args.array.now.1.0) c.extremes_of-extremes.result.least c.extremes_of-extremes.result.greatest c.stored_of.result c.stored_of-2.result c.extremes_of-extremes.ensures
+    c.stored_of.ensures.number c.stored_of-2.ensures.number
