@@ -92,6 +92,11 @@ def first_page(**options):
     return one_page(FIRST, 4, [data_page(COLUMN, FIRST_TRIPLES, **options)], 5)
 
 
+def second_version(head=None):
+    """The first file with its page in version 2."""
+    return one_page(FIRST, 4, [data_page_2(COLUMN, FIRST_TRIPLES, head)], 5)
+
+
 def flat(values=(7, -1), **options):
     return rows(REQ, *values, **options)
 
@@ -212,6 +217,8 @@ def spelled():
 
     same("three pages", file_of(FIRST, [rows_in_pages(FIRST, [(v,) for v in FIRST_ROWS], [1, 2, 1])]))
     same("a page for each row, in runs of copies", file_of(FIRST, [rows_in_pages(FIRST, [(v,) for v in FIRST_ROWS], [1, 1, 1, 1], copies)]))
+    same("a page of version 2", second_version())
+    same("pages of both versions", one_page(FIRST, 4, [data_page(COLUMN, FIRST_TRIPLES[:2]), data_page_2(COLUMN, FIRST_TRIPLES[2:])], 5))
     same("levels in copies", first_page(how=copies))
     same("levels in copies and bits", first_page(how=mixed))
     def body(name, text_):
@@ -475,6 +482,7 @@ def paged():
     bad(t, "no number of pairs", first_page(head={1: None}), "S3")
     bad(t, "no encoding", first_page(head={2: None}), "S3")
     bad(t, "a negative number of pairs in a page", first_page(count=-5), "S3")
+    bad(t, "a negative number of rows in a page", second_version({3: i32(-1)}), "S3")
     pages("a page that has more pairs than the chunk", [page_], "S3", 4)
     pages("pages that have fewer pairs than the chunk", [page_], "S3", 6)
     pages("indices without a dictionary", [data_page(COLUMN, FIRST_TRIPLES, encoding=8, values=b"\x01\x03\x00")], "S3")
@@ -493,7 +501,7 @@ def paged():
     bad(t, "byte strings in deltas", one_page(TEXT, 2, [data_page(TEXT_COLUMN, words, encoding=7, values=b"")], 2), "N4")
     bad(t, "streams of bytes", one_page(REQ, 2, [data_page(REQ_COLUMN, ints[:2], encoding=9, values=b"\7\7\0\0\0\0\0\0")], 2), "N4")
     bad(t, "an encoding that is not known", flat_page(encoding=-1), "N4")
-    bad(t, "a page of version 2", one_page(FIRST, 4, [data_page_2(COLUMN, FIRST_TRIPLES)], 5), "N4")
+    bad(t, "deltas in a page of version 2", second_version({4: i32(5)}), "N4")
     pages("a page of an index", [page(1, b"", EMPTY), page_], "N4")
     header("a kind of page that is not known", {1: i32(9)}, "N4")
     bad(t, "definition levels of another encoding", first_page(head={3: i32(4)}), "N4")
@@ -523,6 +531,9 @@ def leveled():
     bad(t, "a column that begins inside a row", pairs(FIRST, 3, triples), "S5")
     cut = [[FIRST_TRIPLES[:1], FIRST_TRIPLES[1:]]]
     bad(t, "a later page that begins inside a row", file_of(FIRST, [pairs_in_pages(FIRST, 4, *cut)]), "N8")
+    both = [data_page(COLUMN, FIRST_TRIPLES[:1]), data_page_2(COLUMN, FIRST_TRIPLES[1:])]
+    bad(t, "a later page of version 2 that begins inside a row", one_page(FIRST, 4, both, 5), "S5")
+    bad(t, "levels of version 2 past the body", second_version({5: i32(99)}), "S4")
 
     plain_ = "02000000 0302 03000000 034f02 "
     body("no values", plain_, "S6")
@@ -559,6 +570,8 @@ def counted():
     r, o = REQUIRED, OPTIONAL
     bad(t, "more rows than the group has", first(group={0: {3: i64(3)}}), "S9")
     bad(t, "fewer rows than the group has", first(group={0: {3: i64(5)}}), "S9")
+    bad(t, "a row more than a page of version 2 begins", second_version({3: i32(5)}), "S9")
+    bad(t, "a row less than a page of version 2 begins", second_version({3: i32(3)}), "S9")
     bad(t, "a group of very many rows", first(group={0: {3: i64(1 << 62)}}), "S9")
     bad(t, "a group of no rows, and rows", first(group={0: {3: i64(0)}}), "S9")
     bad(t, "a group of a row, and no pairs", file_of(FIRST, [Group(1, [[]], [0])]), "S9")

@@ -290,12 +290,12 @@ def data_page(column, triples, how=packed, encoding=0, count=None, values=None, 
     return page(0, body, struct(over(own, head)), ids, size)
 
 
-def data_page_2(column, triples):
+def data_page_2(column, triples, head=None):
     """Returns a data page of version 2."""
     repetitions = section([t[0] for t in triples], column.repetition, packed)[4:]
     definitions = section([t[1] for t in triples], column.definition, packed)[4:]
     present = [v for r, d, v in triples if d == column.definition]
-    head = {
+    own = {
         1: i32(len(triples)),
         2: i32(len(triples) - len(present)),
         3: i32(sum(t[0] == 0 for t in triples)),
@@ -304,7 +304,7 @@ def data_page_2(column, triples):
         6: i32(len(repetitions)),
         7: truth(False),
     }
-    return page(3, repetitions + definitions + plain_values(column.node.physical, present), struct(head))
+    return page(3, repetitions + definitions + plain_values(column.node.physical, present), struct(over(own, head)))
 
 
 def dictionary_page(physical, entries):

@@ -9,7 +9,7 @@ use Rattle.columns_core.specs.declared.types.IntegerType.{IntegerType}
 use Rattle.columns_core.specs.declared.types.IntegerType.TheVariants as K
 use Rattle.columns_core.specs.Shapes.{base, leaf_type}
 use Rattle.columns_core.specs.Tree.{TypeTree, t_binary, t_large_binary, t_utf8, t_large_utf8, t_dictionary}
-use Rattle.pq_metadata.specs.Header.{Header, data_page}
+use Rattle.pq_metadata.specs.Header.{Header, data_page, data_page_2}
 use Rattle.pq_tree.specs.Tree.{Leaf}
 use Rattle.pq_files.specs.Chunk.{RawPage, IsData, count_in}
 use Rattle.pq_files.specs.Page.{HasEncoding, values_in, dictionary as by_dictionary, delta, delta_length}
@@ -190,7 +190,7 @@ HasTooMany e o = ((e ≡ Overflow V1) × SomeV1 o.chunk_size (field_columns o.fi
 
 -- ---- what is not read yet
 
--- pages of version 2 or in another encoding than PLAIN, and the entries of a dictionary
+-- data pages in another encoding than PLAIN, and the entries of a dictionary
 abbrev pub IsUnserved : Outcome → Type 0
 IsUnserved (gives_dictionary n body) = Unit {0}
 IsUnserved (fails e) = ⊥
@@ -198,6 +198,7 @@ IsUnserved (gives_page p levels) = of p.header
   where
     of : Header → Type 0
     of (data_page h) = h.encoding ≢ pos 0
+    of (data_page_2 h) = h.encoding ≢ pos 0
     of h = Unit {0}
 
 -- ---- all of them

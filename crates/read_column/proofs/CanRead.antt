@@ -96,7 +96,7 @@ calls-same l p s ts split defs size all has =
 
 pub count-is : (h : Header) (ts : List Triple) → IsServed h → IsCounted h ts → length ts ≡ count_in h
 count-is (data_page h) ts s c = sym c
-count-is (data_page_2 h) ts s c = absurd s
+count-is (data_page_2 h) ts s c = sym c.0
 count-is (dictionary_page h) ts s c = absurd s
 
 pub values-called : (l : Leaf) (ts : List Triple) → All (λ x. is_some x.value ≡ nat_eq x.definition (max_definition l)) ts → length (values_in ts) ≡ called_by l ts

@@ -19,10 +19,12 @@ use Rattle.pq_pages.specs.Outcomes.{Outcome, gives_page, gives_dictionary, fails
 use Rattle.pq_tree.specs.Physical.{Physical}
 use Rattle.pq_tree.specs.Tree.{Leaf}
 use Rattle.read_pieces.specs.Columns.{AreColumnRows, ColumnOpening, rows_of_all}
+use Rattle.read_walk.specs.Pairs.{Item}
 use Rattle.read_walk.specs.Values.{Stored}
+use Rattle.read_column.specs.Queues.{Waiting, rows_to_come}
 use Rattle.read_column.specs.Reading.{IsReading, Reading, stored_in}
-use Rattle.read_column.specs.Taken.{joined, AreSized}
-use Rattle.read_column.proofs.Taking.{begins-append, piece-few}
+use Rattle.read_column.specs.Taken.{joined, AreSized, IsQueued, TakesPairs}
+use Rattle.read_column.proofs.Taking.{begins-append, piece-few, rows-piece}
 use Rattle.read_column.proofs.Ways.{rows-append}
 
 -- ---- pages
@@ -133,6 +135,28 @@ rows-sized n left rest (ts ∷ pieces) s =
 pub rows-joined : (pieces : List (List Triple)) → rows_in (joined pieces) ≡ rows_of_all pieces
 rows-joined [] = refl
 rows-joined (ts ∷ pieces) = omega (arith, sum_by-cons rows_in ts pieces, rows-append ts (joined pieces), rows-joined pieces)
+
+-- what was taken of a page, by the rows that were still to come before it and are behind it
+pub rows-taken : (n : Option ℕ) (w : Way) (before : ℕ) (whole : List (List Triple)) (last : List Triple) (q q' : Waiting) (page page' : List Item) (left left' : List Stored) → IsQueued w before whole last q → (t : TakesPairs n w before (joined whole ++ last) q' page page' left left') → rows_to_come q - rows_to_come q' ≡ rows_in t.taken
+rows-taken n w before whole last q q' page page' left left' k t =
+    let k' = t.queued in
+    omega (
+      arith,
+      rows-piece w last q.state q.leaf k.is,
+      rows-piece w t.last q'.state q'.leaf k'.is,
+      k.left,
+      k.most,
+      k'.left,
+      k'.most,
+      rows-sized q.chunk_size before k.rest whole k.sized,
+      rows-sized q'.chunk_size before k'.rest t.whole k'.sized,
+      rows-joined whole,
+      rows-joined t.whole,
+      ap rows_in t.all,
+      rows-append (joined whole) last,
+      rows-append (joined t.whole) t.last,
+      rows-append (joined whole ++ last) t.taken,
+    )
 
 -- the rows behind a part of a column
 pub rows-behind : (w : Way) (rows : List Slot) (a b : List Triple) → column w rows ≡ a ++ b → BeginsRow b → (rows_in a ≤ length rows) × (a ≡ column w (take (rows_in a) rows)) × (b ≡ column w (drop (rows_in a) rows))

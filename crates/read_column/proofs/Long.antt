@@ -13,7 +13,7 @@ use Rattle.shredding.specs.Shred.{Triple, max_definition as way_definition}
 use Rattle.pq_files.specs.Chunk.{RawPage}
 use Rattle.pq_files.specs.Levels.{HasLevels as FileLevels}
 use Rattle.pq_files.specs.Page.{Sections, rows_in, values_in}
-use Rattle.pq_files.specs.PageReasons.{GoesOn, HasPairs, IsOfVersion1}
+use Rattle.pq_files.specs.PageReasons.{GoesOn, HasPairs}
 use Rattle.pq_files.specs.RowReasons.{ReadsTriples}
 use Rattle.pq_files.specs.Stored.{AreStored}
 use Rattle.pq_files.proofs.Unique.{split_same}
@@ -23,7 +23,6 @@ use Rattle.pq_pages.specs.Outcomes.{Levels, Outcome, gives_page}
 use Rattle.pq_runs.specs.Hybrid.{given, hybrid}
 use Rattle.pq_runs.specs.Hybrid.{Item as LevelItem}
 use Rattle.pq_runs.proofs.Sound.{is_spelled}
-use Rattle.pq_tree.specs.Headers.{Header, data_page, data_page_2, dictionary_page}
 use Rattle.pq_tree.specs.Physical.{Physical}
 use Rattle.pq_tree.specs.Tree.{Leaf, max_definition, max_repetition}
 use Rattle.read_items.specs.Items.{ItemsAreCounted}
@@ -40,7 +39,7 @@ use Rattle.read_walk.specs.Values.{Stored, AreTooLong, bytes_of}
 use Rattle.read_walk.specs.Walk.{AreWanted, GrowsTooLong, begun, mark_pair, pair_of, values_of}
 use Rattle.read_walk.proofs.Grammar.{pairs-read}
 use Rattle.read_walk.proofs.Walking.{begun-append, marks-pairs, values-append, walk-append}
-use Rattle.read_column.specs.Opened.{ArePairsOf, IsServed, first_goes_on}
+use Rattle.read_column.specs.Opened.{ArePairsOf, first_goes_on}
 use Rattle.read_column.specs.Queues.{Waiting}
 use Rattle.read_column.specs.Reading.{HasItems, IsReading, reading, stored_in}
 use Rattle.read_column.specs.Taken.{joined, AreSized, BeginsPair, TakesPairs}
@@ -48,9 +47,9 @@ use Rattle.read_column.proofs.CanRead.{called-defs, piece-of, reads-front, reads
 use Rattle.read_column.proofs.Columns.{begins-stored, rows-joined, stored-both, stored-parts}
 use Rattle.read_column.proofs.Foreseen.{levels-as, values-stored}
 use Rattle.read_column.proofs.Fronts.{hybrid-front}
-use Rattle.read_column.proofs.Pages.{defs-stored, inside-stored, is-some-stored, pairs-of, reps-stored, runs-of, spelled-values, stored-put}
+use Rattle.read_column.proofs.Pages.{defs-stored, inside-stored, is-some-stored, pairs-of, reps-stored, rows-stored, runs-of, spelled-values, stored-put}
 use Rattle.read_column.proofs.Passes.{call-for, filled, lists-pass, texts-pass}
-use Rattle.read_column.proofs.Readings.{begins-joined, rows-stored}
+use Rattle.read_column.proofs.Readings.{begins-joined}
 use Rattle.read_column.proofs.Taking.{begins-append, begins-taken, bytes-append, joined-append, lt-holds, ok-append, piece-few, rows-piece, some-append}
 use Rattle.read_column.proofs.Ways.{begun-pairs, definition-thin, rows-append}
 use Rattle.read_column.proofs.Widths.{has-width}
@@ -304,8 +303,3 @@ goes-on-in l p levels items values of-leaf has on =
       shows = shows-pairs l p s (t ∷ []) (runs-of l levels p.header of-leaf o.runs) split (rw (← rep) front.repetitions) (rw (← def) front.definitions) (omega (arith, front.few, o.count));
       repeats = x.3;
     }
-
-pub is-version-1 : (h : Header) → IsServed h → IsOfVersion1 h
-is-version-1 (data_page h) s = tt
-is-version-1 (data_page_2 h) s = absurd s
-is-version-1 (dictionary_page h) s = absurd s

@@ -1,5 +1,5 @@
 -- A page that was taken is one of the column.
-use Rattle.std.proofs.Common.{◌≡◌, ℕ, suc, ◌≤◌, is_some, nat_eq, Option, Some, None, Ok, List, [], ◌∷◌, ◌++◌, map, length, take, All, refl, arith, ap, sym, ◌∙◌, length-append}
+use Rattle.std.proofs.Common.{◌≡◌, ℕ, suc, ◌+◌, ◌≤◌, is_some, nat_eq, Option, Some, None, Ok, List, [], ◌∷◌, ◌++◌, map, length, take, All, refl, arith, ap, sym, subst, ◌∙◌, length-append, cond}
 use Rattle.std.specs.List.{AllZip, cons_option}
 use Rattle.std.proofs.lemmas.List.{length-map, take_at}
 use Rattle.std.proofs.lemmas.List.Elements.{All-nil, All-cons, All-head, All-tail}
@@ -10,7 +10,7 @@ use Rattle.shredding.specs.Shred.{Triple, max_definition as way_definition}
 use Rattle.shredding.specs.Slot.{Value}
 use Rattle.pq_files.specs.Chunk.{IsPageIn, Page, RawPage, count_in}
 use Rattle.pq_files.specs.Levels.{HasLevels}
-use Rattle.pq_files.specs.Page.{IsCounted, Sections, LevelsAreRuns, HasEncoding, plain, values_in}
+use Rattle.pq_files.specs.Page.{IsCounted, Sections, LevelsAreRuns, HasEncoding, plain, rows_in, values_in}
 use Rattle.pq_files.specs.PageReasons.{IsOutside}
 use Rattle.pq_files.specs.Plain.{IsPlain}
 use Rattle.pq_files.specs.Stored.{AreStored, IsStored, IsStoredOption}
@@ -28,8 +28,9 @@ use Rattle.read_walk.specs.Spelled.{NoneAbove}
 use Rattle.read_walk.specs.Values.{Stored}
 use Rattle.read_walk.specs.Walk.{pair_of, values_of}
 use Rattle.read_walk.proofs.Grammar.{from-pairs}
-use Rattle.read_column.specs.Opened.{ArePairsOf, IsServed, SayRuns}
+use Rattle.read_column.specs.Opened.{ArePairsOf, IsServed, SayRuns, StatesRows}
 use Rattle.read_column.specs.Reading.{HasItems}
+use Rattle.read_column.proofs.Ways.{rows-cons}
 use Rattle.read_column.proofs.Widths.{has-width}
 
 -- ---- values
@@ -101,6 +102,12 @@ defs-stored t p [] (z ∷ zs) a = absurd a
 defs-stored t p (u ∷ ts) [] a = absurd a
 defs-stored t p (u ∷ ts) (z ∷ zs) a = ap (λ (n : ℕ). n ∷ map (λ (x : Triple). x.definition) zs) a.0.definition ∙ ap (λ (ns : List ℕ). u.definition ∷ ns) (defs-stored t p ts zs a.1)
 
+pub rows-stored : (t : LeafType) (p : Physical) (xs zs : List Triple) → AreStored t p xs zs → rows_in zs ≡ rows_in xs
+rows-stored t p [] [] a = refl
+rows-stored t p [] (z ∷ zs) a = absurd a
+rows-stored t p (x ∷ xs) [] a = absurd a
+rows-stored t p (x ∷ xs) (z ∷ zs) a = rows-cons z zs ∙ (ap (λ (n : ℕ). cond (nat_eq n 0) 1 0 + rows_in zs) a.0.repetition ∙ (ap (λ (n : ℕ). cond (nat_eq x.repetition 0) 1 0 + n) (rows-stored t p xs zs a.1) ∙ sym (rows-cons x xs)))
+
 pub is-some-stored : (t : LeafType) (p : Physical) (v s : Option Value) → IsStoredOption t p v s → is_some s ≡ is_some v
 is-some-stored t p None None a = refl
 is-some-stored t p (Some v) (Some s) a = refl
@@ -166,13 +173,19 @@ runs-of l levels (dictionary_page h) e s = tt
 
 pub is-plain : (h : Header) → IsServed h → HasEncoding h plain
 is-plain (data_page h) s = rw s refl
-is-plain (data_page_2 h) s = absurd s
+is-plain (data_page_2 h) s = rw s refl
 is-plain (dictionary_page h) s = absurd s
 
-is-counted : (h : Header) (ts : List Triple) → IsServed h → count_in h ≡ length ts → IsCounted h ts
-is-counted (data_page h) ts s e = e
-is-counted (data_page_2 h) ts s e = absurd s
-is-counted (dictionary_page h) ts s e = absurd s
+is-counted : (h : Header) (ts : List Triple) → IsServed h → count_in h ≡ length ts → StatesRows h (rows_in ts) → IsCounted h ts
+is-counted (data_page h) ts s e r = e
+is-counted (data_page_2 h) ts s e r = (e, r)
+is-counted (dictionary_page h) ts s e r = absurd s
+
+-- and back: what the header states of the rows
+pub counts-rows : (h : Header) (ts : List Triple) → IsCounted h ts → StatesRows h (rows_in ts)
+counts-rows (data_page h) ts c = tt
+counts-rows (data_page_2 h) ts c = c.1
+counts-rows (dictionary_page h) ts c = tt
 
 pub record IsTakenPage (t : LeafType) (l : Leaf) (p : RawPage) (ts : List Triple) : Type 0 where
   pub page : Page
@@ -180,8 +193,8 @@ pub record IsTakenPage (t : LeafType) (l : Leaf) (p : RawPage) (ts : List Triple
   pub stored : AreStored t l.physical ts page.triples
 
 pub taken-page : (t : LeafType) (l : Leaf) (w : Way) (stored : List ℕ → List Stored) (p : RawPage) (levels : Levels) (items : List Item) (values : List ℕ) (ts : List Triple) (rest : List Stored) →
-    ReadsPlain t l.physical stored → levels ≡ leaf_levels l → max_definition l ≡ way_definition w → HasItems p levels items values → items ≡ map Ok (map pair_of ts) → stored values ≡ map Some (values_of ts) ++ rest → All (IsWithin w) ts → BeginsRow ts → IsTakenPage t l p ts
-taken-page t l w stored p levels items values ts rest plainly of-leaf top has pairs e within begins =
+    ReadsPlain t l.physical stored → levels ≡ leaf_levels l → max_definition l ≡ way_definition w → HasItems p levels items values → items ≡ map Ok (map pair_of ts) → stored values ≡ map Some (values_of ts) ++ rest → All (IsWithin w) ts → BeginsRow ts → StatesRows p.header (rows_in ts) → IsTakenPage t l p ts
+taken-page t l w stored p levels items values ts rest plainly of-leaf top has pairs e within begins rows =
     let o = has.opened in
     let s = has.sections in
     let bytes : stored s.values ≡ map Some (values_of ts) ++ rest = ap stored (sym has.bytes) ∙ e in
@@ -206,7 +219,7 @@ taken-page t l w stored p levels items values ts rest plainly of-leaf top has pa
           encoding = plain;
           has_encoding = is-plain p.header o.served;
           values = rw put.values spelled.begins;
-          counted = is-counted p.header zs o.served (sym o.count ∙ (sym levels-are.count ∙ sym size));
+          counted = is-counted p.header zs o.served (sym o.count ∙ (sym levels-are.count ∙ sym size)) (subst (StatesRows p.header) (sym (rows-stored t l.physical ts zs put.are)) rows);
           begins_row = begins-zs t l.physical ts zs put.are begins;
         };
       };

@@ -20,7 +20,7 @@ use Rattle.pq_tree.specs.Physical.{Physical}
 use Rattle.pq_tree.specs.Tree.{Leaf}
 use Rattle.read_laws.specs.State.{count}
 use Rattle.read_state.specs.declared.init.InitNested.TheVariants.{Primitive, List as ListOf, Struct}
-use Rattle.read_column.proofs.Pages.{taken-page}
+use Rattle.read_column.proofs.Pages.{rows-stored, taken-page}
 use Rattle.read_column.proofs.CanRead.{front-taken, piece-of, reads-taken}
 use Rattle.read_column.proofs.Columns.{StartsPlain, begins-stored, continues, holds-plain, pages-begin, pages-push, pages-split, plain-holds, rows-between, stored-append, stored-begins, stored-both, stored-parts, rows-joined, rows-sized, starts-behind}
 use Rattle.read_column.proofs.Taking.{begins-append, begins-taken, joined-last, sized-append, first-begins, piece-empty, piece-few, piece-some, rows-piece}
@@ -139,7 +139,7 @@ page-taken stored limit o pieces p levels os q q' b r t =
     let plainly = r.readable.values.plain in
     let of-leaf : levels ≡ leaf_levels o.leaf = holds-left stored limit o pieces (gives_page p levels) os q b (IsOfLevels (leaf_levels o.leaf)) r r.readable.levels in
     let pairs : t.items ≡ map Ok (map pair_of tk.taken) = tk.pairs ∙ append-nil (map {B = Item} Ok (map pair_of tk.taken)) in
-    let page = taken-page (leaf_type o.column.data_type) o.leaf o.column.way stored p levels t.items t.values tk.taken t.takes.0 plainly of-leaf r.readable.definition t.has pairs tk.values tk.within (begins-taken t.items [] tk.taken tk.pairs (first-begins t.items t.first)) in
+    let page = taken-page (leaf_type o.column.data_type) o.leaf o.column.way stored p levels t.items t.values tk.taken t.takes.0 plainly of-leaf r.readable.definition t.has pairs tk.values tk.within (begins-taken t.items [] tk.taken tk.pairs (first-begins t.items t.first)) t.rows in
     let q-is = queue-is stored limit o pieces (gives_page p levels ∷ os) q b r in
     let chunk : q'.chunk_size ≡ o.chunk_size = tk.chunk ∙ (ap (λ (v : Waiting). v.chunk_size) (sym q-is) ∙ r.chunk) in
     let outcome = gives_page p levels in
@@ -239,12 +239,6 @@ first-piece w (ts ∷ more) ps p a = (ts, more, refl, a.0, a.1)
 pub begins-joined : (n : Option ℕ) (left rest : ℕ) (pieces : List (List Triple)) (last : List Triple) → AreSized n left pieces rest → BeginsRow last → BeginsRow (joined pieces ++ last)
 begins-joined n left rest [] last s b = b
 begins-joined n left rest (ts ∷ pieces) last s b = rw (append_assoc ts (joined pieces) last) (begins-append ts (joined pieces ++ last) s.2 (λ _. begins-joined n (left - rows_in ts) rest pieces last s.3 b))
-
-pub rows-stored : (t : LeafType) (p : Physical) (xs zs : List Triple) → AreStored t p xs zs → rows_in zs ≡ rows_in xs
-rows-stored t p [] [] a = refl
-rows-stored t p [] (z ∷ zs) a = absurd a
-rows-stored t p (x ∷ xs) [] a = absurd a
-rows-stored t p (x ∷ xs) (z ∷ zs) a = rows-cons z zs ∙ (ap (λ (n : ℕ). cond (nat_eq n 0) 1 0 + rows_in zs) a.0.repetition ∙ (ap (λ (n : ℕ). cond (nat_eq x.repetition 0) 1 0 + n) (rows-stored t p xs zs a.1) ∙ sym (rows-cons x xs)))
 
 some-pages : (t : LeafType) (p : Physical) (l : Leaf) (os : List Outcome) (ps : List Page) (a b c : List Triple) → ArePagesIn l None os ps → stored_in ps ≡ a ++ (b ++ c) → 0 < rows_in b → 0 < length os
 some-pages t p l [] [] a b c are e some = absurd (omega (arith, ap rows_in e, rows-append a (b ++ c), rows-append b c, some))

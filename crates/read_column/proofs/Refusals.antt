@@ -1,7 +1,10 @@
 -- Why a page is refused.
-use Rattle.std.proofs.Common.{◌≡◌, inl, inr, ℕ, ◌<◌, Bool, true, false, not, nat_eq, nat_lt, cond, Option, Some, None, Ok, List, [], ◌∷◌, ◌++◌, map, length, All, refl, arith, ap, sym, subst, ◌∙◌, append_assoc}
+use Rattle.std.proofs.Common.{◌≡◌, ◌⊎◌, inl, inr, ℕ, ◌<◌, Bool, true, false, not, nat_eq, nat_lt, cond, Option, Some, None, Ok, List, [], ◌∷◌, ◌++◌, map, length, All, refl, arith, ap, sym, subst, ◌∙◌, append_assoc, append-nil}
 use Rattle.std.proofs.lemmas.Bool.{cases_lt}
 use Rattle.columns_base.specs.declared.error.Error.{Error}
+use Rattle.columns_base.specs.declared.error.Error.TheVariants.{NotYetImplemented, OutOfSpec}
+use Rattle.columns_base.specs.declared.error.N.TheVariants.{N8}
+use Rattle.columns_base.specs.declared.error.S.TheVariants.{S5}
 use Rattle.columns_core.specs.Shapes.{leaf_type}
 use Rattle.shredding.specs.Laws.{BeginsRow}
 use Rattle.shredding.specs.Local.{IsInOrder, IsWithin}
@@ -13,6 +16,7 @@ use Rattle.shredding.proofs.Levels.{levels_are_within}
 use Rattle.shredding.proofs.Order.{columns_are_local}
 use Rattle.pq_files.specs.Chunk.{IsData, IsPageIn, Page, RawPage}
 use Rattle.pq_files.specs.Page.{LevelsAreRuns, rows_in}
+use Rattle.pq_files.specs.PageReasons.{IsOfVersion1}
 use Rattle.pq_files.specs.Stored.{AreStored}
 use Rattle.pq_headline.specs.FieldReasons.{HasN4Page, IsUnserved}
 use Rattle.pq_headline.specs.Openings.{leaf_levels, piece_size}
@@ -24,23 +28,24 @@ use Rattle.read_items.specs.Items.{ItemsAreCounted}
 use Rattle.read_pieces.specs.Columns.{AreColumnRows, ColumnOpening, RefusesPiece}
 use Rattle.read_walk.specs.Pairs.{Pair, Item}
 use Rattle.read_walk.specs.Values.{Stored}
-use Rattle.read_walk.specs.Walk.{pair_of, values_of}
-use Rattle.read_column.specs.Opened.{IsServed, SayRuns, first_goes_on}
+use Rattle.read_walk.specs.Walk.{begun, pair_of, values_of}
+use Rattle.read_column.specs.Opened.{IsServed, SayRuns, StatesRows, first_goes_on}
 use Rattle.read_column.specs.Queues.{Waiting}
-use Rattle.read_column.specs.Reading.{HasItems, IsReading, RefusesPage, goes_on_error, reading, stored_in}
+use Rattle.read_column.specs.Reading.{CountsOtherwise, HasItems, IsReading, RefusesPage, goes_on_error, reading, stored_in}
 use Rattle.read_column.specs.Taken.{joined, BeginsPair, StopsPage, TakesPairs}
 use Rattle.read_column.proofs.Columns.{continues, rows-joined, rows-sized, stored-begins}
-use Rattle.read_column.proofs.Long.{goes-on-in, is-version-1, lists-long, texts-long}
+use Rattle.read_column.proofs.Long.{goes-on-in, lists-long, texts-long}
 use Rattle.read_column.proofs.Foreseen.{all-behind, all-front, behind-taken, foreseen, stored-cut}
+use Rattle.read_column.proofs.Pages.{counts-rows, rows-stored}
 use Rattle.read_column.proofs.Readings.{any-left, holds-left, of-rows, queue-is}
 use Rattle.read_column.proofs.Refused.{Chained, chained-behind, chained-front, no-fault-left, not-on, not-out-of-order, not-outside, not-too-few, not-unreadable, order-chained}
 use Rattle.read_column.proofs.Taking.{first-begins, lt-holds, piece-some}
-use Rattle.read_column.proofs.Ways.{rows-append, rows-cons}
+use Rattle.read_column.proofs.Ways.{begun-pairs, rows-append, rows-cons}
 
 -- ---- a page that is not served
 unserved : (h : Header) (body : List ℕ) (levels : Levels) → (IsServed h → ⊥) → IsUnserved (gives_page (record { header = h; body = body }) levels)
 unserved (data_page h) body levels n = n
-unserved (data_page_2 h) body levels n = tt
+unserved (data_page_2 h) body levels n = n
 unserved (dictionary_page h) body levels n = tt
 
 no-runs : (l : Leaf) (h : Header) (levels : Levels) → levels ≡ leaf_levels l → (SayRuns levels h → ⊥) → IsData h × (LevelsAreRuns l h → ⊥)
@@ -202,24 +207,54 @@ stops counts stored limit o pieces p levels os q b items values n e r has first 
       ]
     ]
 
-goes-on : (stored : List ℕ → List Stored) (limit : ℕ) (o : ColumnOpening) (pieces : List (List Triple)) (p : RawPage) (levels : Levels) (os : List Outcome) (q : Waiting) (is_first b : Bool) (items : List Item) (values : List ℕ) (e : Error) → b ≡ not is_first → (r : IsReading stored limit o pieces (reading (gives_page p levels ∷ os) q b)) → HasItems p levels items values → first_goes_on items ≡ true → e ≡ goes_on_error is_first → RefusesPiece o e
-goes-on stored limit o pieces p levels os q true b items values e same r has on is = of-rows o e (inr (inl is)) (λ rows a.
-    let x = page-of-rows stored limit o pieces p levels os q b rows r a in
-    let f = foreseen (leaf_type o.column.data_type) o.leaf o.column.way stored p levels items values x.page x.own r.readable.values.plain (levels-of stored limit o pieces p levels os q b r) has x.is x.stored x.within in
-    not-first items x.own f.pairs x.begins on)
-goes-on stored limit o pieces p levels os q false b items values e same r has on is = inr (inr (inr (inr (inl (
-  is,
-  record {
-    before = r.taken;
-    page = p;
-    levels = levels;
-    rest = os;
-    parts = r.outcomes;
-    later = elim r.began [ inl x ↦ x.1 | inr x ↦ absurd (let h = sym same ∙ x.0 in cc) ];
-    version = is-version-1 p.header has.opened.served;
-    goes_on = goes-on-in o.leaf p levels items values (levels-of stored limit o pieces p levels os q b r) has on;
-  },
-)))))
+-- of a page of version 1 that isn't the first, or wherever else it stands
+which : (h : Header) (is_first : Bool) (e : Error) → e ≡ goes_on_error h is_first → (e ≡ OutOfSpec S5) ⊎ ((e ≡ NotYetImplemented N8) × IsOfVersion1 h × (is_first ≡ false))
+which (data_page h) true e is = inl is
+which (data_page h) false e is = inr (is, tt, refl)
+which (data_page_2 h) is_first e is = inl is
+which (dictionary_page h) is_first e is = inl is
+
+goes-on : (stored : List ℕ → List Stored) (limit : ℕ) (o : ColumnOpening) (pieces : List (List Triple)) (p : RawPage) (levels : Levels) (os : List Outcome) (q : Waiting) (is_first b : Bool) (items : List Item) (values : List ℕ) (e : Error) → b ≡ not is_first → (r : IsReading stored limit o pieces (reading (gives_page p levels ∷ os) q b)) → HasItems p levels items values → first_goes_on items ≡ true → e ≡ goes_on_error p.header is_first → RefusesPiece o e
+goes-on stored limit o pieces p levels os q is_first b items values e same r has on is = elim (which p.header is_first e is) [
+  | inl s5 ↦ of-rows o e (inr (inl s5)) (λ rows a.
+      let x = page-of-rows stored limit o pieces p levels os q b rows r a in
+      let f = foreseen (leaf_type o.column.data_type) o.leaf o.column.way stored p levels items values x.page x.own r.readable.values.plain (levels-of stored limit o pieces p levels os q b r) has x.is x.stored x.within in
+      not-first items x.own f.pairs x.begins on)
+  | inr n8 ↦ inr (inr (inr (inr (inl (
+    n8.0,
+    record {
+      before = r.taken;
+      page = p;
+      levels = levels;
+      rest = os;
+      parts = r.outcomes;
+      later = elim r.began [ inl x ↦ x.1 | inr x ↦ absurd (let h = sym x.0 ∙ (same ∙ ap not n8.2) in cc) ];
+      version = n8.1;
+      goes_on = goes-on-in o.leaf p levels items values (levels-of stored limit o pieces p levels os q b r) has on;
+    },
+  )))))
+]
+
+-- ---- another number of rows
+pairs-only : (ps qs : List Pair) → map {B = Item} Ok ps ≡ map Ok qs → ps ≡ qs
+pairs-only [] [] e = refl
+pairs-only [] (q ∷ qs) e = absurd (cc e)
+pairs-only (p ∷ ps) [] e = absurd (cc e)
+pairs-only (p ∷ ps) (q ∷ qs) e =
+    let head : p ≡ q = cc in
+    let tail : map {B = Item} Ok ps ≡ map Ok qs = cc in
+    ap (λ (x : Pair). x ∷ ps) head ∙ ap (λ (xs : List Pair). q ∷ xs) (pairs-only ps qs tail)
+
+other-rows : (stored : List ℕ → List Stored) (limit : ℕ) (o : ColumnOpening) (pieces : List (List Triple)) (p : RawPage) (levels : Levels) (os : List Outcome) (q : Waiting) (b : Bool) (items : List Item) (values : List ℕ) (n : Option ℕ) (rows : List Slot) → (r : IsReading stored limit o pieces (reading (gives_page p levels ∷ os) q b)) → HasItems p levels items values → CountsOtherwise n o.column.way r.middle (joined r.whole ++ r.last) p.header items (stored values) → AreColumnRows o rows → ⊥
+other-rows stored limit o pieces p levels os q b items values n rows r has x a =
+    let t = leaf_type o.column.data_type in
+    let c = page-of-rows stored limit o pieces p levels os q b rows r a in
+    let f = foreseen t o.leaf o.column.way stored p levels items values c.page c.own r.readable.values.plain (levels-of stored limit o pieces p levels os q b r) has c.is c.stored c.within in
+    let taken = x.takes.1.taken in
+    let pairs : map Ok (map pair_of c.own) ≡ map Ok (map pair_of taken) = sym f.pairs ∙ (x.takes.1.pairs ∙ append-nil (map {B = Item} Ok (map pair_of taken))) in
+    let same : map pair_of c.own ≡ map pair_of taken = pairs-only (map pair_of c.own) (map pair_of taken) pairs in
+    let count : rows_in (c.page).triples ≡ rows_in taken = rows-stored t o.leaf.physical c.own (c.page).triples c.stored ∙ (sym (begun-pairs c.own) ∙ (ap begun same ∙ begun-pairs taken)) in
+    x.otherwise (subst (StatesRows p.header) count (counts-rows p.header (c.page).triples c.is.is.counted))
 
 pub page-refused : (counts : ItemsAreCounted) (stored : List ℕ → List Stored) (limit : ℕ) (o : ColumnOpening) (pieces : List (List Triple)) (p : RawPage) (levels : Levels) (os : List Outcome) (q : Waiting) (is_first : Bool) (b : Bool) (e : Error) → b ≡ not is_first → (r : IsReading stored limit o pieces (reading (gives_page p levels ∷ os) q b)) → RefusesPage stored limit is_first q.chunk_size o.column.way r.middle (joined r.whole ++ r.last) p levels e → RefusesPiece o e
 page-refused counts stored limit o pieces p levels os q is_first b e same r why = elim why [
@@ -232,6 +267,7 @@ page-refused counts stored limit o pieces p levels os q is_first b e same r why 
       of-rows o e (inl s4.0) (λ rows a. let x = page-of-rows stored limit o pieces p levels os q b rows r a in s4.1 o.leaf (sym (ap (λ (v : Levels). v.repetition) of-leaf)) (sym (ap (λ (v : Levels). v.definition) of-leaf)) x.is.is.sections x.is.is.split))
   | inr x ↦ elim x.why [
     | inl on ↦ goes-on stored limit o pieces p levels os q is_first b x.items x.values e same r x.has on.0 on.1
-    | inr s ↦ stops counts stored limit o pieces p levels os q b x.items x.values q.chunk_size e r x.has (first-begins x.items s.0) (ap (λ (v : Waiting). v.chunk_size) (sym (queue-is stored limit o pieces (gives_page p levels ∷ os) q b r)) ∙ r.chunk) s.1
+    | inr (inl s) ↦ stops counts stored limit o pieces p levels os q b x.items x.values q.chunk_size e r x.has (first-begins x.items s.0) (ap (λ (v : Waiting). v.chunk_size) (sym (queue-is stored limit o pieces (gives_page p levels ∷ os) q b r)) ∙ r.chunk) s.1
+    | inr (inr other) ↦ of-rows o e (inr (inr (inr (inr (inl other.0))))) (λ rows a. other-rows stored limit o pieces p levels os q b x.items x.values q.chunk_size rows r x.has other.1 a)
   ]
 ]

@@ -1,5 +1,5 @@
 -- Parts of a way, and the rows of a state.
-use Rattle.std.proofs.Common.{◌≡◌, ℕ, zero, suc, ◌+◌, ◌-◌, Bool, true, cond, nat_eq, List, [], ◌∷◌, ◌++◌, map, length, refl, arith, ap, sym, ◌∙◌}
+use Rattle.std.proofs.Common.{◌≡◌, ℕ, zero, suc, ◌+◌, ◌-◌, ◌^◌, ◌<◌, Bool, true, cond, nat_eq, List, [], ◌∷◌, ◌++◌, map, length, refl, arith, ap, sym, ◌∙◌}
 use Rattle.std.proofs.lemmas.List.Sums.{sum_by-append, sum_by-cons}
 use Rattle.shredding.specs.Along.{thin}
 use Rattle.shredding.specs.Local.{inside}
@@ -73,8 +73,8 @@ none-initial (Primitive n ∷ parts) = refl
 none-initial (ListOf n ∷ parts) = refl
 none-initial (Struct n ∷ parts) = refl
 
-pub sound-begun : (parts : List InitNested) (ks : List Kept) (slots : List Slot) (rows : ℕ) → ends_in_leaf parts ≡ true → ks ≡ map initial parts → slots ≡ [] → IsSound parts ks slots rows
-sound-begun parts ks slots rows e k s =
+pub sound-begun : (parts : List InitNested) (ks : List Kept) (slots : List Slot) (rows left : ℕ) → ends_in_leaf parts ≡ true → ks ≡ map initial parts → slots ≡ [] → rows + left < 2 ^ 64 → IsSound parts ks slots rows left
+sound-begun parts ks slots rows left e k s few =
     let w = ends-way parts e in
     let empty = begin-empty parts w.0 w.1 in
     record {
@@ -82,6 +82,7 @@ sound-begun parts ks slots rows e k s =
       fits = rw k empty.fits;
       decoded = rw (s, k) (sym empty.leaf);
       room = omega (arith, ap count k, none-initial parts);
+      few = few;
     }
 
 length-from : (at : ℕ → Slot) (place n : ℕ) → length (slots_from at place n) ≡ n
@@ -110,10 +111,11 @@ pub rows-extended : (rows : ℕ) (page page' : List Item) (left left' : List Sto
 rows-extended rows page page' left left' ks ks' slots slots' e =
     omega (arith, rows-kept (slot_of slots') ks', rows-kept (slot_of slots) ks, ap rows_in e.column, rows-append (kept_column (slot_of slots) ks) e.triples)
 
-pub sound-extended : (parts : List InitNested) (rows : ℕ) (page page' : List Item) (left left' : List Stored) (ks ks' : List Kept) (slots slots' : List Slot) → IsSound parts ks slots rows → Extends (rows - count ks) page page' left left' ks ks' slots slots' → IsSound parts ks' slots' rows
-sound-extended parts rows page page' left left' ks ks' slots slots' s e = record {
+pub sound-extended : (parts : List InitNested) (rows behind : ℕ) (page page' : List Item) (left left' : List Stored) (ks ks' : List Kept) (slots slots' : List Slot) → IsSound parts ks slots rows behind → Extends (rows - count ks) page page' left left' ks ks' slots slots' → IsSound parts ks' slots' rows behind
+sound-extended parts rows behind page page' left left' ks ks' slots slots' s e = record {
   way = s.way;
   fits = e.fits;
   decoded = e.decoded;
   room = omega (arith, s.room, e.most, begun-pairs e.triples, rows-extended (rows - count ks) page page' left left' ks ks' slots slots' e);
+  few = s.few;
 }

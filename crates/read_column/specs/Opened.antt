@@ -5,26 +5,32 @@ use Rattle.columns_base.specs.declared.error.Error.TheVariants.{NotYetImplemente
 use Rattle.columns_base.specs.declared.error.N.TheVariants.{N4}
 use Rattle.columns_base.specs.declared.error.S.TheVariants.{S4}
 use Rattle.pq_numbers.specs.Bits.{IsWidth}
-use Rattle.pq_tree.specs.Headers.{Header, data_page}
+use Rattle.pq_tree.specs.Headers.{Header, data_page, data_page_2}
 use Rattle.pq_tree.specs.Tree.{Leaf, max_definition, max_repetition}
 use Rattle.pq_files.specs.Chunk.{RawPage, count_in}
 use Rattle.pq_files.specs.Page.{Sections, IsSplit, SaysRuns}
 use Rattle.pq_pages.specs.Outcomes.{Levels, Outcome, gives_page}
 use Rattle.read_walk.specs.Pairs.{Item, page_items}
 
--- a page that is read today: of version 1, PLAIN
+-- a data page that is read today, in PLAIN
 abbrev pub IsServed : Header → Type 0
 IsServed (data_page h) = h.encoding ≡ pos 0
+IsServed (data_page_2 h) = h.encoding ≡ pos 0
 IsServed h = ⊥
 
 abbrev pub IsServedPage : Outcome → Type 0
 IsServedPage (gives_page p levels) = IsServed p.header
 IsServedPage o = ⊥
 
--- its levels are runs, in a column with these greatest levels
+-- its levels are runs, in a column with these greatest levels: version 2 knows no other form
 abbrev pub SayRuns : Levels → Header → Type 0
 SayRuns levels (data_page h) = SaysRuns levels.repetition h.repetition_encoding × SaysRuns levels.definition h.definition_encoding
 SayRuns levels h = Unit {0}
+
+-- of version 2: its header states so many rows
+abbrev pub StatesRows : Header → ℕ → Type 0
+StatesRows (data_page_2 h) n = h.num_rows ≡ n
+StatesRows h n = Unit {0}
 
 -- of each leaf with these greatest levels
 abbrev pub IsCutInto : RawPage → Levels → Sections → Type 0

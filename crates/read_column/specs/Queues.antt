@@ -1,5 +1,5 @@
 -- What contracts see of the pieces that are read but not given yet.
-use Rattle.std.specs.Prelude.{◌≡◌, ℕ, ◌-◌, ◌≤◌, Bool, true, false, Option, List, [], ◌∷◌, ◌++◌, map, length}
+use Rattle.std.specs.Prelude.{◌≡◌, ℕ, ◌+◌, ◌-◌, ◌^◌, ◌<◌, ◌≤◌, Bool, true, false, Option, List, [], ◌∷◌, ◌++◌, map, length}
 use Rattle.shredding.specs.Slot.{Slot}
 use Rattle.pq_headline.specs.Openings.{piece_size}
 use Rattle.read_laws.specs.State.{Kept, count, leaf_count, StateFits}
@@ -29,12 +29,18 @@ pub record Waiting : Type 0 where
   pub rows : ℕ
   pub left : ℕ
 
--- The last piece can be extended: its state fits, the leaf has its slots, and it has no more rows than it gets.
-pub record IsSound (parts : List InitNested) (state : List Kept) (leaf : List Slot) (rows : ℕ) : Type 0 where
+-- The last piece can be extended: its state fits, the leaf has its slots, and it has no more rows than it gets. Its rows and those
+-- behind it are counted by 64 bits.
+pub record IsSound (parts : List InitNested) (state : List Kept) (leaf : List Slot) (rows left : ℕ) : Type 0 where
   pub way : ends_in_leaf parts ≡ true
   pub fits : StateFits state
   pub decoded : length leaf ≡ leaf_count state
   pub room : count state ≤ rows
+  pub few : rows + left < 2 ^ 64
+
+-- how many rows are still to come
+abbrev pub rows_to_come : Waiting → ℕ
+rows_to_come q = (q.rows - count q.state) + q.left
 
 -- before the first pair
 abbrev pub begun_queue : List InitNested → Option ℕ → ℕ → Waiting

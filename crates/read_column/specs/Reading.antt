@@ -3,21 +3,22 @@ use Rattle.std.specs.Prelude.{◌≡◌, ◌⊎◌, ℕ, ◌<◌, Bool, true, fa
 use Rattle.columns_base.specs.declared.error.Error.{Error}
 use Rattle.columns_base.specs.declared.error.Error.TheVariants.{NotYetImplemented, OutOfSpec}
 use Rattle.columns_base.specs.declared.error.N.TheVariants.{N8}
-use Rattle.columns_base.specs.declared.error.S.TheVariants.{S5}
+use Rattle.columns_base.specs.declared.error.S.TheVariants.{S5, S9}
 use Rattle.columns_core.specs.Shapes.{leaf_type}
 use Rattle.shredding.specs.Shape.{Way}
 use Rattle.shredding.specs.Shred.{Triple}
 use Rattle.pq_files.specs.Chunk.{Page, RawPage}
-use Rattle.pq_files.specs.Page.{Sections}
+use Rattle.pq_files.specs.Page.{Sections, rows_in}
 use Rattle.pq_files.specs.Reasons.{AnyOf}
 use Rattle.pq_files.specs.Stored.{AreStored}
 use Rattle.pq_headline.specs.FieldReasons.{GivesPage}
 use Rattle.pq_pages.specs.Held.{ArePagesIn}
 use Rattle.pq_pages.specs.Outcomes.{Levels, Outcome}
+use Rattle.pq_tree.specs.Headers.{Header, data_page}
 use Rattle.read_pieces.specs.Columns.{ColumnOpening, IsReadable}
 use Rattle.read_walk.specs.Pairs.{Item}
 use Rattle.read_walk.specs.Values.{Stored}
-use Rattle.read_column.specs.Opened.{ArePairsOf, CannotOpen, IsOpened, IsServedPage, first_goes_on}
+use Rattle.read_column.specs.Opened.{ArePairsOf, CannotOpen, IsOpened, IsServedPage, StatesRows, first_goes_on}
 use Rattle.read_column.specs.Queues.{Waiting}
 use Rattle.read_column.specs.Taken.{joined, AreSized, IsOpen, IsQueued, StopsPage, TakesPage}
 
@@ -33,26 +34,34 @@ pub record HasItems (p : RawPage) (levels : Levels) (items : List Item) (values 
   pub are : ArePairsOf sections repetition definition n items
   pub bytes : values ≡ sections.values
 
--- all its pairs, the first of which begins a row
+-- All its pairs, the first of which begins a row. As many rows begin as its header states.
 pub record TakesAll (stored : List ℕ → List Stored) (n : Option ℕ) (w : Way) (before : ℕ) (old : List Triple) (q : Waiting) (p : RawPage) (levels : Levels) : Type 0 where
   pub items : List Item
   pub values : List ℕ
   pub has : HasItems p levels items values
   pub first : first_goes_on items ≡ false
   pub takes : TakesPage n w before old q items (stored values)
+  pub rows : StatesRows p.header (rows_in takes.1.taken)
 
--- its first pair goes on with a row
-abbrev pub goes_on_error : Bool → Error
-goes_on_error true = OutOfSpec S5
-goes_on_error false = NotYetImplemented N8
+-- all its pairs, but its header states another number of rows
+pub record CountsOtherwise (n : Option ℕ) (w : Way) (before : ℕ) (old : List Triple) (h : Header) (items : List Item) (left : List Stored) : Type 0 where
+  pub queue : Waiting
+  pub takes : TakesPage n w before old queue items left
+  pub otherwise : StatesRows h (rows_in takes.1.taken) → ⊥
+
+-- its first pair goes on with a row: wrong in version 2 and in a column's first page, and else not read yet
+abbrev pub goes_on_error : Header → Bool → Error
+goes_on_error (data_page h) false = NotYetImplemented N8
+goes_on_error h is_first = OutOfSpec S5
 
 pub record RefusesItems (stored : List ℕ → List Stored) (limit : ℕ) (is_first : Bool) (n : Option ℕ) (w : Way) (before : ℕ) (old : List Triple) (p : RawPage) (levels : Levels) (e : Error) : Type 0 where
   pub items : List Item
   pub values : List ℕ
   pub has : HasItems p levels items values
   pub why :
-      ((first_goes_on items ≡ true) × (e ≡ goes_on_error is_first))
+      ((first_goes_on items ≡ true) × (e ≡ goes_on_error p.header is_first))
       ⊎ ((first_goes_on items ≡ false) × StopsPage limit n w before old items (stored values) e)
+      ⊎ ((e ≡ OutOfSpec S9) × CountsOtherwise n w before old p.header items (stored values))
 
 abbrev pub RefusesPage : (List ℕ → List Stored) → ℕ → Bool → Option ℕ → Way → ℕ → List Triple → RawPage → Levels → Error → Type 0
 RefusesPage stored limit is_first n w before old p levels e = CannotOpen p levels e ⊎ RefusesItems stored limit is_first n w before old p levels e

@@ -1,20 +1,21 @@
 //! A data page as it is read.
-ghost use Rattle.std.specs.Prelude.{◌≡◌, ◌⊎◌, ◌↔◌, ◌<◌, ◌≤◌, ◌^◌, ℕ, ℤ, List, Option, Some, None, IfErr, IfOk, IsTrue, MatchResult};
+ghost use Rattle.std.specs.Prelude.{◌≡◌, ◌⊎◌, ◌↔◌, ◌++◌, ◌<◌, ◌≤◌, ◌^◌, ℕ, ℤ, List, Option, Some, None, IfErr, IfOk, IsTrue, MatchOption, MatchResult, length};
 ghost use Rattle.columns_base.specs.declared.error.Error.TheVariants.{OutOfSpec};
 ghost use Rattle.columns_base.specs.declared.error.S.TheVariants.{S4};
-ghost use Rattle.pq_tree.specs.declared.types.DataPageHeader.TheVariants.{V1};
+ghost use Rattle.pq_tree.specs.declared.types.DataPageHeader.TheVariants.{V1, V2};
+ghost use Rattle.pq_tree.specs.declared.types.TypedPageHeader.TheVariants as T;
 ghost use Rattle.pq_tree.specs.Tree.{Leaf, max_definition as leaf_definition, max_repetition as leaf_repetition};
-ghost use Rattle.pq_tree.specs.Views.{natural_part};
-ghost use Rattle.pq_files.specs.Page.{Sections, IsSplit, SaysRuns};
+ghost use Rattle.pq_tree.specs.Views.{natural_part, typed_view};
+ghost use Rattle.pq_files.specs.Page.{Sections, IsSplit, IsSplit2, SaysRuns};
 ghost use Rattle.pq_pages.specs.Outcomes.{levels_in, raw_page};
 ghost use Rattle.pq_pages.specs.Split.{sections};
 ghost use Rattle.read_walk.specs.Pairs.{Item};
-ghost use Rattle.read_column.specs.Opened.{ArePairsOf, CannotOpen, IsCutInto, IsOpened, first_goes_on};
+ghost use Rattle.read_column.specs.Opened.{ArePairsOf, CannotOpen, IsCutInto, IsOpened, IsServed, SayRuns, StatesRows, first_goes_on};
 ghost use Rattle.read_column.specs.Reading.{HasItems};
 
 use columns_base::{Error, N, Result, S};
 use pq_pages::{DataPage, split_buffer, splits_are_of_pages};
-use pq_tree::{DataPageHeader, DataPageHeaderV1, Descriptor};
+use pq_tree::{DataPageHeader, DataPageHeaderV1, DataPageHeaderV2, Descriptor};
 use read_pieces::PlainBytes;
 use read_walk::NestedPage;
 
@@ -29,6 +30,36 @@ pub struct OpenPage<'a> {
     pub count: usize,
 }
 
+// A number that a header states. A negative one, which no page of a file has, counts as none.
+fn natural(number: i32) -> usize
+    ensures { result ≡ natural_part number }
+{
+    if number < 0 {
+        return 0;
+    }
+    number as usize
+}
+
+// The values stand plain.
+fn is_plain(header: &DataPageHeader) -> bool
+    ensures { IsTrue result ↔ IsServed (typed_view (T.Data header.now)) }
+{
+    match header {
+        DataPageHeader::V1(header) => header.encoding == 0,
+        DataPageHeader::V2(header) => header.encoding == 0,
+    }
+}
+
+/// Whether these are as many rows as the header states, if it is of version 2.
+pub fn states_rows(header: &DataPageHeader, rows: usize) -> bool
+    ensures { IsTrue result ↔ StatesRows (typed_view (T.Data header.now)) rows }
+{
+    match header {
+        DataPageHeader::V1(_) => true,
+        DataPageHeader::V2(header) => natural(header.num_rows) == rows,
+    }
+}
+
 // Levels up to this maximum are runs.
 fn says_runs(maximum: usize, encoding: Option<i32>) -> bool
     ensures { IsTrue result ↔ SaysRuns maximum encoding }
@@ -39,8 +70,18 @@ fn says_runs(maximum: usize, encoding: Option<i32>) -> bool
     encoding == Some(3)
 }
 
-// Both levels are.
-fn say_runs(max_repetition: usize, max_definition: usize, header: &DataPageHeaderV1) -> bool
+// Both levels are: version 2 knows no other form.
+fn say_runs(max_repetition: usize, max_definition: usize, header: &DataPageHeader) -> bool
+    ensures { IsTrue result ↔ SayRuns (record { repetition = max_repetition; definition = max_definition }) (typed_view (T.Data header.now)) }
+{
+    match header {
+        DataPageHeader::V1(header) => both_say_runs(max_repetition, max_definition, header),
+        DataPageHeader::V2(_) => true,
+    }
+}
+
+// Of version 1.
+fn both_say_runs(max_repetition: usize, max_definition: usize, header: &DataPageHeaderV1) -> bool
     ensures { IsTrue result ↔ (SaysRuns max_repetition header.now.repetition_level_encoding × SaysRuns max_definition header.now.definition_level_encoding) }
 {
     says_runs(max_repetition, header.repetition_level_encoding)
@@ -61,8 +102,55 @@ fn greatest_levels(page: &DataPage) -> (usize, usize)
     )
 }
 
+// So many bytes, and those behind them.
+fn front(bytes: &[u8], size: usize) -> Option<(&[u8], &[u8])>
+    ensures { MatchOption result (length bytes.now < size) (λ x. (length x.0.now ≡ size) × (bytes.now ≡ x.0.now ++ x.1.now)) }
+{
+    if bytes.len() < size {
+        return None;
+    }
+    Some((&bytes[..size], &bytes[size..]))
+}
+
+// The three sections, the first two of which have these lengths.
+fn split_at<'a>(
+    body: &'a [u8],
+    repetition_length: usize,
+    definition_length: usize,
+) -> Option<(&'a [u8], &'a [u8], &'a [u8])>
+    ensures { MatchOption result ((s : Sections) → IsSplit2 repetition_length definition_length body.now s → ⊥) (λ x. IsSplit2 repetition_length definition_length body.now (sections x.0.now x.1.now x.2.now)) }
+{
+    let Some((repetition, behind)) = front(body, repetition_length) else {
+        return None;
+    };
+    let Some((definition, values)) = front(behind, definition_length) else {
+        return None;
+    };
+    Some((repetition, definition, values))
+}
+
+// The sections of a page of version 2. `split_buffer` refuses lengths below 0, which count as none in what contracts see of a page.
+fn cut_v2<'a>(
+    page: &'a DataPage,
+    header: &DataPageHeaderV2,
+) -> Result<(&'a [u8], &'a [u8], &'a [u8])>
+    requires { page.now.header ≡ V2 header.now }
+    ensures ok { IfOk result (λ x. IsCutInto (raw_page page.now) (levels_in page.now.descriptor) (sections x.0.now x.1.now x.2.now)) }
+    ensures err { IfErr result (λ e. (e ≡ OutOfSpec S4) × ((l : Leaf) → leaf_repetition l ≡ natural_part page.now.descriptor.max_rep_level → leaf_definition l ≡ natural_part page.now.descriptor.max_def_level → (s : Sections) → IsSplit l (raw_page page.now).header page.now.buffer s → ⊥)) }
+{
+    let repetition_length = natural(header.repetition_levels_byte_length);
+    let definition_length = natural(header.definition_levels_byte_length);
+    match split_at(page.buffer(), repetition_length, definition_length) {
+        Some(parts) => Ok(parts),
+        None => Err(Error::OutOfSpec(S::S4)),
+    }
+}
+
 // The sections of a page of version 1.
-fn cut<'a>(page: &'a DataPage, _header: &DataPageHeaderV1) -> Result<(&'a [u8], &'a [u8], &'a [u8])>
+fn cut_v1<'a>(
+    page: &'a DataPage,
+    _header: &DataPageHeaderV1,
+) -> Result<(&'a [u8], &'a [u8], &'a [u8])>
     requires { page.now.header ≡ V1 _header.now }
     ensures ok { IfOk result (λ x. IsCutInto (raw_page page.now) (levels_in page.now.descriptor) (sections x.0.now x.1.now x.2.now)) }
     ensures err { IfErr result (λ e. (e ≡ OutOfSpec S4) × ((l : Leaf) → leaf_repetition l ≡ natural_part page.now.descriptor.max_rep_level → leaf_definition l ≡ natural_part page.now.descriptor.max_def_level → (s : Sections) → IsSplit l (raw_page page.now).header page.now.buffer s → ⊥)) }
@@ -72,19 +160,28 @@ fn cut<'a>(page: &'a DataPage, _header: &DataPageHeaderV1) -> Result<(&'a [u8], 
     split_buffer(page)
 }
 
-/// Opens a data page of version 1, PLAIN.
+// The sections of a page.
+fn cut(page: &DataPage) -> Result<(&[u8], &[u8], &[u8])>
+    ensures ok { IfOk result (λ x. IsCutInto (raw_page page.now) (levels_in page.now.descriptor) (sections x.0.now x.1.now x.2.now)) }
+    ensures err { IfErr result (λ e. (e ≡ OutOfSpec S4) × ((l : Leaf) → leaf_repetition l ≡ natural_part page.now.descriptor.max_rep_level → leaf_definition l ≡ natural_part page.now.descriptor.max_def_level → (s : Sections) → IsSplit l (raw_page page.now).header page.now.buffer s → ⊥)) }
+{
+    match page.header() {
+        DataPageHeader::V1(header) => cut_v1(page, header),
+        DataPageHeader::V2(header) => cut_v2(page, header),
+    }
+}
+
+/// Opens a data page, PLAIN.
 ///
 /// # Errors
 ///
-/// N4 for a page of version 2, another encoding, or levels that are no runs; S4 where a section of levels lies outside of the body.
+/// N4 for another encoding, or levels that are no runs; S4 where a section of levels lies outside of the body.
 pub fn open_page(page: &DataPage) -> Result<OpenPage<'_>>
     ensures ok { IfOk result (λ x. IsOpened (raw_page page.now) (levels_in page.now.descriptor) (sections x.repetitions.now x.definitions.now x.values.now) x.max_repetition x.max_definition x.count) }
     ensures err { IfErr result (CannotOpen (raw_page page.now) (levels_in page.now.descriptor)) }
 {
-    let DataPageHeader::V1(header) = page.header() else {
-        return Err(Error::NotYetImplemented(N::N4));
-    };
-    if header.encoding != 0 {
+    let header = page.header();
+    if !is_plain(header) {
         return Err(Error::NotYetImplemented(N::N4));
     }
     let (max_repetition, max_definition) = greatest_levels(page);
@@ -92,7 +189,7 @@ pub fn open_page(page: &DataPage) -> Result<OpenPage<'_>>
         return Err(Error::NotYetImplemented(N::N4));
     }
     let count = page.num_values();
-    match cut(page, header) {
+    match cut(page) {
         Ok((repetitions, definitions, values)) => Ok(OpenPage {
             repetitions,
             definitions,
@@ -161,7 +258,7 @@ pub struct PagePairs<'a> {
     pub goes_on: bool,
 }
 
-/// Opens a data page of version 1, PLAIN, for its pairs.
+/// Opens a data page, PLAIN, for its pairs.
 ///
 /// # Errors
 ///

@@ -5,7 +5,7 @@ ghost use Rattle.pq_headline.specs.Openings.{piece_size};
 ghost use Rattle.read_laws.specs.State.{count};
 ghost use Rattle.read_walk.specs.Walk.{Refuses};
 ghost use Rattle.read_state.specs.Initial.{initial};
-ghost use Rattle.read_column.specs.Queues.{begun_queue, closed_queue, ends_in_leaf, ExtendsLast};
+ghost use Rattle.read_column.specs.Queues.{begun_queue, closed_queue, ends_in_leaf, rows_to_come, ExtendsLast};
 
 use crate::parts::is_way;
 use columns_base::Result;
@@ -45,7 +45,7 @@ impl<L: LeafReader> Model for Queue<L> {
 
     ghost view = { λ q. record { parts = q.parts.items; chunk_size = q.chunk_size; whole = map (λ p. (p.0, L.slots p.1)) q.whole.items; state = q.nested; leaf = L.slots q.values; rows = q.rows; left = q.left } };
 
-    ghost invariant = { λ q. IsSound q.parts.items q.nested (L.slots q.values) q.rows };
+    ghost invariant = { λ q. IsSound q.parts.items q.nested (L.slots q.values) q.rows q.left };
 }
 
 // How many of the rows that are left go into the next piece.
@@ -113,6 +113,13 @@ impl<L: LeafReader> Queue<L> {
         ensures { result ≡ nat_lt 0 self.now.rows }
     {
         0 < self.rows
+    }
+
+    /// How many rows are still to come.
+    pub fn rows_to_come(&self) -> usize
+        ensures { result ≡ rows_to_come self.now }
+    {
+        (self.rows - self.nested.len()) + self.left
     }
 
     /// Whether the last piece has its rows.

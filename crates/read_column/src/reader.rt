@@ -19,7 +19,7 @@ use read_state::{InitNested, NestedState};
 use std::alloc::Global;
 use std::marker::Model;
 
-/// Reads one column of a row group in pieces of whole rows, from any source of its pages. Today's pages are those of version 1, PLAIN.
+/// Reads one column of a row group in pieces of whole rows, from any source of its pages. Today's pages are PLAIN, of version 1 or 2.
 ///
 /// After an error it gives nothing more.
 #[derive(Drop)]
@@ -133,8 +133,8 @@ impl<I: Pages, L: LeafReader> ColumnReader<I, L> {
     /// # Errors
     ///
     /// S3 or N4 of the source; N4 for a page that is not read yet; S5 or N8 where a page's first pair goes on with a row; S4, S6, S7 and S10 where a
-    /// page's levels or values are not those of rows; S9 where the pages have more or fewer rows than the group; V1 where a piece passes the
-    /// offsets of its array; `Memory`.
+    /// page's levels or values are not those of rows; S9 where the pages have more or fewer rows than the group, or one
+    /// of version 2 than its header states; V1 where a piece passes the offsets of its array; `Memory`.
     pub fn next_piece(&mut self) -> Option<Result<(NestedState, L::Values)>>
         ensures { (o : ColumnOpening) (pieces : List (List Triple)) → IsReading L.stored L.byte_limit o pieces self.old → GivesPiece (IsReading L.stored L.byte_limit) (λ v ts. IsPiece o.column.way ts v.0 (L.slots v.1)) o pieces result self.new }
     {

@@ -5,14 +5,17 @@ ghost use Rattle.columns_base.specs.declared.error.S.TheVariants.{S4, S9};
 ghost use Rattle.shredding.specs.Shape.{Way};
 ghost use Rattle.shredding.specs.Shred.{Triple};
 ghost use Rattle.read_walk.specs.Pairs.{Pair, Item, fault};
+ghost use Rattle.pq_tree.specs.declared.types.TypedPageHeader.TheVariants as T;
+ghost use Rattle.pq_tree.specs.Views.{typed_view};
 ghost use Rattle.pq_pages.specs.Outcomes.{levels_in, raw_page};
 ghost use Rattle.read_column.specs.Reading.{RefusesPage, TakesAll, goes_on_error};
 ghost use Rattle.read_column.specs.Taken.{joined, BeginsPair, IsQueued, StopsPage, TakesPage};
 
-use crate::page::{PagePairs, open_pairs};
+use crate::page::{PagePairs, open_pairs, states_rows};
 use crate::queue::Queue;
 use columns_base::{Error, N, Result, S};
 use pq_pages::DataPage;
+use pq_tree::DataPageHeader;
 use read_pieces::{LeafReader, PlainBytes};
 use read_walk::NestedPage;
 
@@ -61,13 +64,18 @@ pub fn take_pairs<'a, 'b, L: LeafReader>(
 }
 
 // A page's first pair goes on with a row.
-fn misplaced(is_first: bool) -> Error
-    ensures { result ≡ goes_on_error is_first }
+fn misplaced(header: &DataPageHeader, is_first: bool) -> Error
+    ensures { result ≡ goes_on_error (typed_view (T.Data header.now)) is_first }
 {
-    if is_first {
-        Error::OutOfSpec(S::S5)
-    } else {
-        Error::NotYetImplemented(N::N8)
+    match header {
+        DataPageHeader::V1(_) => {
+            if is_first {
+                Error::OutOfSpec(S::S5)
+            } else {
+                Error::NotYetImplemented(N::N8)
+            }
+        }
+        DataPageHeader::V2(_) => Error::OutOfSpec(S::S5),
     }
 }
 
@@ -75,7 +83,8 @@ fn misplaced(is_first: bool) -> Error
 ///
 /// # Errors
 ///
-/// Those of `open_page` and `take_pairs`; where the first pair goes on with a row S5 if the page is the column's first, and else N8.
+/// Those of `open_page` and `take_pairs`; where the first pair goes on with a row S5 if the page is the column's first or of version 2, and else N8;
+/// S9 where the header of a page of version 2 states another number of rows.
 pub fn take_page<L: LeafReader>(
     queue: Queue<L>,
     page: &DataPage,
@@ -93,7 +102,15 @@ pub fn take_page<L: LeafReader>(
         Err(error) => return Err(error),
     };
     if goes_on {
-        return Err(misplaced(is_first));
+        return Err(misplaced(page.header(), is_first));
     }
-    take_pairs(queue, &mut pairs, &mut bytes)
+    let before = queue.rows_to_come();
+    let queue = match take_pairs(queue, &mut pairs, &mut bytes) {
+        Ok(queue) => queue,
+        Err(error) => return Err(error),
+    };
+    if !states_rows(page.header(), before.saturating_sub(queue.rows_to_come())) {
+        return Err(Error::OutOfSpec(S::S9));
+    }
+    Ok(queue)
 }

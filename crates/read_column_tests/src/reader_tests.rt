@@ -5,7 +5,10 @@ ghost use Rattle.pq_pages.specs.Outcomes.{HasLevels};
 use crate::numbers::Numbers;
 use columns_base::{Error, N, PhysicalType, Result, S};
 use pq_pages::{DataPage, Page, VecPages};
-use pq_tree::{DataPageHeader, DataPageHeaderV1, Descriptor, FieldInfo, PrimitiveType, Repetition};
+use pq_tree::{
+    DataPageHeader, DataPageHeaderV1, DataPageHeaderV2, Descriptor, FieldInfo, PrimitiveType,
+    Repetition,
+};
 use read_column::ColumnReader;
 use read_state::InitNested;
 use std::alloc::Global;
@@ -84,6 +87,11 @@ const CUT: &[u8] = &[
     0,
 ];
 
+// The same rows in version 2: the sections of levels stand without their lengths.
+const BODY_2: &[u8] = &[3, 0b0000_0010, 3, 75, 3, 1, 0, 0, 0, 2, 0, 0, 0];
+
+const GOES_ON_2: &[u8] = &[3, 0b0000_0011, 3, 75, 3, 1, 0, 0, 0, 2, 0, 0, 0];
+
 fn descriptor(alloc: Global) -> Result<Descriptor>
     ensures { IfOk result HasLevels }
 {
@@ -115,6 +123,39 @@ fn page(alloc: Global, encoding: bool, body: &[u8]) -> Result<Page> {
     let body = Vec::from_slice(alloc, body)?;
     let descriptor = descriptor(alloc)?;
     Ok(Page::Data(DataPage::new(DataPageHeader::V1(header), body, descriptor, None)))
+}
+
+// A page of version 2 of five pairs, whose header states so many rows, in PLAIN or another encoding.
+fn page_2(alloc: Global, is_plain: bool, num_rows: i32, body: &[u8]) -> Result<Page> {
+    let header = DataPageHeaderV2 {
+        num_values: 5,
+        num_nulls: None,
+        num_rows,
+        encoding: if is_plain { 0 } else { 8 },
+        definition_levels_byte_length: 3,
+        repetition_levels_byte_length: 2,
+        is_compressed: None,
+        statistics: None,
+    };
+    let body = Vec::from_slice(alloc, body)?;
+    let descriptor = descriptor(alloc)?;
+    Ok(Page::Data(DataPage::new(DataPageHeader::V2(header), body, descriptor, None)))
+}
+
+// The reader of a page of version 1 and one of version 2, of eight rows, in pieces of three.
+fn reader_2(
+    alloc: Global,
+    is_plain: bool,
+    num_rows: i32,
+    body: &[u8],
+) -> Result<ColumnReader<VecPages, Numbers<i32, i32>>> {
+    let mut pages = Vec::new(alloc);
+    pages.push(Ok(page(alloc, true, BODY)?))?;
+    pages.push(Ok(page_2(alloc, is_plain, num_rows, body)?))?;
+    let mut parts = Vec::new(alloc);
+    parts.push(InitNested::List(true))?;
+    parts.push(InitNested::Primitive(true))?;
+    ColumnReader::new(alloc, VecPages::new(pages), parts, Some(3), 8)
 }
 
 // The reader of two pages, of so many rows, in pieces of three.
@@ -156,9 +197,15 @@ fn reads_pieces(alloc: Global) -> Result<bool> {
     Ok(gives(&mut reader, 2) && gives(&mut reader, 3) && gives(&mut reader, 1) && ends(&mut reader))
 }
 
+fn reads_version_2(alloc: Global) -> Result<bool> {
+    let mut reader = reader_2(alloc, true, 4, BODY_2)?;
+    Ok(gives(&mut reader, 2) && gives(&mut reader, 3) && gives(&mut reader, 1) && ends(&mut reader))
+}
+
 #[test]
 fn pieces_go_over_pages(rt: HostRuntime) -> Result<()> {
     assert!(rt; reads_pieces(rt.alloc())?);
+    assert!(rt; reads_version_2(rt.alloc())?);
     Ok(())
 }
 
@@ -205,5 +252,31 @@ fn faults_are_told(rt: HostRuntime) -> Result<()> {
     );
     assert!(rt; refuses_pages(alloc, true, BODY, CUT, 8, Error::OutOfSpec(S::S6))?);
     assert!(rt; refuses_pages(alloc, false, BODY, BODY, 8, Error::NotYetImplemented(N::N4))?);
+    Ok(())
+}
+
+fn refuses_version_2(
+    alloc: Global,
+    is_plain: bool,
+    num_rows: i32,
+    body: &[u8],
+    want: Error,
+) -> Result<bool> {
+    let mut reader = reader_2(alloc, is_plain, num_rows, body)?;
+    Ok(refuses(&mut reader, want))
+}
+
+#[test]
+fn faults_of_version_2_are_told(rt: HostRuntime) -> Result<()> {
+    let alloc = rt.alloc();
+    // the header says one row more, one less, or less than none
+    assert!(rt; refuses_version_2(alloc, true, 5, BODY_2, Error::OutOfSpec(S::S9))?);
+    assert!(rt; refuses_version_2(alloc, true, 3, BODY_2, Error::OutOfSpec(S::S9))?);
+    assert!(rt; refuses_version_2(alloc, true, -4, BODY_2, Error::OutOfSpec(S::S9))?);
+    // also behind the column's first page
+    assert!(rt; refuses_version_2(alloc, true, 3, GOES_ON_2, Error::OutOfSpec(S::S5))?);
+    // a section of levels outside of the body
+    assert!(rt; refuses_version_2(alloc, true, 4, &BODY_2[..4], Error::OutOfSpec(S::S4))?);
+    assert!(rt; refuses_version_2(alloc, false, 4, BODY_2, Error::NotYetImplemented(N::N4))?);
     Ok(())
 }

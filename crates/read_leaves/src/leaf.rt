@@ -102,7 +102,7 @@ impl<I: Pages> LeafColumn<I> {
     ///
     /// Those of `ColumnReader` of `read_column`: S3 or N4 of the source; N4 for a page that is not read yet; S5 or N8 where a page's first pair
     /// goes on with a row; S4, S6, S7 and S10 where a page's levels or values are not those of rows; S9 where the pages have more or fewer rows
-    /// than the group; V1 where a piece passes the offsets of its array; `Memory`.
+    /// than the group, or one of version 2 than its header states; V1 where a piece passes the offsets of its array; `Memory`.
     pub fn next_piece(&mut self) -> Option<Result<ColumnPiece>>
         ensures { (o : ColumnOpening) (t : TypeTree) (pieces : List (List Triple)) → IsReadingLeaf o t pieces self.old → GivesPiece (λ o ps r. IsReadingLeaf o t ps r) (λ p ts. IsPieceOf o.column t ts p) o pieces result self.new }
     {

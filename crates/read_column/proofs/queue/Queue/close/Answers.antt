@@ -1,7 +1,8 @@
+use Rattle.std.proofs.Common.{arith}
 use Rattle.read_column.proofs.Ways.{sound-begun}
 use Rattle.read_column.proofs.queue.Queue.close.Goals as goal
 
 pub invariant_of-result : goal.invariant_of-result
 invariant_of-result g c =
     let begun = rw c.deref.ensures.value at c.in_ok-next.ensures.ok in
-    sound-begun c.self.inside.parts.items _ _ c.piece_rows-rows.result c.self.invariant.way begun.0 begun.1
+    sound-begun c.self.inside.parts.items _ _ c.piece_rows-rows.result _ c.self.invariant.way begun.0 begun.1 (omega (arith, c.self.invariant.few, c.piece_rows-rows.ensures.few))

@@ -6,7 +6,7 @@ use Rattle.read_column.proofs.Ways.{sound-extended}
 use Rattle.read_column.proofs.queue.Queue.extend.Goals as goal
 
 pub invariant_of-result : goal.invariant_of-result
-invariant_of-result g c = sound-extended c.self.inside.parts.items c.self.inside.rows _ _ _ _ _ _ _ _ c.self.invariant (rw c.len.ensures at c.in-Ok.ensures.ok)
+invariant_of-result g c = sound-extended c.self.inside.parts.items c.self.inside.rows c.self.inside.left _ _ _ _ _ _ _ _ c.self.invariant (rw c.len.ensures at c.in-Ok.ensures.ok)
 
 pub returns-in-Err-clause-err : goal.returns-in-Err-clause-err
 returns-in-Err-clause-err g c =
