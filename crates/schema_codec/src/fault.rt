@@ -27,7 +27,7 @@ impl From<AllocError> for CodecFault {
     }
 }
 
-/// Why reading ended, inside of this crate.
+/// Why reading a codec's bytes ended with no schema.
 #[derive(Debug, Drop)]
 pub enum Refusal {
     /// Memory ran out.

@@ -149,6 +149,7 @@ pub fn unit_from(number: u8) -> Option<TimeUnit>
     }
 }
 
+/// The number of a unit, from 0 for seconds on.
 pub fn number_of_unit(unit: TimeUnit) -> u8
     ensures { result ≡ unit_number unit }
 {
@@ -172,6 +173,7 @@ pub fn interval_unit_from(number: u8) -> Option<IntervalUnit>
     }
 }
 
+/// The number of a unit of intervals, from 0 on.
 pub fn number_of_interval_unit(unit: IntervalUnit) -> u8
     ensures { result ≡ interval_number unit }
 {

@@ -1,0 +1,6 @@
+use Rattle.std.proofs.Common.{ℕ, ◌%◌, ◌^◌, sym, ap, ◌∙◌}
+use Rattle.schema_fb.proofs.Lengths.{text_length}
+use Rattle.schema_fb.proofs.size.text_size.Goals as goal
+
+pub returns : goal.returns
+returns c = c.block.ensures ∙ ap (λ (n : ℕ). n % 2 ^ 64) (sym (text_length c.args.text.now))

@@ -1,0 +1,12 @@
+pub mod Examples
+pub mod Extensions
+pub mod Laws
+pub mod Layout
+pub mod Parts
+pub mod Places
+pub mod Proved
+pub mod Reading
+pub mod Steps
+pub mod Tables
+pub mod Tags
+pub mod Views
