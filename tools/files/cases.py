@@ -3,6 +3,8 @@
 Statuses and lines are worked out by hand from the rules of the format and of the program, never taken from a run.
 """
 
+import arrow
+
 from parquet import *
 
 CASES = []
@@ -604,6 +606,48 @@ def counted():
     bad(t, "an empty list that goes on in a later page", file_of(FIRST, [pairs_in_pages(FIRST, 3, *later)]), "S10")
 
 
+# ---- the schema under the key
+
+
+def keyed():
+    t = "KEYED"
+    r, o = REQUIRED, OPTIONAL
+
+    def key(*fields):
+        return [("ARROW:schema", arrow.value(arrow.message(*fields)))]
+
+    entry = group("key_value", REPEATED, leaf("key", r, BYTE_ARRAY, UTF8), leaf("value", o, INT32))
+    entries = arrow.field("entries", False, arrow.STRUCT, (), [arrow.field("key", False, arrow.UTF8), arrow.int32("value", True)])
+    map_ = arrow.field("m", True, arrow.MAP, (0,), [entries])
+    good(t, "a map that the key tells", rows([group("m", o, entry, converted=MAP_)], [("k", 1)], None, [], keys=key(map_)), 1, 3, 2)
+    listed = arrow.field("a", True, arrow.LIST, (), [arrow.int32("element")])
+    good(t, "a list of two levels that the key tells", rows([group("a", o, number("element", REPEATED), converted=LIST_)], [1, 2], None, keys=key(listed)), 1, 2, 1)
+    repeated = arrow.field("a", False, arrow.LARGE_LIST, (), [arrow.int32("x")])
+    good(t, "a repeated leaf that the key tells", rows([number("a", REPEATED)], [1, 2], [], keys=key(repeated)), 1, 2, 1)
+    good(t, "large texts", rows(TEXT, b"ab", b"", keys=key(arrow.field("s", False, arrow.LARGE_UTF8))), 1, 2, 1)
+    extended = arrow.field("s", False, arrow.UTF8, metadata={"ARROW:extension:name": "x", "ARROW:extension:metadata": ""})
+    good(t, "an extension", rows(TEXT, b"ab", keys=key(extended)), 1, 1, 1)
+    good(t, "another name", flat(keys=key(arrow.int32("other"))), 1, 2, 1)
+    good(t, "no key, and key values", first(keys=[("k", "v")]), 1, 4, 1)
+    good(t, "a key without a value", first(keys=[("ARROW:schema", None)]), 1, 4, 1)
+    good(t, "two keys, of which the last counts", flat(keys=[("ARROW:schema", "%"), *key(arrow.int32("n"))]), 1, 2, 1)
+    bad(t, "two keys, of which the last is none", flat(keys=[*key(arrow.int32("n")), ("ARROW:schema", "%")]), "A2")
+    bad(t, "a key that is not base64", first(keys=[("ARROW:schema", "no base64")]), "A2")
+    bad(t, "an empty key", first(keys=[("ARROW:schema", "")]), "A2")
+    bad(t, "a key of the plain codec", flat(keys=[("ARROW:schema", "/////xMAAAABAAAAAQAAAGEBBAAAAAAAAAAA")]), "A2")
+    bad(t, "a message that is cut", flat(keys=[("ARROW:schema", arrow.value(arrow.message(arrow.int32("n"))[:200]))]), "A2")
+    bad(t, "a key of two fields", flat(keys=key(arrow.int32("n"), arrow.int32("m"))), "S8")
+    bad(t, "a key of no field", flat(keys=key()), "A3")
+    bad(t, "a key of numbers of 64 bits", flat(keys=key(arrow.field("n", False, arrow.INT, (64, 1)))), "S8")
+    bad(t, "a key of a nullable field", flat(keys=key(arrow.int32("n", True))), "S8")
+    bad(t, "a key of a list", flat(keys=key(listed)), "S8")
+    milli = [leaf("t", r, INT64, TIMESTAMP_MILLIS)]
+    bad(t, "a key of another unit", rows(milli, 5, keys=key(arrow.field("t", False, arrow.TIMESTAMP, (2,)))), "S8")
+    good(t, "a key of the same unit and a zone", rows(milli, 5, keys=key(arrow.field("t", False, arrow.TIMESTAMP, (1, b"UTC")))), 1, 1, 1)
+    index = arrow.Table(0, arrow.Table(32, 1), 0)
+    bad(t, "a key of a dictionary", rows(TEXT, b"ab", keys=key(arrow.field("s", False, arrow.UTF8, dictionary=index))), "N5")
+
+
 # ---- tried by hand
 
 
@@ -620,5 +664,5 @@ def apart():
     bad(t, "too few definition levels, behind too few values", first_page(body=text_), "S4")
 
 
-for part in (nested, typed, grouped, spelled, framed, trees, placed, schemas, paged, leveled, counted, apart):
+for part in (nested, typed, grouped, spelled, framed, trees, placed, schemas, paged, leveled, counted, keyed, apart):
     part()

@@ -34,7 +34,10 @@ ABOUT = {
     "PAGED": "Pages that are refused.",
     "LEVELED": "Levels and values that are refused.",
     "COUNTED": "Columns that no rows have, or other rows than their group.",
+    "KEYED": "Files whose schema stands under the key.",
 }
+# the words with which files are tried: the schema under the key counts in one table
+WORDS = {"KEYED": []}
 HEAD = "//! {}\n//! Made by tools/files/make.py; cases.py beside it says what each file is.\n"
 
 
@@ -143,11 +146,15 @@ def run(program, data):
     return made.returncode, made.stdout, made.stderr.decode(errors="replace").rstrip("\n")
 
 
+def words_of(case):
+    return WORDS.get(case.table, ["--ignore-key"])
+
+
 def check(program):
     """Tells where status or line are others, and returns whether all are right."""
     wrong = 0
     for case in cases.CASES:
-        status, output, line = run(program, case.file)
+        status, output, line = run(program + words_of(case), case.file)
         if (status, line) != (case.status, case.line) or (output != b"") != (case.status == 0):
             wrong += 1
             print(f"{case.table}: {case.name}: {status} {line!r}, not {case.status} {case.line!r}")
@@ -162,7 +169,8 @@ def complaints(case, output, again):
         given, made = reader.Parsed(case.file), reader.Parsed(output)
         if given.rows() != made.rows():
             out.append(f"rows {made.rows()}, not {given.rows()}")
-        out += reader.form(given, made)
+        # what a schema under the key is written as, is not told from the tree
+        out += reader.form(given, made) if case.table != "KEYED" else []
     except (AssertionError, IndexError, KeyError, StopIteration, ValueError) as error:
         out.append(f"not read: {type(error).__name__} {error}")
     if again[:2] != (0, output):
@@ -176,11 +184,12 @@ def compare(folder, program):
     for case in cases.CASES:
         if case.status:
             continue
-        status, output, line = run(program, case.file)
+        program_ = program + words_of(case)
+        status, output, line = run(program_, case.file)
         outputs[case.name] = output
         with open(os.path.join(folder, file_name(case)), "wb") as file:
             file.write(output)
-        told = complaints(case, output, run(program, output)) if status == 0 else [f"{status} {line}"]
+        told = complaints(case, output, run(program_, output)) if status == 0 else [f"{status} {line}"]
         wrong += bool(told)
         for text in told:
             print(f"{case.table}: {case.name}: {text}")

@@ -1,9 +1,9 @@
-"""Reads small Parquet files of plain pages of version 1 back to rows, and says what of a file is not of the form that the program writes.
+"""Reads small Parquet files of plain pages back to rows, and says what of a file is not of the form that the program writes.
 
 It shares no code with the writer beside it: what both get wrong in the same way is not seen, what one gets wrong is.
 """
 
-import base64
+import arrow
 
 MAKER = b"Arrow2 - Native Rust implementation of Arrow"
 
@@ -127,15 +127,19 @@ class Parsed:
         while len(triples) < meta[5]:
             start = source.at
             header = value(source, 12)
-            assert header[1] == 0 and header[5][2] == 0, "page"
-            body, count, exact = Bytes(source.take(header[3])), header[5][1], True
+            assert header[1] in (0, 3), "page"
+            head = header[5] if header[1] == 0 else header[8]
+            assert head[2 if header[1] == 0 else 4] == 0, "encoding"
+            body, count, exact = Bytes(source.take(header[3])), head[1], True
             both = []
-            for greatest in (greatest_r, greatest_d):
+            for greatest, place in ((greatest_r, 6), (greatest_d, 5)):
                 numbers = [0] * count
                 if greatest:
-                    numbers, is_exact = levels(body.take(int.from_bytes(body.take(4), "little")), greatest, count)
+                    size = int.from_bytes(body.take(4), "little") if header[1] == 0 else head[place]
+                    numbers, is_exact = levels(body.take(size), greatest, count)
                     exact = exact and (is_exact or count == 0)
                 both.append(numbers)
+            assert header[1] == 0 or head[3] == both[0].count(0), "rows"
             for r, d in zip(*both):
                 triples.append((r, d, self.plain(body, node) if d == greatest_d else None))
             self.pages.append((start, source.at, header, exact and body.at == len(body.data)))
@@ -212,26 +216,26 @@ def there(node, columns, d, k):
 SMALL = {(8, True): "Int8", (16, True): "Int16", (8, False): "UInt8", (16, False): "UInt16", (32, False): "UInt32"}
 OLD_SMALL = {11: "UInt8", 12: "UInt16", 13: "UInt32", 15: "Int8", 16: "Int16", 6: "Date32", 7: "Time32 1"}
 OLD_WIDE = {8: "Time64 2", 9: "Timestamp 1", 10: "Timestamp 2", 14: "UInt64"}
-# the tag of a type, its physical type, its converted type and its logical type
+# the physical type of a type, its converted type and its logical type
 WRITTEN = {
-    "Int8": (b"\x02", 1, 15, {10: {1: 8, 2: True}}),
-    "Int16": (b"\x03", 1, 16, {10: {1: 16, 2: True}}),
-    "Int32": (b"\x04", 1, None, None),
-    "Int64": (b"\x05", 2, None, None),
-    "UInt8": (b"\x06", 1, 11, {10: {1: 8, 2: False}}),
-    "UInt16": (b"\x07", 1, 12, {10: {1: 16, 2: False}}),
-    "UInt32": (b"\x08", 1, 13, {10: {1: 32, 2: False}}),
-    "UInt64": (b"\x09", 2, 14, {10: {1: 64, 2: False}}),
-    "Date32": (b"\x0e", 1, 6, {6: {}}),
-    "Time32 1": (b"\x10\x01", 1, 7, {7: {1: False, 2: {1: {}}}}),
-    "Time64 2": (b"\x11\x02", 2, 8, {7: {1: False, 2: {2: {}}}}),
-    "Time64 3": (b"\x11\x03", 2, None, {7: {1: False, 2: {3: {}}}}),
-    "Binary": (b"\x14", 6, None, None),
-    "Utf8": (b"\x17", 6, 0, {1: {}}),
+    "Int8": (1, 15, {10: {1: 8, 2: True}}),
+    "Int16": (1, 16, {10: {1: 16, 2: True}}),
+    "Int32": (1, None, None),
+    "Int64": (2, None, None),
+    "UInt8": (1, 11, {10: {1: 8, 2: False}}),
+    "UInt16": (1, 12, {10: {1: 16, 2: False}}),
+    "UInt32": (1, 13, {10: {1: 32, 2: False}}),
+    "UInt64": (2, 14, {10: {1: 64, 2: False}}),
+    "Date32": (1, 6, {6: {}}),
+    "Time32 1": (1, 7, {7: {1: False, 2: {1: {}}}}),
+    "Time64 2": (2, 8, {7: {1: False, 2: {2: {}}}}),
+    "Time64 3": (2, None, {7: {1: False, 2: {3: {}}}}),
+    "Binary": (6, None, None),
+    "Utf8": (6, 0, {1: {}}),
 }
 for unit in (1, 2, 3):
-    WRITTEN[f"Timestamp {unit}"] = (bytes([13, unit, 0]), 2, None, {8: {1: False, 2: {unit: {}}}})
-    WRITTEN[f"Timestamp {unit} UTC"] = (bytes([13, unit, 1]) + b"\x06\0\0\0+00:00", 2, None, {8: {1: True, 2: {unit: {}}}})
+    WRITTEN[f"Timestamp {unit}"] = (2, None, {8: {1: False, 2: {unit: {}}}})
+    WRITTEN[f"Timestamp {unit} UTC"] = (2, None, {8: {1: True, 2: {unit: {}}}})
 
 
 def leaf_type(node):
@@ -280,7 +284,7 @@ def elements_of(field):
     name, is_nullable, kind = field
     base = {3: int(is_nullable), 4: name}
     if isinstance(kind, str):
-        _, physical, converted, logical = WRITTEN[kind]
+        physical, converted, logical = WRITTEN[kind]
         ids = {1: physical, **base, 6: converted, 10: logical}
         return [{k: v for k, v in ids.items() if v is not None}]
     if kind[0] == "list":
@@ -288,30 +292,45 @@ def elements_of(field):
     return [{**base, 5: len(kind[1])}] + [e for child in kind[1] for e in elements_of(child)]
 
 
-def size(number):
-    return number.to_bytes(4, "little")
+# the tag and the slots of a type's table in an Arrow message
+TOLD = {
+    "Int8": (arrow.INT, (8, 1)),
+    "Int16": (arrow.INT, (16, 1)),
+    "Int32": (arrow.INT, (32, 1)),
+    "Int64": (arrow.INT, (64, 1)),
+    "UInt8": (arrow.INT, (8, 0)),
+    "UInt16": (arrow.INT, (16, 0)),
+    "UInt32": (arrow.INT, (32, 0)),
+    "UInt64": (arrow.INT, (64, 0)),
+    "Date32": (arrow.DATE, (0,)),
+    "Time32 1": (arrow.TIME, (1, 32)),
+    "Time64 2": (arrow.TIME, (2, 64)),
+    "Time64 3": (arrow.TIME, (3, 64)),
+    "Binary": (arrow.BINARY, ()),
+    "Utf8": (arrow.UTF8, ()),
+}
+for unit in (1, 2, 3):
+    TOLD[f"Timestamp {unit}"] = (arrow.TIMESTAMP, (unit, None))
+    TOLD[f"Timestamp {unit} UTC"] = (arrow.TIMESTAMP, (unit, b"+00:00"))
 
 
-def spelled(field):
-    """Returns the bytes of a field by the project's own codec."""
+def told(field):
+    """Returns the table of a field in an Arrow message."""
     name, is_nullable, kind = field
-    out = size(len(name)) + name + bytes([is_nullable])
     if isinstance(kind, str):
-        out += WRITTEN[kind][0]
-    elif kind[0] == "list":
-        out += b"\x19" + spelled(kind[1])
-    else:
-        out += b"\x1c" + size(len(kind[1])) + b"".join(map(spelled, kind[1]))
-    return out + size(0)
+        tag, slots = TOLD[kind]
+        return arrow.field(name.decode(), is_nullable, tag, slots)
+    if kind[0] == "list":
+        return arrow.field(name.decode(), is_nullable, arrow.LIST, (), [told(kind[1])])
+    return arrow.field(name.decode(), is_nullable, arrow.STRUCT, (), map(told, kind[1]))
 
 
 def key_values(given, schema):
     """Returns the key values of the output: the others in their order, and that of the schema."""
     pairs = [pair for pair in given.footer.get(5, []) if pair[1] != b"ARROW:schema"]
-    valued = {pair[1]: pair[2] for pair in pairs if 2 in pair}
-    told = size(len(schema)) + b"".join(map(spelled, schema)) + size(len(valued))
-    told += b"".join(size(len(k)) + k + size(len(v)) + v for k, v in sorted(valued.items()))
-    return pairs + [{1: b"ARROW:schema", 2: base64.b64encode(b"\xff\xff\xff\xff" + size(len(told)) + told)}]
+    valued = {pair[1].decode(): pair[2].decode() for pair in pairs if 2 in pair}
+    message = arrow.message(*map(told, schema), metadata=valued)
+    return pairs + [{1: b"ARROW:schema", 2: arrow.value(message).encode()}]
 
 
 # ---- the form of an output

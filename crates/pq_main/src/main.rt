@@ -2,7 +2,7 @@
 #![tactic(auto)]
 
 use pq_rewrite::{NoView, StdSink, StdSource, run};
-use schema_codec::PlainCodec;
+use schema_fb::FlatCodec;
 use std::env;
 use std::process::ExitCode;
 
@@ -21,7 +21,7 @@ fn main(rt: HostRuntime) -> ExitCode {
     let mut source = StdSource::new(rt.stdin());
     let mut sink = StdSink::new(rt.stdout());
     let mut notes = StdSink::new(rt.stderr());
-    let codec = PlainCodec;
+    let codec = FlatCodec;
     let mut view = NoView;
     let status = match words(&rt) {
         Some(words) => run(

@@ -8,7 +8,7 @@ use Rattle.pq_headline.specs.Rows.{Seen}
 use Rattle.pq_headline.specs.Stages.{Refuses}
 use Rattle.pq_rewrite.specs.Answer.{IsOfInput}
 use Rattle.pq_rewrite.specs.Views.{Sees}
-use Rattle.pq_rewrite.specs.declared.options.RewriteOptions.{RewriteOptions}
+use Rattle.rewrite_words.specs.declared.options.RewriteOptions.{RewriteOptions}
 use Rattle.pq_rewrite.specs.declared.report.Report.{Report}
 
 abbrev pub asked_by : RewriteOptions → Asked

@@ -1,6 +1,7 @@
 pub mod Answer
 pub mod Asks
 pub mod Claims
+pub mod Ended
 pub mod Groups
 pub mod Keys
 pub mod Line

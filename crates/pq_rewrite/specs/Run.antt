@@ -1,5 +1,5 @@
 -- What a run says of its source, its sink and its notes.
-use Rattle.std.specs.Prelude.{◌≡◌, ◌⊎◌, ◌++◌, ℕ, List, Option, None, false, IfSome, codes, ◌==◌, if◌then◌else◌}
+use Rattle.std.specs.Prelude.{◌≡◌, ◌⊎◌, ◌++◌, ℕ, List, Option, IfSome, codes, ◌==◌, if◌then◌else◌}
 use Rattle.std.specs.Io.KnownBytes.{Appends}
 use Rattle.columns_base.specs.Reasons.{error_text}
 use Rattle.columns_base.specs.declared.error.Error.{Error}
@@ -7,9 +7,6 @@ use Rattle.columns_base.specs.declared.error.Error.TheVariants.{InputLimit}
 use Rattle.columns_base.specs.declared.error.Limit.TheVariants.{Bytes}
 use Rattle.pq_io.specs.Ends.{AppendsFront}
 use Rattle.pq_io.specs.Reading.{GaveAll, GavePast}
-use Rattle.pq_tree.specs.declared.version.Version.TheVariants.{V1}
-use Rattle.schema_key.specs.declared.infer.KeyRule.TheVariants.{Ignore}
-use Rattle.pq_headline.specs.Rewrites.{Asked}
 use Rattle.pq_rewrite.specs.Notes.{error_status, report_text}
 use Rattle.pq_rewrite.specs.declared.report.Report.{Report}
 
@@ -36,23 +33,6 @@ pub record IsRefusedFor (causes : List ℕ → Error → Type 0) (limit : ℕ) (
   pub is_status : status ≡ error_status e
   pub told : tells (error_text e ++ codes "\n")
   pub cause : ((e ≡ InputLimit Bytes) × GavePast limit held left) ⊎ ((input : List ℕ) × GaveAll limit held left input × causes input e)
-
--- ---- what is asked for without words
-
-abbrev pub byte_limit : ℕ
-byte_limit = 268435456
-
-abbrev pub asked : Asked
-asked =
-    record {
-      version = V1;
-      style = record { page_limit = 1048576; statistics = false };
-      chunk_size = None;
-      delta = false;
-      rule = Ignore;
-      byte_limit = byte_limit;
-      pair_limit = 134217728;
-    }
 
 -- ---- the notes
 

@@ -1,14 +1,15 @@
 //! The frame of a call: it reads, converts, and only then writes.
-ghost use Rattle.std.specs.Prelude.{◌≡◌, ◌≢◌, ◌≤◌, ◌<◌, ◌⊎◌, ◌↔◌, Some, Err, length, IsErrOf};
+ghost use Rattle.std.specs.Prelude.{◌≡◌, ◌≢◌, ◌≤◌, ◌⊎◌, ◌↔◌, Some, Err, IsErrOf};
 ghost use Rattle.columns_base.specs.declared.error.Error.{Error};
 ghost use Rattle.columns_base.specs.declared.error.A.{A};
 ghost use Rattle.columns_base.specs.declared.error.N.{N};
 ghost use Rattle.pq_io.specs.Reading.{GaveSome};
-ghost use Rattle.pq_rewrite.specs.Answer.{Answered, KeptUnlessWritten, Rewrote, ends, meaning};
+ghost use Rattle.pq_rewrite.specs.Answer.{KeptUnlessWritten, Rewrote, ends, meaning};
 ghost use Rattle.pq_rewrite.specs.Asks.{AreServed, Causes, Gives, asked_by, codec_of};
-ghost use Rattle.pq_rewrite.specs.Notes.{bad_words, Told};
+ghost use Rattle.pq_rewrite.specs.Ended.{Ended};
+ghost use Rattle.pq_rewrite.specs.Notes.{Told};
 
-use crate::notes::{status_of, tell_answer, tell_bad_words};
+use crate::notes::{status_of, tell_answer};
 use crate::whole::convert;
 use crate::{Report, RewriteOptions, View};
 use columns_base::{A, Error, N, Result};
@@ -60,32 +61,22 @@ pub fn rewrite<S: Source, K: Sink, C: SchemaCodec, V: View>(
     Ok(report)
 }
 
-/// Refuses any word, rewrites, puts a line on the notes, and answers the status.
+/// Rewrites as the options ask, puts a line on the notes, and answers the status.
 pub(crate) fn run_with<S: Source, K: Sink, M: Sink, C: SchemaCodec, V: View>(
     alloc: Global,
-    words: &[String],
+    options: RewriteOptions,
     source: &mut S,
     sink: &mut K,
     notes: &mut M,
     codec: &C,
     view: &mut V,
-    options: RewriteOptions,
 ) -> u8
-    requires rows { options.chunk_size ≢ Some 0 }
-    requires served { AreServed options }
-    ensures words { (result ≡ 2) ↔ (0 < length words.now) }
-    ensures after_words { result ≡ 2 → Told M.taken M.faults M.wants notes.old notes.new bad_words × (source.new ≡ source.old) × (sink.new ≡ sink.old) × (view.new ≡ view.old) }
-    ensures answer { length words.now ≡ 0 → Answered (meaning (Gives (codec_of (C.bytes_of codec.now) (C.reads codec.now)) (asked_by options) (V.seen view.old) (V.seen view.new)) (Causes (codec_of (C.bytes_of codec.now) (C.reads codec.now)) (asked_by options))) options.byte_limit (ends S.left S.faults K.taken K.faults source.old source.new sink.old sink.new) (Told M.taken M.faults M.wants notes.old notes.new) (sink.new ≡ sink.old) result }
+    ensures ended { Ended options (meaning (Gives (codec_of (C.bytes_of codec.now) (C.reads codec.now)) (asked_by options) (V.seen view.old) (V.seen view.new)) (Causes (codec_of (C.bytes_of codec.now) (C.reads codec.now)) (asked_by options))) (ends S.left S.faults K.taken K.faults source.old source.new sink.old sink.new) (Told M.taken M.faults M.wants notes.old notes.new) ((source.new ≡ source.old) × (sink.new ≡ sink.old) × (view.new ≡ view.old)) (sink.new ≡ sink.old) result }
     ensures read_some { GaveSome options.byte_limit (S.left source.old) (S.left source.new) }
     ensures reads_later { S.faults source.old ≤ S.faults source.new }
     ensures writes_later { K.faults sink.old ≤ K.faults sink.new }
 {
-    if words.is_empty() {
-        let answer = rewrite(alloc, source, sink, codec, options, view);
-        tell_answer(notes, &answer);
-        status_of(&answer)
-    } else {
-        tell_bad_words(notes);
-        2
-    }
+    let answer = rewrite(alloc, source, sink, codec, options, view);
+    tell_answer(notes, &answer);
+    status_of(&answer)
 }

@@ -14,7 +14,6 @@ mod line;
 mod misfit;
 mod notes;
 mod open;
-mod options;
 mod output;
 mod pieces;
 mod places;
@@ -27,7 +26,6 @@ mod whole;
 pub use call::run;
 pub use frame::rewrite;
 use job::Job;
-pub use options::RewriteOptions;
 use output::Output;
 use plan::Plan;
 pub use pq_io::{
@@ -35,5 +33,6 @@ pub use pq_io::{
     StdSource, push_all, read_all,
 };
 pub use report::Report;
+pub use rewrite_words::{RewriteOptions, read_words};
 pub use schema_key::KeyRule;
 pub use view::{NoView, View};

@@ -1,6 +1,6 @@
 //! Runs over ends in memory.
 use pq_rewrite::{MemorySink, MemorySource, NoView, run};
-use schema_codec::PlainCodec;
+use schema_fb::FlatCodec;
 use std::alloc::{AllocError, Global};
 
 /// What a run answered, and what sink and notes gained.
@@ -28,8 +28,29 @@ pub(crate) const NO_FAULTS: Faults = Faults {
     limit: usize::MAX,
 };
 
-/// A run without words over such ends.
-pub(crate) fn run_with(alloc: Global, input: &[u8], faults: Faults) -> Result<Outcome, AllocError> {
+/// Words with which the schema is that of the file's tree.
+pub(crate) const BY_TREE: &[&str] = &["--ignore-key"];
+
+/// Words with which it is the one under the key, where that is there: none.
+pub(crate) const BY_KEY: &[&str] = &[];
+
+/// The words as a program is given them.
+pub(crate) fn words_of(alloc: Global, words: &[&str]) -> Result<Vec<String>, AllocError> {
+    let mut out = Vec::new(alloc);
+    for word in words {
+        out.push(String::from_str(alloc, word)?)?;
+    }
+    Ok(out)
+}
+
+/// A run with these words over such ends.
+pub(crate) fn run_with(
+    alloc: Global,
+    words: &[&str],
+    input: &[u8],
+    faults: Faults,
+) -> Result<Outcome, AllocError> {
+    let words = words_of(alloc, words)?;
     let input = Vec::from_slice(alloc, input)?;
     let mut source = MemorySource::new(input, Vec::from_slice(alloc, &[faults.source])?);
     let failing = Vec::from_slice(alloc, &[faults.sink])?;
@@ -38,11 +59,11 @@ pub(crate) fn run_with(alloc: Global, input: &[u8], faults: Faults) -> Result<Ou
     let mut view = NoView;
     let status = run(
         alloc,
-        &[],
+        &words,
         &mut source,
         &mut sink,
         &mut notes,
-        &PlainCodec,
+        &FlatCodec,
         &mut view,
     );
     let gained = sink.bytes().to_vec(alloc)?;
@@ -54,7 +75,7 @@ pub(crate) fn run_with(alloc: Global, input: &[u8], faults: Faults) -> Result<Ou
     })
 }
 
-/// A run without words over ends that do not fail.
-pub(crate) fn run_on(alloc: Global, input: &[u8]) -> Result<Outcome, AllocError> {
-    run_with(alloc, input, NO_FAULTS)
+/// A run with these words over ends that do not fail.
+pub(crate) fn run_on(alloc: Global, words: &[&str], input: &[u8]) -> Result<Outcome, AllocError> {
+    run_with(alloc, words, input, NO_FAULTS)
 }

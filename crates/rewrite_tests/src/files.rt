@@ -4,6 +4,7 @@ pub(crate) mod bases;
 pub(crate) mod counted;
 pub(crate) mod framed;
 pub(crate) mod grouped;
+pub(crate) mod keyed;
 pub(crate) mod large;
 pub(crate) mod leveled;
 pub(crate) mod nested;

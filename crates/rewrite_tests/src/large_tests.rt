@@ -1,5 +1,5 @@
 //! Files that are written in several pages, each of as many rows as its limit lets in.
-use super::ends::run_on;
+use super::ends::{BY_TREE, run_on};
 use super::files::Long;
 use super::files::large::LARGE;
 use std::alloc::{AllocError, Global};
@@ -19,8 +19,8 @@ fn file_of(alloc: Global, large: &Long) -> Result<Vec<u8>, AllocError> {
 /// Whether the file is written in as many pages as its line says, and what is written is written for itself too.
 fn is_in_pages(alloc: Global, large: &Long) -> Result<bool, AllocError> {
     let file = file_of(alloc, large)?;
-    let once = run_on(alloc, &file)?;
-    let twice = run_on(alloc, &once.gained)?;
+    let once = run_on(alloc, BY_TREE, &file)?;
+    let twice = run_on(alloc, BY_TREE, &once.gained)?;
     Ok(
         once.status == 0
             && once.notes.as_slice() == large.line

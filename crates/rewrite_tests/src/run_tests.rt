@@ -1,27 +1,41 @@
 //! Words, and ends that fail.
-use super::ends::{Faults, NO_FAULTS, run_on, run_with};
+use super::ends::{BY_KEY, Faults, NO_FAULTS, run_on, run_with, words_of};
 use super::files::bases::THE_FIRST_FILE;
 use pq_rewrite::{NoView, PlainSink, PlainSource, run};
-use schema_codec::PlainCodec;
+use schema_fb::FlatCodec;
 use std::alloc::{AllocError, Global};
 
-/// Words of which no one is taken: the options of a rewrite, and others.
-const WORDS: &[&str] = &["", "-", "--version=1", "--chunk=2", "--no-stats", "sample"];
+/// Words that are no options, and options that are given twice.
+const BAD: &[&[&str]] = &[
+    &[""],
+    &["-"],
+    &["sample"],
+    &["--version=3"],
+    &["--version"],
+    &["--page="],
+    &["--page=+1"],
+    &["--chunk=9223372036854775808"],
+    &["--limit=00000000000000000001"],
+    &["--no-stats "],
+    &["--delta", "--delta"],
+    &["--version=1", "--version=2"],
+    &["--page=1", "--chunk=2", "-"],
+];
 
-/// Whether a run with the word gains nothing and leaves the source as it was, so that one without words rewrites it.
-fn is_bad(alloc: Global, word: &str) -> Result<bool, AllocError> {
+/// Whether a run with the words gains nothing and leaves the source as it was, so that one without words rewrites it.
+fn are_bad(alloc: Global, words: &[&str]) -> Result<bool, AllocError> {
     let mut source = PlainSource::new(Vec::from_slice(alloc, THE_FIRST_FILE)?);
     let mut sink = PlainSink::new(alloc);
     let mut notes = PlainSink::new(alloc);
     let mut view = NoView;
-    let words = [String::from_str(alloc, word)?];
+    let words = words_of(alloc, words)?;
     let status = run(
         alloc,
         &words,
         &mut source,
         &mut sink,
         &mut notes,
-        &PlainCodec,
+        &FlatCodec,
         &mut view,
     );
     let is_refused = status == 2
@@ -33,16 +47,98 @@ fn is_bad(alloc: Global, word: &str) -> Result<bool, AllocError> {
         &mut source,
         &mut sink,
         &mut notes,
-        &PlainCodec,
+        &FlatCodec,
         &mut view,
     );
     Ok(is_refused && status == 0)
 }
 
 #[test]
-fn words_are_refused(rt: HostRuntime) -> Result<(), AllocError> {
-    for word in WORDS {
-        assert!(rt; is_bad(rt.alloc(), word)?);
+fn other_words_are_refused(rt: HostRuntime) -> Result<(), AllocError> {
+    for words in BAD {
+        assert!(rt; are_bad(rt.alloc(), words)?);
+    }
+    Ok(())
+}
+
+/// Words, and the status and the line with which the first file is rewritten. It has 145 bytes, 4 rows and 5 level pairs.
+const ASKED: &[(&[&str], u8, &[u8])] = &[
+    (&[], 0, b"groups 1, rows 4, pages 1\n"),
+    (&["--version=2"], 0, b"groups 1, rows 4, pages 1\n"),
+    (&["--version=1"], 0, b"groups 1, rows 4, pages 1\n"),
+    // 8 bytes in 4 rows: pages of max(1, N / 3) rows
+    (&["--page=1"], 0, b"groups 1, rows 4, pages 4\n"),
+    (&["--page=6"], 0, b"groups 1, rows 4, pages 2\n"),
+    (&["--page=9"], 0, b"groups 1, rows 4, pages 2\n"),
+    (&["--page=0012"], 0, b"groups 1, rows 4, pages 1\n"),
+    (&["--chunk=1"], 0, b"groups 4, rows 4, pages 4\n"),
+    (&["--chunk=3"], 0, b"groups 2, rows 4, pages 2\n"),
+    (&["--chunk=4"], 0, b"groups 1, rows 4, pages 1\n"),
+    (&["--chunk=0"], 8, b"InvalidArgumentError A1\n"),
+    (
+        &["--chunk=9223372036854775807"],
+        0,
+        b"groups 1, rows 4, pages 1\n",
+    ),
+    (&["--no-stats"], 0, b"groups 1, rows 4, pages 1\n"),
+    (&["--delta"], 7, b"NotYetImplemented N4\n"),
+    (&["--chunk=0", "--delta"], 8, b"InvalidArgumentError A1\n"),
+    (&["--ignore-key"], 0, b"groups 1, rows 4, pages 1\n"),
+    (&["--limit=144"], 5, b"InputLimit Bytes\n"),
+    (&["--limit=145"], 0, b"groups 1, rows 4, pages 1\n"),
+    (&["--limit=0"], 5, b"InputLimit Bytes\n"),
+    (&["--pairs=4"], 5, b"InputLimit Pairs\n"),
+    (&["--pairs=5"], 0, b"groups 1, rows 4, pages 1\n"),
+    (
+        &[
+            "--pairs=5",
+            "--limit=145",
+            "--ignore-key",
+            "--no-stats",
+            "--chunk=2",
+            "--page=1",
+            "--version=2",
+        ],
+        0,
+        b"groups 2, rows 4, pages 4\n",
+    ),
+];
+
+fn answers(alloc: Global, words: &[&str], status: u8, line: &[u8]) -> Result<bool, AllocError> {
+    let made = run_on(alloc, words, THE_FIRST_FILE)?;
+    Ok(
+        made.status == status
+            && made.notes.as_slice() == line
+            && made.gained.is_empty() == (status != 0),
+    )
+}
+
+#[test]
+fn words_ask_for_options(rt: HostRuntime) -> Result<(), AllocError> {
+    for (words, status, line) in ASKED {
+        assert!(rt; answers(rt.alloc(), words, *status, line)?);
+    }
+    Ok(())
+}
+
+/// Whether what is written with the words has the same rows: rewritten without words it is what is written without words at once.
+fn keeps_rows(alloc: Global, words: &[&str]) -> Result<bool, AllocError> {
+    let once = run_on(alloc, words, THE_FIRST_FILE)?;
+    let again = run_on(alloc, BY_KEY, &once.gained)?;
+    let plain = run_on(alloc, BY_KEY, THE_FIRST_FILE)?;
+    Ok(again.status == 0 && again.gained.as_slice() == plain.gained.as_slice())
+}
+
+#[test]
+fn words_keep_the_rows(rt: HostRuntime) -> Result<(), AllocError> {
+    for word in [
+        "--page=1",
+        "--page=6",
+        "--no-stats",
+        "--ignore-key",
+        "--chunk=4",
+    ] {
+        assert!(rt; keeps_rows(rt.alloc(), &[word])?);
     }
     Ok(())
 }
@@ -53,7 +149,7 @@ fn source_fails_at(alloc: Global, call: u64) -> Result<bool, AllocError> {
         source: call,
         ..NO_FAULTS
     };
-    let made = run_with(alloc, THE_FIRST_FILE, faults)?;
+    let made = run_with(alloc, BY_KEY, THE_FIRST_FILE, faults)?;
     Ok(
         made.status == 3
             && made.gained.is_empty()
@@ -77,7 +173,7 @@ fn sink_fails_at(alloc: Global, call: u64, whole: &[u8]) -> Result<bool, AllocEr
         limit: 1,
         ..NO_FAULTS
     };
-    let made = run_with(alloc, THE_FIRST_FILE, faults)?;
+    let made = run_with(alloc, BY_KEY, THE_FIRST_FILE, faults)?;
     Ok(
         made.status == 4
             && made.gained.len() as u64 + 1 == call
@@ -88,7 +184,7 @@ fn sink_fails_at(alloc: Global, call: u64, whole: &[u8]) -> Result<bool, AllocEr
 
 #[test]
 fn a_sink_fails_at_each_call(rt: HostRuntime) -> Result<(), AllocError> {
-    let whole = run_on(rt.alloc(), THE_FIRST_FILE)?;
+    let whole = run_on(rt.alloc(), BY_KEY, THE_FIRST_FILE)?;
     for call in 0..whole.gained.len() {
         assert!(rt; sink_fails_at(rt.alloc(), call as u64 + 1, &whole.gained)?);
     }
@@ -97,9 +193,9 @@ fn a_sink_fails_at_each_call(rt: HostRuntime) -> Result<(), AllocError> {
 
 /// Whether a run whose sink takes so many bytes a call writes the same.
 fn is_written_by(alloc: Global, limit: usize) -> Result<bool, AllocError> {
-    let whole = run_on(alloc, THE_FIRST_FILE)?;
+    let whole = run_on(alloc, BY_KEY, THE_FIRST_FILE)?;
     let faults = Faults { limit, ..NO_FAULTS };
-    let made = run_with(alloc, THE_FIRST_FILE, faults)?;
+    let made = run_with(alloc, BY_KEY, THE_FIRST_FILE, faults)?;
     Ok(made.status == 0 && made.gained.as_slice() == whole.gained.as_slice())
 }
 
@@ -113,12 +209,12 @@ fn sinks_take_little(rt: HostRuntime) -> Result<(), AllocError> {
 
 /// Whether notes that fail change neither the status nor what is written.
 fn notes_fail(alloc: Global) -> Result<bool, AllocError> {
-    let whole = run_on(alloc, THE_FIRST_FILE)?;
+    let whole = run_on(alloc, BY_KEY, THE_FIRST_FILE)?;
     let faults = Faults {
         notes: 1,
         ..NO_FAULTS
     };
-    let made = run_with(alloc, THE_FIRST_FILE, faults)?;
+    let made = run_with(alloc, BY_KEY, THE_FIRST_FILE, faults)?;
     Ok(
         made.status == 0
             && made.notes.is_empty()

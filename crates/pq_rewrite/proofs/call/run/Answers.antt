@@ -1,10 +1,21 @@
-use Rattle.std.proofs.Common.{refl}
+use Rattle.std.proofs.Common.{sym, ◌∙◌}
+use Rattle.pq_rewrite.specs.Answer.{ends}
 use Rattle.pq_rewrite.specs.Asks.{codec_of}
 use Rattle.pq_rewrite.specs.Notes.{Told}
-use Rattle.pq_rewrite.specs.Run.{asked, byte_limit}
-use Rattle.pq_rewrite.proofs.Runs.{complete_by}
+use Rattle.pq_rewrite.proofs.Runs.{complete_as, refused_by}
 use Rattle.pq_rewrite.proofs.call.run.Goals as goal
 
-pub returns-clause-complete : goal.returns-clause-complete
-returns-clause-complete g c = λ none.
-    complete_by (codec_of (g.C.SchemaCodec.bytes_of c.args.codec.now) (g.C.SchemaCodec.reads c.args.codec.now)) asked _ byte_limit _ (Told g.M.Sink.taken g.M.Sink.faults g.M.Sink.wants c.args.notes.now c.run_with.new.notes) _ c.run_with.result c.refused_is_not_valid.ensures refl (c.run_with.ensures.answer none)
+pub returns-in-Some-clause-refused : goal.returns-in-Some-clause-refused
+returns-in-Some-clause-refused g c = λ p. (
+  c.in-Some.options,
+  sym c.read_words.ensures ∙ c.in-Some.is,
+  refused_by c.in-Some.options _
+      (ends g.S.Source.left g.S.Source.faults g.K.Sink.taken g.K.Sink.faults c.args.source.now c.run_with.new.source c.args.sink.now c.run_with.new.sink)
+      (Told g.M.Sink.taken g.M.Sink.faults g.M.Sink.wants c.args.notes.now c.run_with.new.notes) _ _ c.run_with.result c.run_with.ensures.ended p.0 p.1,
+)
+
+pub returns-in-Some-clause-complete : goal.returns-in-Some-clause-complete
+returns-in-Some-clause-complete g c = λ o asked taken.
+    complete_as (codec_of (g.C.SchemaCodec.bytes_of c.args.codec.now) (g.C.SchemaCodec.reads c.args.codec.now)) c.in-Some.options o _
+    (ends g.S.Source.left g.S.Source.faults g.K.Sink.taken g.K.Sink.faults c.args.source.now c.run_with.new.source c.args.sink.now c.run_with.new.sink)
+    (Told g.M.Sink.taken g.M.Sink.faults g.M.Sink.wants c.args.notes.now c.run_with.new.notes) _ _ c.run_with.result c.refused_is_not_valid.ensures (sym c.in-Some.is ∙ (c.read_words.ensures ∙ asked)) c.run_with.ensures.ended taken

@@ -1,0 +1,37 @@
+-- What a call says whose options may ask for what is not served.
+use Rattle.std.specs.Prelude.{◌≡◌, ◌≢◌, ◌⊎◌, ◌++◌, ℕ, List, Some, codes, String, map, string_bytes, Option}
+use Rattle.std.specs.declared.alloc.Global.{Global}
+use Rattle.columns_base.specs.Reasons.{error_text}
+use Rattle.columns_base.specs.declared.error.Error.{Error}
+use Rattle.columns_base.specs.declared.error.Error.TheVariants.{NotYetImplemented, InvalidArgumentError}
+use Rattle.columns_base.specs.declared.error.A.TheVariants.{A1}
+use Rattle.columns_base.specs.declared.error.N.TheVariants.{N4}
+use Rattle.rewrite_words.specs.Words.{options_of}
+use Rattle.rewrite_words.specs.declared.options.RewriteOptions.{RewriteOptions}
+use Rattle.pq_rewrite.specs.Answer.{Answered, Ends, Meaning}
+use Rattle.pq_rewrite.specs.Asks.{AreServed}
+use Rattle.pq_rewrite.specs.Notes.{error_status}
+
+-- what the words ask for, if they are in the form of words
+abbrev pub asked_in : List (String Global) → Option RewriteOptions
+asked_in words = options_of (map string_bytes words)
+
+-- pieces of some rows, and nothing that is not written yet
+abbrev pub AreTaken : RewriteOptions → Type 0
+AreTaken o = (o.chunk_size ≢ Some 0) × AreServed o
+
+-- a chunk size of no rows, or else statistics or delta encodings, which are not written yet
+abbrev pub Declines : RewriteOptions → Error → Type 0
+Declines o e = ((e ≡ InvalidArgumentError A1) × (o.chunk_size ≡ Some 0)) ⊎ ((e ≡ NotYetImplemented N4) × (o.chunk_size ≢ Some 0) × (¬ AreServed o))
+
+-- The options were declined by the status and the line of the reason, and nothing was touched.
+pub record AreDeclined (o : RewriteOptions) (tells : List ℕ → Type 0) (kept : Type 0) (n : ℕ) : Type 0 where
+  pub reason : Error
+  pub declines : Declines o reason
+  pub is_status : n ≡ error_status reason
+  pub told : tells (error_text reason ++ codes "\n")
+  pub untouched : kept
+
+-- Nothing was touched (the first), or some answer was given, in which the sink may be as it was (the second).
+abbrev pub Ended : RewriteOptions → Meaning → Ends → (tells : List ℕ → Type 0) → (untouched kept : Type 0) → ℕ → Type 0
+Ended o m e tells untouched kept n = AreDeclined o tells untouched n ⊎ (AreTaken o × Answered m o.byte_limit e tells kept n)

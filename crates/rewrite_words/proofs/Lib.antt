@@ -1,0 +1,4 @@
+pub mod Digits
+pub mod Orders
+pub mod Steps
+pub mod Texts

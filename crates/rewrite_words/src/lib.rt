@@ -1,0 +1,15 @@
+//! The options of a rewrite, and the words of the command line that ask for them.
+#![tactic(auto)]
+
+mod asked;
+mod laws;
+mod numbers;
+mod options;
+mod read;
+mod setting;
+#[cfg(test)]
+mod tests;
+
+pub use laws::{as_worked, order_does_not_matter};
+pub use options::RewriteOptions;
+pub use read::read_words;
