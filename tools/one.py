@@ -2,7 +2,7 @@
 """Proves one crate over the interfaces of the crates below, which are not proved again.
 
     tools/one.py check CRATE [flags of rattle check, e.g. --only NAME --allow-holes]    proves it
-    tools/one.py build CRATE                                                            its interface, for the crates above it, in CLONE/.own
+    tools/one.py build CRATE                                                            its interface, for the crates above it, in CLONE/.own: a minute or two behind a check
 
 To be run anywhere in a clone. Interfaces come from CLONE/.own, then from the folders in BASES (clones in which `rt ci` has proved crates: each
 BASE/crates/NAME/out/rlib), then from the kit."""
@@ -60,7 +60,7 @@ def main():
     words += ["--links", f"{crate}=", "--jobs", "1"]
     if verb == "build":
         os.makedirs(OWN, exist_ok=True)
-        words += ["--statements", "-o", f"{OWN}/{crate}.rlib"]
+        words += ["--incremental", "out/incremental", "-o", f"{OWN}/{crate}.rlib"]
     else:
         words += ["--incremental", "out/incremental"]
     os.chdir(f"{ROOT}/crates/{crate}")

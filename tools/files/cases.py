@@ -53,6 +53,25 @@ def one_page(nodes, count, made, pairs_, **options):
     return file_of(nodes, [Group(count, [made], [pairs_])], **options)
 
 
+def with_entries(nodes, count, entries, made, pairs_, **options):
+    """A file of one group of one column, which has a dictionary page of these entries in front of its pages."""
+    front = entries if isinstance(entries, bytes) else dictionary_page(columns(nodes)[0].node.physical, entries)
+    return one_page(nodes, count, [front] + made, pairs_, meta={(0, 0): {9: i64(4 + len(front)), 11: i64(4)}}, **options)
+
+
+def indexed(nodes, entries, *values, how=packed, kind=8, second=False, cuts=None, plain_from=None):
+    """A file of rows of one field, whose one column has indices of these entries; from a page on its values may stand plain."""
+    column = columns(nodes)[0]
+    made, at, out = triples_of(nodes, [(value,) for value in values])[0], 0, []
+    for i, size in enumerate(cuts or [len(values)]):
+        triples = [t for row in made[at : at + size] for t in row]
+        at += size
+        is_plain = plain_from is not None and i >= plain_from
+        own = {} if is_plain else {"encoding": kind, "values": indices(column, triples, entries, how)}
+        out.append(data_page_2(column, triples, **own) if second else data_page(column, triples, **own))
+    return with_entries(nodes, len(values), entries, out, sum(map(len, made)))
+
+
 # ---- trees
 
 
@@ -81,6 +100,13 @@ MANY = [(v,) for v in [None] * 70 + [[]] * 65 + [[None] * 3] * 30 + [[1, 2]] * 5
 TEXT = [leaf("s", REQUIRED, BYTE_ARRAY, UTF8)]
 TEXT_COLUMN = columns(TEXT)[0]
 BYTES = [leaf("b", REQUIRED, BYTE_ARRAY)]
+TRUTHS = [leaf("v", REQUIRED, BOOLEAN)]
+TRUTH_COLUMN = columns(TRUTHS)[0]
+# one bit more than a byte has: 1 2 3 of the places from 0 on are set, and 5 and 8
+NINE = (False, True, True, True, False, True, False, False, True)
+NINE_TRIPLES = [(0, 0, v) for v in NINE]
+WORDS = [listing("a", OPTIONAL, leaf("element", OPTIONAL, BYTE_ARRAY, UTF8))]
+WORD_ROWS = (["a", "b", "a"], None, [], [None, "a"])
 TWO = [number("i"), leaf("s", OPTIONAL, BYTE_ARRAY, UTF8)]
 TWO_ROWS = [(1, "a"), (2, None), (3, ""), (4, "dd"), (5, None)]
 
@@ -193,6 +219,12 @@ def typed():
     column("timestamps of nanoseconds", (0, 1), INT64, None, timestamp_l(NANOS))
     column("a time of 64 bits in milliseconds is a number", (5,), INT64, None, time_l(MILLIS))
     column("a time of 32 bits in microseconds is a number", (5,), INT32, None, time_l(MICROS))
+    column("truth values", NINE, BOOLEAN)
+    column("truth values, more than a word has", tuple(i % 5 == 1 for i in range(65)), BOOLEAN)
+    good(t, "optional truth values", rows([leaf("v", o, BOOLEAN)], True, None, False, None, None, *NINE, None, True), 1, 16, 1)
+    good(t, "truth values in a list", rows([listing("a", o, leaf("element", o, BOOLEAN))], [True, None], None, [], list(NINE), [None], [False, True]), 1, 6, 1)
+    pair = (leaf("x", r, BOOLEAN), leaf("y", o, BOOLEAN))
+    good(t, "truth values in a struct", rows([group("s", o, *pair)], (True, None), None, (False, True), (True, False)), 1, 4, 2)
     column("texts", ("", "a", "grüße", "日本", "\U0001f600", "\0"), BYTE_ARRAY, UTF8)
     column("byte strings", (b"", b"\xff\xfe", b"\x80"), BYTE_ARRAY)
     column("a decimal in byte strings is a byte string", (b"\x01", b"\xff\x00"), BYTE_ARRAY, DECIMAL, i_7=i32(0), i_8=i32(3))
@@ -202,6 +234,7 @@ def typed():
     column("numbers of no known type", (1, 2), INT32, None, UNKNOWN_L)
     good(t, "an optional text", rows([leaf("v", o, BYTE_ARRAY, UTF8)], "a", None, ""), 1, 3, 1)
     good(t, "a text by its logical type alone", rows([leaf("v", o, BYTE_ARRAY, None, STRING_L)], "a", None, ""), 1, 3, 1, "an optional text")
+    good(t, "lists of texts", rows(WORDS, *WORD_ROWS), 1, 4, 1)
     good(t, "flat columns", file_of(TWO, [rows_in_pages(TWO, TWO_ROWS)]), 1, 5, 2)
 
 
@@ -221,6 +254,24 @@ def spelled():
     same("a page for each row, in runs of copies", file_of(FIRST, [rows_in_pages(FIRST, [(v,) for v in FIRST_ROWS], [1, 1, 1, 1], copies)]))
     same("a page of version 2", second_version())
     same("pages of both versions", one_page(FIRST, 4, [data_page(COLUMN, FIRST_TRIPLES[:2]), data_page_2(COLUMN, FIRST_TRIPLES[2:])], 5))
+    one = [1, 2]
+    same("indices of a dictionary", indexed(FIRST, one, *FIRST_ROWS))
+    same("indices of a plain dictionary", indexed(FIRST, one, *FIRST_ROWS, kind=2))
+    same("indices in copies", indexed(FIRST, one, *FIRST_ROWS, how=copies))
+    same("indices in a page of version 2", indexed(FIRST, one, *FIRST_ROWS, second=True))
+    same("entries that no index names", indexed(FIRST, [9, 2, 8, 1, 7], *FIRST_ROWS))
+    v = [leaf("v", REQUIRED, BYTE_ARRAY, UTF8)]
+    texts = ("", "a", "grüße", "日本", "\U0001f600", "\0")
+    same("texts by a dictionary", indexed(v, list(texts), *texts), "texts")
+    same("texts by a dictionary, and then plain", indexed(v, list(texts[:3]), *texts, cuts=[3, 3], plain_from=1), "texts")
+    v = [leaf("v", REQUIRED, INT32, INT_8)]
+    same("numbers of 8 bits by a dictionary", indexed(v, [-128, 127], 127, -128), "whole numbers of 8 bits")
+    v = [leaf("v", REQUIRED, INT64)]
+    longs = (0, 9223372036854775807, -9223372036854775808)
+    same("numbers of 64 bits by a dictionary", indexed(v, list(longs), *longs, how=copies, second=True), "whole numbers of 64 bits")
+    same("lists of texts by a dictionary", indexed(WORDS, ["b", "a"], *WORD_ROWS), "lists of texts")
+    same("lists of texts by a dictionary, in pages of version 2", indexed(WORDS, ["a", "b"], *WORD_ROWS, second=True, cuts=[1, 2, 1]), "lists of texts")
+    good(t, "indices of no bits", indexed(REQ, [7], 7, 7, 7), 1, 3, 1)
     same("levels in copies", first_page(how=copies))
     same("levels in copies and bits", first_page(how=mixed))
     def body(name, text_):
@@ -274,6 +325,10 @@ def spelled():
     same("a key of a schema, which is passed over", first(keys=[("ARROW:schema", "no base64")]))
     same("many pairs in bits", file_of(FIRST, [rows_in_pages(FIRST, MANY)]), "many pairs")
     same("many pairs in pages", file_of(FIRST, [rows_in_pages(FIRST, MANY, [1, 63, 65, len(MANY) - 129], mixed)]), "many pairs")
+    truths = "truth values"
+    same("truth values in pages of parts of a byte", file_of(TRUTHS, [rows_in_pages(TRUTHS, [(v,) for v in NINE], [3, 5, 1])]), truths)
+    same("truth values in a page of version 2", one_page(TRUTHS, 9, [data_page_2(TRUTH_COLUMN, NINE_TRIPLES)], 9), truths)
+    same("bits and a byte behind the truth values", one_page(TRUTHS, 9, [data_page(TRUTH_COLUMN, NINE_TRIPLES, values=b"\x2e\xff\x55")], 9), truths)
     made = [rows_in_pages(TWO, TWO_ROWS, [[2, 3], [1, 1, 3]])]
     same("two columns in other pages", file_of(TWO, made), "flat columns")
     same("chunks in another order", file_of(TWO, made, order=[(0, 1), (0, 0)]), "flat columns")
@@ -433,8 +488,6 @@ def schemas():
     bare("a decimal of 39 digits", [leaf("d", r, FIXED, None, decimal_l(39, 0), 17, i_7=i32(0), i_8=i32(39))], "N6")
     bare("a decimal of 39 digits in 16 bytes", [leaf("d", r, FIXED, None, decimal_l(39, 0), 16)], "A5")
     bare("a scale above the precision", [leaf("d", o, INT64, None, decimal_l(3, 4))], "A5")
-    bad(t, "truth values", rows([leaf("b", r, BOOLEAN)], True, False), "N5")
-    bad(t, "truth values in a list", rows([listing("a", o, leaf("element", o, BOOLEAN))], [True, None], None), "N5")
     bad(t, "floating-point numbers", rows([leaf("f", r, FLOAT)], 0.5), "N5")
     bad(t, "floating-point numbers of 64 bits", rows([leaf("f", o, DOUBLE_)], 0.5, None), "N5")
     bad(t, "decimals of 32 bits", rows([leaf("d", r, INT32, DECIMAL, i_7=i32(2), i_8=i32(9))], 100), "N5")
@@ -491,10 +544,10 @@ def paged():
     bad(t, "a damaged page in a later group", file_of(REQ, [rows_in_pages(REQ, [(1,)]), Group(1, [[b"\x15\x00\x00"]], [1])]), "S3")
 
     ints = [(0, 0, v) for v in (7, 7, 8)]
-    entries = [dictionary_page(INT32, [7, 8]), data_page(REQ_COLUMN, ints, encoding=8, values=b"\x01\x03\x04")]
-    for name, kind in (("indices of a dictionary", 8), ("indices of a plain dictionary", 2)):
-        entries[1] = data_page(REQ_COLUMN, ints, encoding=kind, values=b"\x01\x03\x04")
-        bad(t, name, one_page(REQ, 3, entries, 3, meta={(0, 0): {9: i64(4 + len(entries[0])), 11: i64(4)}}), "N4")
+    sevens = data_page(REQ_COLUMN, ints, encoding=8, values=b"\x01\x03\x04")
+    seven = dictionary_page(INT32, [7, 8])
+    bad(t, "two dictionary pages", with_entries(REQ, 3, seven, [seven, sevens], 3), "S3")
+    bad(t, "a dictionary page behind a page", with_entries(REQ, 6, seven, [sevens, seven, sevens], 6), "S3")
     delta = bytes.fromhex("80010403 0e 00 01000000 02000000".replace(" ", ""))
     bad(t, "deltas", one_page(REQ, 3, [data_page(REQ_COLUMN, ints, encoding=5, values=delta)], 3), "N4")
     words = [(0, 0, b"ab"), (0, 0, b"c")]
@@ -541,10 +594,23 @@ def leveled():
     body("no values", plain_, "S6")
     body("a value that is cut", plain_ + "01000000 020000", "S6")
     body("fewer values than levels call for", plain_ + "01000000", "S6")
+    bad(t, "a truth value that is cut", one_page(TRUTHS, 9, [data_page(TRUTH_COLUMN, NINE_TRIPLES, values=b"\x2e")], 9), "S6")
     body("values of a required column that are cut", "01000000 020000", "S6", REQ, [(0, 0, 1), (0, 0, 2)], 2)
     body("a length that is cut", "01000000 61 010000", "S6", TEXT, [(0, 0, b"a"), (0, 0, b"")], 2)
     body("a text that is cut", "01000000 61 02000000 62", "S6", TEXT, [(0, 0, b"a"), (0, 0, b"")], 2)
     body("a text of a length past all", "ffffffff 61", "S6", TEXT, [(0, 0, b"a")], 1)
+    past = data_page(REQ_COLUMN, [(0, 0, 7)] * 3, encoding=8, values=b"\x02\x06\x02")
+    entries = dictionary_page(INT32, [7, 8])
+    bad(t, "an index past the entries", with_entries(REQ, 3, entries, [past], 3), "S6")
+    short = data_page(REQ_COLUMN, [(0, 0, 7)] * 3, encoding=8, values=b"\x01\x04\x00")
+    bad(t, "too few indices", with_entries(REQ, 3, entries, [short], 3), "S6")
+    wide = data_page(REQ_COLUMN, [(0, 0, 7)] * 3, encoding=8, values=b"\x21\x06\0\0\0\0\0")
+    bad(t, "indices of 33 bits", with_entries(REQ, 3, entries, [wide], 3), "S6")
+    fine = data_page(REQ_COLUMN, [(0, 0, 7)] * 3, encoding=8, values=b"\x01\x06\0")
+    cut = page(2, plain_values(INT32, [7, 8])[:7], struct({1: i32(2), 2: i32(0)}))
+    bad(t, "entries that are cut", with_entries(REQ, 3, cut, [fine], 3), "S6")
+    small = [leaf("n", REQUIRED, INT32, INT_8)]
+    bad(t, "an entry outside of its type that no index names", with_entries(small, 3, dictionary_page(INT32, [7, 300]), [fine], 3), "S7")
     later = [rows_in_pages(REQ, [(1,)]), Group(1, [[data_page(REQ_COLUMN, [(0, 0, 2)], values=b"\2\0\0")]], [1])]
     bad(t, "a value that is cut in a later group", file_of(REQ, later), "S6")
     long = [(0, 0, 1 << 40)]

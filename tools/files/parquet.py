@@ -272,6 +272,30 @@ def plain_values(physical, values):
     return b"".join(plain(physical, value) for value in values)
 
 
+def is_unsigned(node):
+    """Returns whether the numbers of a leaf are ordered without a sign."""
+    integer = (node.logical or {}).get(10)
+    return integer[1].endswith(bytes([0x10 | FALSE, 0])) if integer else node.converted in (UINT_8, UINT_16, UINT_32, UINT_64)
+
+
+def bound(node, value):
+    """Returns a value as statistics state it: plain, without a length, and a truth value as a byte."""
+    if node.physical == BOOLEAN:
+        return bytes([bool(value)])
+    if isinstance(value, (bytes, str)):
+        return value if isinstance(value, bytes) else value.encode()
+    return plain(node.physical, value)
+
+
+def statistics(column, triples):
+    """Returns the statistics of some triples of a column: how many have no value, and the greatest and the least value, where there is one."""
+    node, size = column.node, 8 * (4 if column.node.physical == INT32 else 8)
+    values = [v for r, d, v in triples if d == column.definition]
+    order = (lambda v: v % (1 << size)) if is_unsigned(node) else (lambda v: v.encode() if isinstance(v, str) else v)
+    bounds = {5: max(values, key=order), 6: min(values, key=order)} if values and node.physical != INT96 else {}
+    return struct({3: i64(len(triples) - len(values)), **{place: text(bound(node, v)) for place, v in bounds.items()}})
+
+
 def page(kind, body, head, ids=None, size=None):
     """Returns a page of any kind: its header, and its body. `head` is the struct of the kind."""
     size = len(body) if size is None else size
@@ -290,7 +314,7 @@ def data_page(column, triples, how=packed, encoding=0, count=None, values=None, 
     return page(0, body, struct(over(own, head)), ids, size)
 
 
-def data_page_2(column, triples, head=None):
+def data_page_2(column, triples, head=None, encoding=0, values=None):
     """Returns a data page of version 2."""
     repetitions = section([t[0] for t in triples], column.repetition, packed)[4:]
     definitions = section([t[1] for t in triples], column.definition, packed)[4:]
@@ -299,12 +323,20 @@ def data_page_2(column, triples, head=None):
         1: i32(len(triples)),
         2: i32(len(triples) - len(present)),
         3: i32(sum(t[0] == 0 for t in triples)),
-        4: i32(0),
+        4: i32(encoding),
         5: i32(len(definitions)),
         6: i32(len(repetitions)),
         7: truth(False),
     }
-    return page(3, repetitions + definitions + plain_values(column.node.physical, present), struct(over(own, head)))
+    spelled = plain_values(column.node.physical, present) if values is None else values
+    return page(3, repetitions + definitions + spelled, struct(over(own, head)))
+
+
+def indices(column, triples, entries, how=packed, width=None):
+    """Returns the places among the entries of the values that stand in the triples, behind a byte with their width."""
+    places = [entries.index(v) for r, d, v in triples if d == column.definition]
+    width = (len(entries) - 1).bit_length() if width is None else width
+    return bytes([width]) + (how(places, width) if width and places else b"")
 
 
 def dictionary_page(physical, entries):

@@ -122,14 +122,19 @@ class Parsed:
     def column(self, meta, column):
         """Returns the triples of a column, and keeps each page's place, its end, its header and whether its levels are exact."""
         node, _, greatest_r, greatest_d = column
-        source, triples = Bytes(self.data), []
-        source.at = meta[9]
+        source, triples, entries = Bytes(self.data), [], None
+        source.at = meta[11] if 4 <= meta.get(11, 0) < meta[9] else meta[9]
         while len(triples) < meta[5]:
             start = source.at
             header = value(source, 12)
+            if header[1] == 2:
+                body = Bytes(source.take(header[3]))
+                entries = self.plain(body, node, header[7][1])
+                continue
             assert header[1] in (0, 3), "page"
             head = header[5] if header[1] == 0 else header[8]
-            assert head[2 if header[1] == 0 else 4] == 0, "encoding"
+            encoding = head[2 if header[1] == 0 else 4]
+            assert encoding == 0 or (encoding in (2, 8) and entries is not None), "encoding"
             body, count, exact = Bytes(source.take(header[3])), head[1], True
             both = []
             for greatest, place in ((greatest_r, 6), (greatest_d, 5)):
@@ -140,18 +145,32 @@ class Parsed:
                     exact = exact and (is_exact or count == 0)
                 both.append(numbers)
             assert header[1] == 0 or head[3] == both[0].count(0), "rows"
+            called = both[1].count(greatest_d)
+            values = iter(self.indexed(body, entries, called) if encoding else self.plain(body, node, called))
             for r, d in zip(*both):
-                triples.append((r, d, self.plain(body, node) if d == greatest_d else None))
+                triples.append((r, d, next(values) if d == greatest_d else None))
             self.pages.append((start, source.at, header, exact and body.at == len(body.data)))
         assert len(triples) == meta[5], "pairs"
         self.counts.append(len(self.pages))
         return triples
 
     @staticmethod
-    def plain(body, node):
+    def indexed(body, entries, count):
+        """Returns the entries at so many indices."""
+        width = body.take(1)[0] if count else 0
+        rest = body.data[body.at :]
+        body.at = len(body.data)
+        return [entries[place] for place in (levels(rest, (1 << width) - 1, count)[0] if width else [0] * count)]
+
+    @staticmethod
+    def plain(body, node, count):
+        """Returns so many values. Truth values are bits."""
+        if node.physical == 0:
+            bits = int.from_bytes(body.take((count + 7) // 8), "little")
+            return [bool(bits >> i & 1) for i in range(count)]
         if node.physical == 6:
-            return body.take(int.from_bytes(body.take(4), "little"))
-        return int.from_bytes(body.take({1: 4, 2: 8}[node.physical]), "little", signed=True)
+            return [body.take(int.from_bytes(body.take(4), "little")) for _ in range(count)]
+        return [int.from_bytes(body.take({1: 4, 2: 8}[node.physical]), "little", signed=True) for _ in range(count)]
 
     def rows(self):
         """Returns the rows of each group that has some."""
@@ -218,6 +237,7 @@ OLD_SMALL = {11: "UInt8", 12: "UInt16", 13: "UInt32", 15: "Int8", 16: "Int16", 6
 OLD_WIDE = {8: "Time64 2", 9: "Timestamp 1", 10: "Timestamp 2", 14: "UInt64"}
 # the physical type of a type, its converted type and its logical type
 WRITTEN = {
+    "Boolean": (0, None, None),
     "Int8": (1, 15, {10: {1: 8, 2: True}}),
     "Int16": (1, 16, {10: {1: 16, 2: True}}),
     "Int32": (1, None, None),
@@ -240,6 +260,8 @@ for unit in (1, 2, 3):
 
 def leaf_type(node):
     logical, converted = node.logical, node.converted
+    if node.physical == 0:
+        return "Boolean"
     if node.physical == 6:
         if 1 in logical or (not set(logical) & {4, 12, 13} and converted == 0):
             return "Utf8"
@@ -294,6 +316,7 @@ def elements_of(field):
 
 # the tag and the slots of a type's table in an Arrow message
 TOLD = {
+    "Boolean": (arrow.BOOL, ()),
     "Int8": (arrow.INT, (8, 1)),
     "Int16": (arrow.INT, (16, 1)),
     "Int32": (arrow.INT, (32, 1)),
@@ -336,6 +359,28 @@ def key_values(given, schema):
 # ---- the form of an output
 
 
+def bounds(node, triples):
+    """Returns the statistics of some triples: how many have no value, and the greatest and the least value, where there is one."""
+    values = [v for _, _, v in triples if v is not None]
+    width = 4 * node.physical
+    unsigned = node.physical != 6 and leaf_type(node).startswith("UInt")
+    order = (lambda v: v % (1 << 8 * width)) if unsigned else (lambda v: v)
+    spelled = (lambda v: v) if node.physical == 6 else (lambda v: v.to_bytes(width, "little", signed=True))
+    ends = {5: spelled(max(values, key=order)), 6: spelled(min(values, key=order))} if values else {}
+    return {3: len(triples) - len(values), **ends}
+
+
+def bounds_told(node, triples, pages):
+    """Returns whether each page of a column states the statistics of its own triples."""
+    at = 0
+    for _, _, header, _ in pages:
+        head = header[5]
+        if head.get(5) != bounds(node, triples[at : at + head[1]]):
+            return False
+        at += head[1]
+    return True
+
+
 def pages_told(made):
     """Returns what is wrong with the pages: each stands behind the one before it, and is exact."""
     out, at = [], 4
@@ -344,7 +389,7 @@ def pages_told(made):
         head = header[5]
         if start != at or not exact:
             out.append(f"a page at {start}, not {at}, or with bytes that are not needed")
-        if list(header) != [1, 2, 3, 5] or header[2] != header[3] or head != {1: head[1], 2: 0, 3: 3, 4: 3} or list(head) != [1, 2, 3, 4] or body <= 0:
+        if list(header) != [1, 2, 3, 5] or header[2] != header[3] or head != {1: head[1], 2: 0, 3: 3, 4: 3, 5: head.get(5)} or list(head) != [1, 2, 3, 4, 5] or body <= 0:
             out.append(f"a header {header}")
         at = end
     if at != made.place or not made.exact:
@@ -354,7 +399,8 @@ def pages_told(made):
 
 def rows_told(node, triples, pages):
     """Returns whether the pages of a column have as many rows as they may have, the last one fewer."""
-    size_ = sum(4 + len(v) if node.physical == 6 else 4 * node.physical for _, _, v in triples if v is not None)
+    values = [v for _, _, v in triples if v is not None]
+    size_ = sum(4 + len(v) if node.physical == 6 else 4 * node.physical for v in values) if node.physical else (len(values) + 7) // 8
     rows = sum(triple[0] == 0 for triple in triples)
     most = max(1, (1 << 20) // (size_ // rows + 1))
     ends, at = [], 0
@@ -372,8 +418,9 @@ def metas(made):
         for (node, path, _, _), triples in zip(made.leaves, columns):
             first, last = places.pop(0)
             assert rows_told(node, triples, made.pages[first:last]), "rows of a page"
+            assert bounds_told(node, triples, made.pages[first:last]), "statistics of a page"
             start, end = made.pages[first][0], made.pages[last - 1][1]
-            ids = {1: node.physical, 2: [0, 3], 3: list(path), 4: 0, 5: len(triples), 6: end - start, 7: end - start, 9: start}
+            ids = {1: node.physical, 2: [0, 3], 3: list(path), 4: 0, 5: len(triples), 6: end - start, 7: end - start, 9: start, 12: bounds(node, triples)}
             chunks.append({2: start, 3: ids})
             total += end - start
         rows = sum(triple[0] == 0 for triple in columns[0])

@@ -9,7 +9,7 @@ use Rattle.columns_base.specs.declared.error.A.TheVariants.{A8}
 use Rattle.columns_base.specs.declared.error.N.TheVariants.{N5}
 use Rattle.columns_core.specs.Measures.{field_nesting}
 use Rattle.columns_core.specs.Shapes.{base}
-use Rattle.columns_core.specs.Tree.{TypeTree, t_int8, t_int16, t_int32, t_int64, t_uint8, t_uint16, t_uint32, t_uint64, t_timestamp, t_date32, t_date64, t_time32, t_time64, t_duration, t_binary, t_large_binary, t_utf8, t_large_utf8, t_dictionary, FieldTree}
+use Rattle.columns_core.specs.Tree.{TypeTree, t_boolean, t_int8, t_int16, t_int32, t_int64, t_uint8, t_uint16, t_uint32, t_uint64, t_timestamp, t_date32, t_date64, t_time32, t_time64, t_duration, t_binary, t_large_binary, t_utf8, t_large_utf8, t_dictionary, FieldTree}
 use Rattle.columns_core.specs.declared.types.TimeUnit.TheVariants.{Second, Millisecond, Microsecond, Nanosecond}
 use Rattle.pq_tree.specs.Physical.{Physical}
 use Rattle.pq_tree.specs.Tree.{Leaf}
@@ -200,6 +200,7 @@ opens_counts o f outcomes physicals k rows h =
 rows_same : (b : Bool) (t : TypeTree) → is_written t ≡ true → row_at t ≡ row_of (record { data_type = t; is_nullable = b })
 rows_same true (t_dictionary k t s) h = absurd (true≢false (sym h))
 rows_same true t h = refl
+rows_same false t_boolean h = refl
 rows_same false t_int8 h = refl
 rows_same false t_int16 h = refl
 rows_same false t_int32 h = refl

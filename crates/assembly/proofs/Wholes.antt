@@ -87,7 +87,7 @@ holding f tables arrays made i rows n (c ∷ cs) (t ∷ types) (l ∷ ls) (os �
     let stored : AreStored (leaf_type c.data_type) l.physical (column c.way (flat_map slots arrays)) (triples_of w.chunk) = subst (λ q. AreStored (leaf_type c.data_type) l.physical q (triples_of w.chunk)) (sym all) w.stored in
     record {
       chunks = w.chunk ∷ rest.chunks;
-      hold = (record { given = w.given; holds = w.holds; shred = stored; counted = stored_rows (leaf_type c.data_type) l.physical (column c.way (flat_map slots arrays)) (triples_of w.chunk) stored ∙ counted c.way (flat_map slots arrays) }, rest.hold);
+      hold = (record { given = w.given; holds = w.holds; shred = stored; counted = stored_rows (leaf_type c.data_type) l.physical (column c.way (flat_map slots arrays)) (triples_of w.chunk) stored ∙ counted c.way (flat_map slots arrays); inside = w.inside }, rest.hold);
     }
 
 -- ---- entries

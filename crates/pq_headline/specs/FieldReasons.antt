@@ -1,5 +1,5 @@
 -- Why no array of a field comes (Dremel paper, "Record assembly"; Arrow columnar format, "Variable-size List Layout" and "Dictionary-encoded Layout").
-use Rattle.std.specs.Prelude.{◌≡◌, ◌≢◌, ◌⊎◌, ℕ, suc, ◌*◌, ◌^◌, ◌<◌, pos, IsTrue, List, [], ◌∷◌, ◌++◌, length, drop, sum_by, count_by, All, nat_le, false, ◌&&◌, Option, Some, None}
+use Rattle.std.specs.Prelude.{◌≡◌, ◌≢◌, ◌⊎◌, ℕ, suc, ◌*◌, ◌^◌, ◌<◌, IsTrue, List, [], ◌∷◌, ◌++◌, length, drop, sum_by, count_by, All, nat_le, false, ◌&&◌, Option, Some, None}
 use Rattle.columns_base.specs.declared.error.Error.{Error}
 use Rattle.columns_base.specs.declared.error.Error.TheVariants.{Memory, OutOfSpec, NotYetImplemented, Overflow}
 use Rattle.columns_base.specs.declared.error.S.TheVariants.{S3, S4, S5, S6, S7, S9, S10}
@@ -9,7 +9,7 @@ use Rattle.columns_core.specs.declared.types.IntegerType.{IntegerType}
 use Rattle.columns_core.specs.declared.types.IntegerType.TheVariants as K
 use Rattle.columns_core.specs.Shapes.{base, leaf_type}
 use Rattle.columns_core.specs.Tree.{TypeTree, t_binary, t_large_binary, t_utf8, t_large_utf8, t_dictionary}
-use Rattle.pq_metadata.specs.Header.{Header, data_page, data_page_2}
+use Rattle.pq_metadata.specs.Header.{Header}
 use Rattle.pq_tree.specs.Tree.{Leaf}
 use Rattle.pq_files.specs.Chunk.{RawPage, IsData, count_in}
 use Rattle.pq_files.specs.Page.{HasEncoding, values_in, dictionary as by_dictionary, delta, delta_length}
@@ -190,16 +190,10 @@ HasTooMany e o = ((e ≡ Overflow V1) × SomeV1 o.chunk_size (field_columns o.fi
 
 -- ---- what is not read yet
 
--- data pages in another encoding than PLAIN, and the entries of a dictionary
+-- data pages of deltas
 abbrev pub IsUnserved : Outcome → Type 0
-IsUnserved (gives_dictionary n body) = Unit {0}
-IsUnserved (fails e) = ⊥
-IsUnserved (gives_page p levels) = of p.header
-  where
-    of : Header → Type 0
-    of (data_page h) = h.encoding ≢ pos 0
-    of (data_page_2 h) = h.encoding ≢ pos 0
-    of h = Unit {0}
+IsUnserved (gives_page p levels) = HasEncoding p.header delta ⊎ HasEncoding p.header delta_length
+IsUnserved o = ⊥
 
 -- ---- all of them
 

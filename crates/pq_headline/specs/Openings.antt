@@ -1,10 +1,10 @@
 -- A field of a row group as it is read: what its sources give, one array of it, and all of it (Dremel paper, "Record assembly").
-use Rattle.std.specs.Prelude.{◌≡◌, ℕ, ◌-◌, ◌<◌, min, List, [], ◌∷◌, length, map, flat_map, All, Option, Some, None, true}
+use Rattle.std.specs.Prelude.{◌≡◌, ℕ, ◌-◌, ◌<◌, min, List, [], ◌∷◌, length, map, flat_map, All, Option, Some, None, IfSome, true}
 use Rattle.std.specs.List.{AllZip}
 use Rattle.shredding.specs.Shape.{HasNoEmptyStruct}
 use Rattle.shredding.specs.Shred.{max_definition as way_definition, max_repetition as way_repetition}
 use Rattle.shredding.specs.Slot.{Slot}
-use Rattle.columns_core.specs.Shapes.{IsSlotOf, shape_of}
+use Rattle.columns_core.specs.Shapes.{IsSlotOf, leaf_type, shape_of}
 use Rattle.columns_core.specs.Tree.{FieldTree, FieldTrees, no_fields, more_fields}
 use Rattle.columns_slots.specs.Slots.{slots, type_of, tree_len}
 use Rattle.columns_slots.specs.Tree.{ArrayTree}
@@ -12,6 +12,7 @@ use Rattle.pq_tree.specs.Tree.{Leaf, max_definition, max_repetition}
 use Rattle.pq_files.specs.Carried.{column_in}
 use Rattle.pq_files.specs.Chunk.{Chunk, triples_of}
 use Rattle.pq_files.specs.Page.{rows_in}
+use Rattle.pq_files.specs.PageReasons.{IsOutside}
 use Rattle.pq_pages.specs.Held.{HoldsChunk}
 use Rattle.pq_pages.specs.Outcomes.{Levels, Outcome, IsGiven, IsOfLevels}
 use Rattle.schema_fit.specs.declared.page_table.Asked.{Asked}
@@ -74,12 +75,13 @@ pub record IsItem (o : Opening) (before : ℕ) (a : ArrayTree) : Type 0 where
 
 -- ---- the whole field
 
--- The pages hold a column, to which the rows shred.
+-- The pages hold a column, to which the rows shred. The entries of its dictionary page, used or not, are values of the leaf type.
 pub record HoldsColumn (rows : List Slot) (c : ArrowColumn) (l : Leaf) (outcomes : List Outcome) (got : Chunk) : Type 0 where
   pub given : All IsGiven outcomes
   pub holds : HoldsChunk l outcomes got
   pub shred : IsColumnOf rows c l (column_in got)
   pub counted : rows_in (triples_of got) ≡ length rows
+  pub inside : IfSome got.entries (All (λ v. ¬ IsOutside (leaf_type c.data_type) l.physical v))
 
 abbrev pub HoldColumns : List Slot → List ArrowColumn → List Leaf → List (List Outcome) → List Chunk → Type 0
 HoldColumns rows [] [] [] [] = Unit {0}

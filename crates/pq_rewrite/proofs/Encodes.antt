@@ -65,7 +65,6 @@ suits job piece o encodings trees r p s ee et eo = record {
   encodings =
       subst (λ ess. ListsArePlain (trees_view trees) ess) (sym ee)
       (subst (λ ts. ListsArePlain ts (lists_of job.plan.now.encodings)) (sym et) (plain_lists (tree_schema job.plan.now.tree).fields job.plan.now.encodings.items r.encodings));
-  no_statistics = ap (λ (w : WriteOptions). w.write_statistics) eo ∙ r.options.statistics;
 }
 
 -- nothing but want of memory stands against its columns

@@ -90,10 +90,9 @@ is_true : (b : Bool) → b ≡ true → b ≡ false → ⊥
 is_true true e f = absurd cc
 is_true false e f = absurd cc
 
-served_or : (o : RewriteOptions) (s d : Bool) → o.statistics ≡ s → o.delta ≡ d → AreServed o ⊎ (¬ AreServed o)
-served_or o true d es ed = inr (λ h. is_true o.statistics es h.statistics)
-served_or o false true es ed = inr (λ h. is_true o.delta ed h.delta)
-served_or o false false es ed = inl (record { statistics = es; delta = ed })
+served_or : (o : RewriteOptions) (d : Bool) → o.delta ≡ d → AreServed o ⊎ (¬ AreServed o)
+served_or o true e = inr (λ h. is_true o.delta e h.delta)
+served_or o false e = inl (record { delta = e })
 
 abbrev AreNot : RewriteOptions → Type 0
 AreNot o = (o.chunk_size ≡ Some 0) ⊎ ((o.chunk_size ≢ Some 0) × (¬ AreServed o))
@@ -101,7 +100,7 @@ AreNot o = (o.chunk_size ≡ Some 0) ⊎ ((o.chunk_size ≢ Some 0) × (¬ AreSe
 taken_or : (o : RewriteOptions) → AreTaken o ⊎ AreNot o
 taken_or o = elim (rows_or o.chunk_size) [
   | inl z ↦ inr (inl z)
-  | inr p ↦ elim (served_or o o.statistics o.delta refl refl) [ inl h ↦ inl (p, h) | inr h ↦ inr (inr (p, h)) ]
+  | inr p ↦ elim (served_or o o.delta refl) [ inl h ↦ inl (p, h) | inr h ↦ inr (inr (p, h)) ]
 ]
 
 declined : (o : RewriteOptions) (tells : List ℕ → Type 0) (untouched : Type 0) (answer : Result Report Error) (n : ℕ) (x : Error) → Declines o x → answer ≡ Err x → untouched → n ≡ status answer → tells (line answer) → AreDeclined o tells untouched n

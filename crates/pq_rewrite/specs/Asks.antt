@@ -23,9 +23,8 @@ asked_by o =
       pair_limit = o.pair_limit;
     }
 
--- Statistics and delta encodings are not written yet.
+-- Delta encodings are not written yet.
 pub record AreServed (o : RewriteOptions) : Type 0 where
-  pub statistics : o.statistics ≡ false
   pub delta : o.delta ≡ false
 
 abbrev pub codec_of : (SchemaTree → List ℕ) → (List ℕ → Option SchemaTree) → Codec

@@ -20,7 +20,7 @@ asked_in words = options_of (map string_bytes words)
 abbrev pub AreTaken : RewriteOptions → Type 0
 AreTaken o = (o.chunk_size ≢ Some 0) × AreServed o
 
--- a chunk size of no rows, or else statistics or delta encodings, which are not written yet
+-- a chunk size of no rows, or else delta encodings, which are not written yet
 abbrev pub Declines : RewriteOptions → Error → Type 0
 Declines o e = ((e ≡ InvalidArgumentError A1) × (o.chunk_size ≡ Some 0)) ⊎ ((e ≡ NotYetImplemented N4) × (o.chunk_size ≢ Some 0) × (¬ AreServed o))
 

@@ -22,7 +22,7 @@ use std::alloc::Global;
 /// # Errors
 ///
 /// - `InvalidArgumentError(A1)`: a chunk size of no rows.
-/// - `NotYetImplemented(N4)`: statistics or delta encodings are asked for, which are not written yet; and by its condition in the file.
+/// - `NotYetImplemented(N4)`: delta encodings are asked for, which are not written yet; and by its condition in the file.
 /// - Each other one by its condition: see `Causes`, and `Rewrote` for the ends.
 pub fn rewrite<S: Source, K: Sink, C: SchemaCodec, V: View>(
     alloc: Global,
@@ -45,9 +45,6 @@ pub fn rewrite<S: Source, K: Sink, C: SchemaCodec, V: View>(
 {
     if options.chunk_size == Some(0) {
         return Err(Error::InvalidArgumentError(A::A1));
-    }
-    if options.statistics {
-        return Err(Error::NotYetImplemented(N::N4));
     }
     if options.delta {
         return Err(Error::NotYetImplemented(N::N4));

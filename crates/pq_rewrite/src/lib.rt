@@ -19,6 +19,7 @@ mod pieces;
 mod places;
 mod plan;
 mod report;
+mod rows_view;
 mod served;
 mod view;
 mod whole;
@@ -34,5 +35,6 @@ pub use pq_io::{
 };
 pub use report::Report;
 pub use rewrite_words::{RewriteOptions, read_words};
+pub use rows_view::RowsView;
 pub use schema_key::KeyRule;
 pub use view::{NoView, View};

@@ -14,7 +14,8 @@ use write_values::is_served;
 fn is_leaf_served(data_type: &DataType) -> bool
     ensures { result ≡ is_written (base (type_view data_type.now)) }
 {
-    is_served(data_type, PhysicalType::Int32)
+    is_served(data_type, PhysicalType::Boolean)
+        || is_served(data_type, PhysicalType::Int32)
         || is_served(data_type, PhysicalType::Int64)
         || is_served(data_type, PhysicalType::ByteArray)
 }

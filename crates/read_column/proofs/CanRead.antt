@@ -8,18 +8,18 @@ use Rattle.columns_core.specs.Shapes.{leaf_type}
 use Rattle.shredding.specs.Laws.{BeginsRow, first_rows}
 use Rattle.shredding.specs.Shape.{LeafType}
 use Rattle.shredding.specs.Shred.{Triple}
+use Rattle.shredding.specs.Slot.{Value}
 use Rattle.pq_files.specs.Chunk.{IsPageIn, Page, RawPage, count_in}
 use Rattle.pq_files.specs.Levels.{HasLevels}
-use Rattle.pq_files.specs.Page.{Encoding, plain, delta, delta_length, IsCounted, IsSpelled, IsSplit, LevelsAreRuns, Sections, rows_in, values_in}
+use Rattle.pq_files.specs.Page.{Encoding, delta, delta_length, HasEncoding, IsCounted, IsSpelled, IsSplit, LevelsAreRuns, Sections, rows_in, values_in}
 use Rattle.pq_files.specs.PageReasons.{HasPairs, IsOutside, ShowsPairs, called_by}
-use Rattle.pq_files.specs.Plain.{IsPlain}
 use Rattle.pq_files.specs.RowReasons.{ReadsTriples, without_value}
 use Rattle.pq_files.specs.Stored.{AreStored}
 use Rattle.pq_files.proofs.PageOnce.{encoding_same}
 use Rattle.pq_files.proofs.Triples.{count_present, IsPresent}
 use Rattle.pq_files.proofs.Unique.{every, levels_same, split_same}
 use Rattle.pq_headline.specs.Columns.{ArrowColumn, is_dictionary}
-use Rattle.pq_headline.specs.FieldReasons.{IsNotReadIn, IsPieceOf, ReadsFront, ReadsPages}
+use Rattle.pq_headline.specs.FieldReasons.{IsNotReadIn, IsPieceOf, ReadsPages}
 use Rattle.pq_headline.specs.Openings.{piece_size}
 use Rattle.pq_numbers.specs.Texts.{Begins}
 use Rattle.pq_pages.specs.Held.{ArePagesIn}
@@ -28,11 +28,12 @@ use Rattle.pq_tree.specs.Headers.{Header, data_page, data_page_2, dictionary_pag
 use Rattle.pq_tree.specs.Physical.{Physical}
 use Rattle.pq_tree.specs.Tree.{Leaf, max_definition, max_repetition}
 use Rattle.read_pieces.specs.Columns.{rows_of_all}
-use Rattle.read_column.specs.Opened.{IsServed, IsServedPage}
+use Rattle.read_column.specs.Opened.{IsServed, IsServedPage, encoding_by}
 use Rattle.read_column.specs.Reading.{stored_in}
 use Rattle.read_column.specs.Taken.{AreSized}
 use Rattle.read_column.proofs.Columns.{rows-sized}
-use Rattle.read_column.proofs.Pages.{inside-stored, is-plain}
+use Rattle.read_column.proofs.Dictionaries.{begins-values}
+use Rattle.read_column.proofs.Pages.{inside-stored}
 use Rattle.read_column.proofs.Ways.{rows-cons}
 
 -- ---- triples without values
@@ -64,21 +65,21 @@ shows-pairs l p s ts runs split reps defs few = record {
   few = omega (arith, few, length-map ts without_value);
 }
 
-pub reads-triples : (t : LeafType) (l : Leaf) (p : RawPage) (s : Sections) (ts : List Triple) (called : ℕ) →
-    IsServed p.header → LevelsAreRuns l p.header → IsSplit l p.header p.body s → HasLevels (max_repetition l) s.repetition (map (λ t. t.repetition) ts) → HasLevels (max_definition l) s.definition (map (λ t. t.definition) ts) → length ts ≤ count_in p.header → BeginsRow ts →
-    All (λ x. is_some x.value ≡ nat_eq x.definition (max_definition l)) ts → ((all : List Triple) → HasPairs l p all → called ≡ called_by l all) → length (values_in ts) ≤ called → Begins (IsPlain l.physical) s.values (values_in ts) → All (λ v. IsOutside t l.physical v → ⊥) (values_in ts) → ReadsTriples t l None p ts
-reads-triples t l p s ts called served runs split reps defs few begins present calls less spelled inside = record {
+pub reads-triples : (t : LeafType) (l : Leaf) (es : Option (List Value)) (indexed : Bool) (p : RawPage) (s : Sections) (ts : List Triple) (called : ℕ) →
+    HasEncoding p.header (encoding_by indexed) → LevelsAreRuns l p.header → IsSplit l p.header p.body s → HasLevels (max_repetition l) s.repetition (map (λ t. t.repetition) ts) → HasLevels (max_definition l) s.definition (map (λ t. t.definition) ts) → length ts ≤ count_in p.header → BeginsRow ts →
+    All (λ x. is_some x.value ≡ nat_eq x.definition (max_definition l)) ts → ((all : List Triple) → HasPairs l p all → called ≡ called_by l all) → length (values_in ts) ≤ called → Begins (IsSpelled (encoding_by indexed) l es) s.values (values_in ts) → All (λ v. IsOutside t l.physical v → ⊥) (values_in ts) → ReadsTriples t l es p ts
+reads-triples t l es indexed p s ts called encoded runs split reps defs few begins present calls less spelled inside = record {
   pairs = record {
-    encoding = plain;
-    has_encoding = is-plain p.header served;
-    is_read = tt;
+    encoding = encoding_by indexed;
+    has_encoding = encoded;
+    is_read = (begins-values indexed l es called s.values (values_in ts) less spelled).1;
     shows = shows-pairs l p s ts runs split reps defs few;
     begins_row = begins-without ts begins;
   };
   present = present;
   called = called;
   calls = calls;
-  begins = (less, spelled);
+  begins = (begins-values indexed l es called s.values (values_in ts) less spelled).0;
   inside = inside;
 }
 
@@ -97,28 +98,36 @@ calls-same l p s ts split defs size all has =
 pub count-is : (h : Header) (ts : List Triple) → IsServed h → IsCounted h ts → length ts ≡ count_in h
 count-is (data_page h) ts s c = sym c
 count-is (data_page_2 h) ts s c = sym c.0
-count-is (dictionary_page h) ts s c = absurd s
+count-is (dictionary_page h) ts s c = absurd s.1
 
 pub values-called : (l : Leaf) (ts : List Triple) → All (λ x. is_some x.value ≡ nat_eq x.definition (max_definition l)) ts → length (values_in ts) ≡ called_by l ts
 values-called l ts present = count_present (max_definition l) ts (every (IsPresent (max_definition l)) ts present) ∙ sym (called-defs (max_definition l) ts)
 
-pub whole-reads : (t : LeafType) (l : Leaf) (p : RawPage) (q : Page) (ts : List Triple) → IsServed p.header → IsPageIn l None p q → AreStored t l.physical ts q.triples → ReadsTriples t l None p q.triples × (length q.triples ≡ count_in p.header)
-whole-reads t l p q ts served in-page stored =
+pub whole-reads : (t : LeafType) (l : Leaf) (es : Option (List Value)) (p : RawPage) (q : Page) (ts : List Triple) → IsServed p.header → IsPageIn l es p q → AreStored t l.physical ts q.triples → ReadsTriples t l es p q.triples × (length q.triples ≡ count_in p.header)
+whole-reads t l es p q ts served in-page stored =
     let is = in-page.is in
     let size = count-is p.header q.triples served is.counted in
-    let e : is.encoding ≡ plain = encoding_same p.header is.encoding plain is.has_encoding (is-plain p.header served) in
-    let spelled : Begins (IsPlain l.physical) is.sections.values (values_in q.triples) = subst (λ (x : Encoding). Begins (IsSpelled x l None) is.sections.values (values_in q.triples)) e is.values in
-    (reads-triples t l p is.sections q.triples (called_by l q.triples) served is.runs is.split is.repetitions is.definitions (omega (arith, size)) is.begins_row is.present (calls-same l p is.sections q.triples is.split is.definitions size) (omega (arith, values-called l q.triples is.present)) spelled (inside-stored t l.physical ts q.triples stored), size)
+    let e : is.encoding ≡ encoding_by served.0 = encoding_same p.header is.encoding (encoding_by served.0) is.has_encoding served.1 in
+    let spelled : Begins (IsSpelled (encoding_by served.0) l es) is.sections.values (values_in q.triples) = subst (λ (x : Encoding). Begins (IsSpelled x l es) is.sections.values (values_in q.triples)) e is.values in
+    (reads-triples t l es served.0 p is.sections q.triples (called_by l q.triples) served.1 is.runs is.split is.repetitions is.definitions (omega (arith, size)) is.begins_row is.present (calls-same l p is.sections q.triples is.split is.definitions size) (omega (arith, values-called l q.triples is.present)) spelled (inside-stored t l.physical ts q.triples stored), size)
 
 -- ---- what can be read of a column
 not-both : (b : Bool) → b ≡ true → b ≡ false → ⊥
 not-both b t f = cc (t, f)
 
+no-delta : (indexed : Bool) → encoding_by indexed ≡ delta → ⊥
+no-delta true e = cc e
+no-delta false e = cc e
+
+no-lengths : (indexed : Bool) → encoding_by indexed ≡ delta_length → ⊥
+no-lengths true e = cc e
+no-lengths false e = cc e
+
 pub is-read : (c : ArrowColumn) (h : Header) → is_dictionary c.data_type ≡ false → IsServed h → IsNotReadIn c h → ⊥
 is-read c h direct served (inl x) = not-both (is_dictionary c.data_type) x.0 direct
 is-read c h direct served (inr x) = elim x.1 [
-  | inl d ↦ (let e : plain ≡ delta = encoding_same h plain delta (is-plain h served) d in cc)
-  | inr d ↦ (let e : plain ≡ delta_length = encoding_same h plain delta_length (is-plain h served) d in cc)
+  | inl d ↦ no-delta served.0 (encoding_same h (encoding_by served.0) delta served.1 d)
+  | inr d ↦ no-lengths served.0 (encoding_same h (encoding_by served.0) delta_length served.1 d)
 ]
 
 stored-cut : (t : LeafType) (p : Physical) (ts a b : List Triple) → AreStored t p ts (a ++ b) → (x : List Triple) × (y : List Triple) × AreStored t p x a × AreStored t p y b
@@ -127,49 +136,37 @@ stored-cut t p [] (z ∷ a) b s = absurd s
 stored-cut t p (u ∷ ts) (z ∷ a) b s = let r = stored-cut t p ts a b s.1 in (u ∷ r.0, r.1, (s.0, r.2), r.3)
 
 -- the pages taken, and the front of the next one
-pub reads-more : (c : ArrowColumn) (l : Leaf) (os left : List Outcome) (ps : List Page) (p : RawPage) (levels : Levels) (ts zs : List Triple) → is_dictionary c.data_type ≡ false → ArePagesIn l None os ps → All IsServedPage os → AreStored (leaf_type c.data_type) l.physical ts (stored_in ps) → IsServed p.header → ReadsTriples (leaf_type c.data_type) l None p zs → ReadsPages c l None (os ++ gives_page p levels ∷ left) (stored_in ps ++ zs)
-reads-more c l [] left [] p levels ts zs direct a served s h reads = (is-read c p.header direct h, inl reads)
-reads-more c l [] left (q ∷ ps) p levels ts zs direct a served s h reads = absurd a
-reads-more c l (gives_page r lv ∷ os) left [] p levels ts zs direct a served s h reads = absurd a
-reads-more c l (gives_page r lv ∷ os) left (q ∷ ps) p levels ts zs direct a served s h reads =
+pub reads-more : (c : ArrowColumn) (l : Leaf) (es : Option (List Value)) (os left : List Outcome) (ps : List Page) (p : RawPage) (levels : Levels) (ts zs : List Triple) → is_dictionary c.data_type ≡ false → ArePagesIn l es os ps → All IsServedPage os → AreStored (leaf_type c.data_type) l.physical ts (stored_in ps) → IsServed p.header → ReadsTriples (leaf_type c.data_type) l es p zs → ReadsPages c l es (os ++ gives_page p levels ∷ left) (stored_in ps ++ zs)
+reads-more c l es [] left [] p levels ts zs direct a served s h reads = (is-read c p.header direct h, inl reads)
+reads-more c l es [] left (q ∷ ps) p levels ts zs direct a served s h reads = absurd a
+reads-more c l es (gives_page r lv ∷ os) left [] p levels ts zs direct a served s h reads = absurd a
+reads-more c l es (gives_page r lv ∷ os) left (q ∷ ps) p levels ts zs direct a served s h reads =
     let t = leaf_type c.data_type in
     let here = All-head IsServedPage (gives_page r lv) os served in
     let cut = stored-cut t l.physical ts q.triples (stored_in ps) s in
-    let whole = whole-reads t l r q cut.0 here a.0 cut.2 in
-    (is-read c r.header direct here, inr (q.triples, stored_in ps ++ zs, whole.0, whole.1, reads-more c l os left ps p levels cut.1 zs direct a.1 (All-tail IsServedPage (gives_page r lv) os served) cut.3 h reads, append_assoc q.triples (stored_in ps) zs))
-reads-more c l (gives_dictionary n body ∷ os) left ps p levels ts zs direct a served s h reads = absurd a
-reads-more c l (fails e ∷ os) left ps p levels ts zs direct a served s h reads = absurd a
+    let whole = whole-reads t l es r q cut.0 here a.0 cut.2 in
+    (is-read c r.header direct here, inr (q.triples, stored_in ps ++ zs, whole.0, whole.1, reads-more c l es os left ps p levels cut.1 zs direct a.1 (All-tail IsServedPage (gives_page r lv) os served) cut.3 h reads, append_assoc q.triples (stored_in ps) zs))
+reads-more c l es (gives_dictionary n body ∷ os) left ps p levels ts zs direct a served s h reads = absurd a
+reads-more c l es (fails e ∷ os) left ps p levels ts zs direct a served s h reads = absurd a
 
 -- the pages taken, of which there is one
-pub reads-taken : (c : ArrowColumn) (l : Leaf) (os left : List Outcome) (ps : List Page) (ts : List Triple) → is_dictionary c.data_type ≡ false → ArePagesIn l None os ps → All IsServedPage os → AreStored (leaf_type c.data_type) l.physical ts (stored_in ps) → 0 < length os → ReadsPages c l None (os ++ left) (stored_in ps)
-reads-taken c l [] left ps ts direct a served s some = absurd (omega (arith, some))
-reads-taken c l (gives_page r lv ∷ os) left [] ts direct a served s some = absurd a
-reads-taken c l (gives_page r lv ∷ []) left (q ∷ []) ts direct a served s some =
+pub reads-taken : (c : ArrowColumn) (l : Leaf) (es : Option (List Value)) (os left : List Outcome) (ps : List Page) (ts : List Triple) → is_dictionary c.data_type ≡ false → ArePagesIn l es os ps → All IsServedPage os → AreStored (leaf_type c.data_type) l.physical ts (stored_in ps) → 0 < length os → ReadsPages c l es (os ++ left) (stored_in ps)
+reads-taken c l es [] left ps ts direct a served s some = absurd (omega (arith, some))
+reads-taken c l es (gives_page r lv ∷ os) left [] ts direct a served s some = absurd a
+reads-taken c l es (gives_page r lv ∷ []) left (q ∷ []) ts direct a served s some =
     let t = leaf_type c.data_type in
     let here = All-head IsServedPage (gives_page r lv) [] served in
     let cut = stored-cut t l.physical ts q.triples [] s in
-    (is-read c r.header direct here, inl (rw (append-nil q.triples) (whole-reads t l r q cut.0 here a.0 cut.2).0))
-reads-taken c l (gives_page r lv ∷ []) left (q ∷ x ∷ ps) ts direct a served s some = absurd a.1
-reads-taken c l (gives_page r lv ∷ o ∷ os) left (q ∷ ps) ts direct a served s some =
+    (is-read c r.header direct here, inl (rw (append-nil q.triples) (whole-reads t l es r q cut.0 here a.0 cut.2).0))
+reads-taken c l es (gives_page r lv ∷ []) left (q ∷ x ∷ ps) ts direct a served s some = absurd a.1
+reads-taken c l es (gives_page r lv ∷ o ∷ os) left (q ∷ ps) ts direct a served s some =
     let t = leaf_type c.data_type in
     let here = All-head IsServedPage (gives_page r lv) (o ∷ os) served in
     let cut = stored-cut t l.physical ts q.triples (stored_in ps) s in
-    let whole = whole-reads t l r q cut.0 here a.0 cut.2 in
-    (is-read c r.header direct here, inr (q.triples, stored_in ps, whole.0, whole.1, reads-taken c l (o ∷ os) left ps cut.1 direct a.1 (All-tail IsServedPage (gives_page r lv) (o ∷ os) served) cut.3 (omega arith), refl))
-reads-taken c l (gives_dictionary n body ∷ os) left ps ts direct a served s some = absurd a
-reads-taken c l (fails e ∷ os) left ps ts direct a served s some = absurd a
-
-pub reads-front : (c : ArrowColumn) (l : Leaf) (p : RawPage) (levels : Levels) (os left : List Outcome) (ps : List Page) → ArePagesIn l None os ps → ReadsFront c l (os ++ gives_page p levels ∷ left) None (os ++ gives_page p levels ∷ left)
-reads-front c l p levels [] left ps a = (refl, refl)
-reads-front c l p levels (gives_page r lv ∷ os) left ps a = (refl, refl)
-reads-front c l p levels (gives_dictionary n body ∷ os) left ps a = absurd a
-reads-front c l p levels (fails e ∷ os) left ps a = absurd a
-
-pub front-taken : (c : ArrowColumn) (l : Leaf) (os left : List Outcome) (ps : List Page) → ArePagesIn l None os ps → 0 < length os → ReadsFront c l (os ++ left) None (os ++ left)
-front-taken c l [] left ps a some = absurd (omega (arith, some))
-front-taken c l (gives_page r lv ∷ os) left ps a some = (refl, refl)
-front-taken c l (gives_dictionary n body ∷ os) left ps a some = absurd a
-front-taken c l (fails e ∷ os) left ps a some = absurd a
+    let whole = whole-reads t l es r q cut.0 here a.0 cut.2 in
+    (is-read c r.header direct here, inr (q.triples, stored_in ps, whole.0, whole.1, reads-taken c l es (o ∷ os) left ps cut.1 direct a.1 (All-tail IsServedPage (gives_page r lv) (o ∷ os) served) cut.3 (omega arith), refl))
+reads-taken c l es (gives_dictionary n body ∷ os) left ps ts direct a served s some = absurd a
+reads-taken c l es (fails e ∷ os) left ps ts direct a served s some = absurd a
 
 -- ---- parts of a column
 starts : (t : Triple) → (nat_eq t.repetition 0 ≡ true) ⊎ (nat_eq t.repetition 0 ≡ false)

@@ -7,10 +7,9 @@ use Rattle.shredding.specs.Local.{IsWithin}
 use Rattle.shredding.specs.Shape.{LeafType, Way}
 use Rattle.shredding.specs.Shred.{Triple, max_definition as way_definition}
 use Rattle.shredding.specs.Slot.{Value}
-use Rattle.pq_files.specs.Chunk.{IsPageIn, Page, RawPage}
+use Rattle.pq_files.specs.Chunk.{IsPageIn, Page, RawPage, count_in}
 use Rattle.pq_files.specs.Levels.{HasLevels as FileLevels}
-use Rattle.pq_files.specs.Page.{Encoding, plain, IsSpelled, values_in}
-use Rattle.pq_files.specs.Plain.{IsPlain}
+use Rattle.pq_files.specs.Page.{Encoding, IsSpelled, values_in}
 use Rattle.pq_files.specs.Stored.{AreStored, IsStored, IsStoredOption}
 use Rattle.pq_files.proofs.PageOnce.{encoding_same}
 use Rattle.pq_files.proofs.StoredOnce.{are_unique}
@@ -21,16 +20,19 @@ use Rattle.pq_numbers.specs.Texts.{Begins}
 use Rattle.pq_pages.specs.Outcomes.{Levels}
 use Rattle.pq_tree.specs.Physical.{Physical}
 use Rattle.pq_tree.specs.Tree.{Leaf, max_definition, max_repetition}
-use Rattle.read_pieces.specs.Leaves.{IsLoaded, ReadsPlain}
+use Rattle.read_pieces.specs.Leaves.{IsLoaded, ReadsPlain, in_bytes}
 use Rattle.read_walk.specs.Gives.{given}
 use Rattle.read_walk.specs.Pairs.{Item}
 use Rattle.read_walk.specs.Spelled.{HasLevels, NoneAbove}
 use Rattle.read_walk.specs.Values.{Stored}
 use Rattle.read_walk.specs.Walk.{pair_of, values_of}
 use Rattle.read_walk.proofs.Grammar.{pairs-read}
+use Rattle.read_column.specs.Dictionary.{AreTextsOf, Texts}
+use Rattle.read_column.specs.Opened.{encoding_by}
 use Rattle.read_column.specs.Reading.{HasItems}
 use Rattle.read_column.proofs.CanRead.{count-is}
-use Rattle.read_column.proofs.Pages.{defs-stored, is-plain, pairs-of, reps-stored}
+use Rattle.read_column.proofs.Dictionaries.{holds-values}
+use Rattle.read_column.proofs.Pages.{defs-stored, pairs-of, reps-stored, values-few}
 use Rattle.read_column.proofs.Widths.{has-width}
 
 -- ---- lists
@@ -90,8 +92,8 @@ pub record Foreseen (w : Way) (stored : List Stored) (items : List Item) (us : L
   pub values : stored ≡ map Some (values_of us) ++ rest
   pub within : All (IsWithin w) us
 
-pub foreseen : (t : LeafType) (l : Leaf) (w : Way) (stored : List ℕ → List Stored) (p : RawPage) (levels : Levels) (items : List Item) (values : List ℕ) (q : Page) (us : List Triple) → ReadsPlain t l.physical stored → levels ≡ leaf_levels l → HasItems p levels items values → IsPageIn l None p q → AreStored t l.physical us q.triples → All (IsWithin w) us → Foreseen w (stored values) items us
-foreseen t l w stored p levels items values q us plainly of-leaf has in-page are within =
+pub foreseen : (t : LeafType) (l : Leaf) (w : Way) (stored : List ℕ → List Stored) (d : Option Texts) (es : Option (List Value)) (p : RawPage) (levels : Levels) (items : List Item) (values : List ℕ) (q : Page) (us : List Triple) → ReadsPlain t l.physical stored → AreTextsOf stored l.physical d es → levels ≡ leaf_levels l → HasItems (in_bytes stored) d p levels items values → IsPageIn l es p q → AreStored t l.physical us q.triples → All (IsWithin w) us → Foreseen w (stored values) items us
+foreseen t l w stored d es p levels items values q us plainly texts of-leaf has in-page are within =
     let is = in-page.is in
     let o = has.opened in
     let reps = map (λ (u : Triple). u.repetition) us in
@@ -101,20 +103,21 @@ foreseen t l w stored p levels items values q us plainly of-leaf has in-page are
     let split = o.split l (sym (ap (λ (x : Levels). x.repetition) of-leaf)) (sym (ap (λ (x : Levels). x.definition) of-leaf)) in
     let same = split_same l p.header p.body is.sections has.sections is.split split in
     let v = has-width has.repetition in
-    let d = has-width has.definition in
-    let size : length us ≡ has.n = sym (length-map us (λ (u : Triple). u.repetition)) ∙ (ap length (sym (reps-stored t l.physical us q.triples are)) ∙ (length-map q.triples (λ (u : Triple). u.repetition) ∙ (count-is p.header q.triples o.served is.counted ∙ sym o.count))) in
+    let dw = has-width has.definition in
+    let size : length us ≡ has.n = sym (length-map us (λ (u : Triple). u.repetition)) ∙ (ap length (sym (reps-stored t l.physical us q.triples are)) ∙ (length-map q.triples (λ (u : Triple). u.repetition) ∙ (count-is p.header q.triples (has.indexed, o.encoding) is.counted ∙ sym o.count))) in
     let rs : FileLevels has.repetition has.sections.repetition reps = rw (rep, ← same.repetition, ← reps-stored t l.physical us q.triples are) is.repetitions in
     let ds : FileLevels has.definition has.sections.definition defs = rw (def, ← same.definition, ← defs-stored t l.physical us q.triples are) is.definitions in
-    let read = (pairs-read has.repetition v.0 has.definition d.0 has.n has.sections.repetition has.sections.definition reps defs (length-map us (λ (u : Triple). u.repetition) ∙ size) (length-map us (λ (u : Triple). u.definition) ∙ size)).0 (levels-as has.repetition v.0 has.sections.repetition reps v.1 rs, levels-as has.definition d.0 has.sections.definition defs d.1 ds) in
-    let e : is.encoding ≡ plain = encoding_same p.header is.encoding plain is.has_encoding (is-plain p.header o.served) in
-    let spelled : Begins (IsPlain l.physical) is.sections.values (values_in q.triples) = subst (λ (x : Encoding). Begins (IsSpelled x l None) is.sections.values (values_in q.triples)) e is.values in
-    let loads = plainly.read is.sections.values (values_in q.triples) spelled in
-    let text : stored values ≡ stored is.sections.values = ap stored (has.bytes ∙ sym same.values) in
-    let front = loaded-is t l.physical (take (length (values_in q.triples)) (stored is.sections.values)) (values_of us) (values_in q.triples) loads.1 (values-stored t l.physical us q.triples are) in
+    let read = (pairs-read has.repetition v.0 has.definition dw.0 has.n has.sections.repetition has.sections.definition reps defs (length-map us (λ (u : Triple). u.repetition) ∙ size) (length-map us (λ (u : Triple). u.definition) ∙ size)).0 (levels-as has.repetition v.0 has.sections.repetition reps v.1 rs, levels-as has.definition dw.0 has.sections.definition defs dw.1 ds) in
+    let e : is.encoding ≡ encoding_by has.indexed = encoding_same p.header is.encoding (encoding_by has.indexed) is.has_encoding o.encoding in
+    let spelled : Begins (IsSpelled (encoding_by has.indexed) l es) is.sections.values (values_in q.triples) = subst (λ (x : Encoding). Begins (IsSpelled x l es) is.sections.values (values_in q.triples)) e is.values in
+    let few : length (values_in q.triples) ≤ count_in p.header = omega (arith, values-few q.triples, count-is p.header q.triples (has.indexed, o.encoding) is.counted) in
+    let holds = holds-values t l stored d es p.header has.indexed has.sections.values values plainly texts o.encoding o.entries has.bytes (values_in q.triples) few in
+    let loads = plainly.read values (values_in q.triples) (holds.0 (rw same.values at spelled)) in
+    let front = loaded-is t l.physical (take (length (values_in q.triples)) (stored values)) (values_of us) (values_in q.triples) loads.1 (values-stored t l.physical us q.triples are) in
     record {
-      pairs = has.are v.0 d.0 v.1 d.1 ∙ (read ∙ pairs-of us);
-      rest = drop (length (values_in q.triples)) (stored is.sections.values);
-      values = text ∙ (sym (take-append-drop (length (values_in q.triples)) (stored is.sections.values)) ∙ ap (λ (xs : List Stored). xs ++ drop (length (values_in q.triples)) (stored is.sections.values)) front);
+      pairs = has.are v.0 dw.0 v.1 dw.1 ∙ (read ∙ pairs-of us);
+      rest = drop (length (values_in q.triples)) (stored values);
+      values = sym (take-append-drop (length (values_in q.triples)) (stored values)) ∙ ap (λ (xs : List Stored). xs ++ drop (length (values_in q.triples)) (stored values)) front;
       within = within;
     }
 

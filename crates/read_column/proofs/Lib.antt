@@ -4,6 +4,11 @@ pub mod Widths
 pub mod Columns
 pub mod Long
 pub mod Pages
+pub mod Fewer
+pub mod Dictionaries
+pub mod Placing
+pub mod Laying
+pub mod Pairs
 pub mod CanRead
 pub mod Foreseen
 pub mod Fronts
@@ -11,3 +16,4 @@ pub mod Passes
 pub mod Refusals
 pub mod Refused
 pub mod Readings
+pub mod Entered

@@ -10,7 +10,7 @@ use Rattle.shredding.specs.Shred.{Triple, max_definition as way_definition}
 use Rattle.shredding.specs.Slot.{Value}
 use Rattle.pq_files.specs.Chunk.{IsPageIn, Page, RawPage, count_in}
 use Rattle.pq_files.specs.Levels.{HasLevels}
-use Rattle.pq_files.specs.Page.{IsCounted, Sections, LevelsAreRuns, HasEncoding, plain, rows_in, values_in}
+use Rattle.pq_files.specs.Page.{IsCounted, IsSpelled, Sections, LevelsAreRuns, rows_in, values_in}
 use Rattle.pq_files.specs.PageReasons.{IsOutside}
 use Rattle.pq_files.specs.Plain.{IsPlain}
 use Rattle.pq_files.specs.Stored.{AreStored, IsStored, IsStoredOption}
@@ -21,15 +21,17 @@ use Rattle.pq_runs.proofs.Sound.{is_spelled}
 use Rattle.pq_tree.specs.Headers.{Header, data_page, data_page_2, dictionary_page}
 use Rattle.pq_tree.specs.Physical.{Physical}
 use Rattle.pq_tree.specs.Tree.{Leaf, max_definition, max_repetition}
-use Rattle.read_pieces.specs.Leaves.{IsLoaded, ReadsPlain}
+use Rattle.read_pieces.specs.Leaves.{IsLoaded, ReadsPlain, in_bytes}
 use Rattle.read_walk.specs.Gives.{given}
 use Rattle.read_walk.specs.Pairs.{Item, pair_items}
 use Rattle.read_walk.specs.Spelled.{NoneAbove}
 use Rattle.read_walk.specs.Values.{Stored}
 use Rattle.read_walk.specs.Walk.{pair_of, values_of}
 use Rattle.read_walk.proofs.Grammar.{from-pairs}
-use Rattle.read_column.specs.Opened.{ArePairsOf, IsServed, SayRuns, StatesRows}
+use Rattle.read_column.specs.Dictionary.{AreTextsOf, Texts}
+use Rattle.read_column.specs.Opened.{ArePairsOf, IsServed, SayRuns, StatesRows, encoding_by}
 use Rattle.read_column.specs.Reading.{HasItems}
+use Rattle.read_column.proofs.Dictionaries.{holds-values}
 use Rattle.read_column.proofs.Ways.{rows-cons}
 use Rattle.read_column.proofs.Widths.{has-width}
 
@@ -171,15 +173,10 @@ runs-of l levels (data_page h) e s = rw e at s
 runs-of l levels (data_page_2 h) e s = tt
 runs-of l levels (dictionary_page h) e s = tt
 
-pub is-plain : (h : Header) → IsServed h → HasEncoding h plain
-is-plain (data_page h) s = rw s refl
-is-plain (data_page_2 h) s = rw s refl
-is-plain (dictionary_page h) s = absurd s
-
 is-counted : (h : Header) (ts : List Triple) → IsServed h → count_in h ≡ length ts → StatesRows h (rows_in ts) → IsCounted h ts
 is-counted (data_page h) ts s e r = e
 is-counted (data_page_2 h) ts s e r = (e, r)
-is-counted (dictionary_page h) ts s e r = absurd s
+is-counted (dictionary_page h) ts s e r = absurd s.1
 
 -- and back: what the header states of the rows
 pub counts-rows : (h : Header) (ts : List Triple) → IsCounted h ts → StatesRows h (rows_in ts)
@@ -187,24 +184,34 @@ counts-rows (data_page h) ts c = tt
 counts-rows (data_page_2 h) ts c = c.1
 counts-rows (dictionary_page h) ts c = tt
 
-pub record IsTakenPage (t : LeafType) (l : Leaf) (p : RawPage) (ts : List Triple) : Type 0 where
+pub record IsTakenPage (t : LeafType) (l : Leaf) (es : Option (List Value)) (p : RawPage) (ts : List Triple) : Type 0 where
   pub page : Page
-  pub is : IsPageIn l None p page
+  pub is : IsPageIn l es p page
   pub stored : AreStored t l.physical ts page.triples
 
-pub taken-page : (t : LeafType) (l : Leaf) (w : Way) (stored : List ℕ → List Stored) (p : RawPage) (levels : Levels) (items : List Item) (values : List ℕ) (ts : List Triple) (rest : List Stored) →
-    ReadsPlain t l.physical stored → levels ≡ leaf_levels l → max_definition l ≡ way_definition w → HasItems p levels items values → items ≡ map Ok (map pair_of ts) → stored values ≡ map Some (values_of ts) ++ rest → All (IsWithin w) ts → BeginsRow ts → StatesRows p.header (rows_in ts) → IsTakenPage t l p ts
-taken-page t l w stored p levels items values ts rest plainly of-leaf top has pairs e within begins rows =
+-- values stand in some of the triples
+few-more : (o : Option Value) (vs : List Value) (n : ℕ) → length vs ≤ n → length (cons_option o vs) ≤ suc n
+few-more None vs n h = omega (arith, h)
+few-more (Some v) vs n h = omega (arith, h)
+
+pub values-few : (ts : List Triple) → length (values_in ts) ≤ length ts
+values-few [] = omega arith
+values-few (t ∷ ts) = few-more t.value (values_in ts) (length ts) (values-few ts)
+
+pub taken-page : (t : LeafType) (l : Leaf) (w : Way) (stored : List ℕ → List Stored) (d : Option Texts) (es : Option (List Value)) (p : RawPage) (levels : Levels) (items : List Item) (values : List ℕ) (ts : List Triple) (rest : List Stored) →
+    ReadsPlain t l.physical stored → AreTextsOf stored l.physical d es → levels ≡ leaf_levels l → max_definition l ≡ way_definition w → HasItems (in_bytes stored) d p levels items values → items ≡ map Ok (map pair_of ts) → stored values ≡ map Some (values_of ts) ++ rest → All (IsWithin w) ts → BeginsRow ts → StatesRows p.header (rows_in ts) → IsTakenPage t l es p ts
+taken-page t l w stored d es p levels items values ts rest plainly texts of-leaf top has pairs e within begins rows =
     let o = has.opened in
     let s = has.sections in
-    let bytes : stored s.values ≡ map Some (values_of ts) ++ rest = ap stored (sym has.bytes) ∙ e in
-    let spelled = spelled-values t l.physical stored s.values (values_of ts) rest plainly bytes in
+    let spelled = spelled-values t l.physical stored values (values_of ts) rest plainly e in
     let put = stored-put t l.physical ts spelled.stored spelled.are in
     let zs = put.triples in
     let levels-are = whole-levels s has.repetition has.definition has.n items ts has.are pairs in
     let rep : has.repetition ≡ max_repetition l = o.repetitions ∙ ap (λ (x : Levels). x.repetition) of-leaf in
     let def : has.definition ≡ max_definition l = o.definitions ∙ ap (λ (x : Levels). x.definition) of-leaf in
     let size : length zs ≡ length ts = sym (length-map zs (λ (z : Triple). z.repetition)) ∙ (ap length (reps-stored t l.physical ts zs put.are) ∙ length-map ts (λ (u : Triple). u.repetition)) in
+    let called : length spelled.stored ≤ count_in p.header = omega (arith, ap length (sym put.values), values-few zs, size, levels-are.count, o.count) in
+    let begins-here : Begins (IsSpelled (encoding_by has.indexed) l es) s.values spelled.stored = (holds-values t l stored d es p.header has.indexed s.values values plainly texts o.encoding o.entries has.bytes spelled.stored called).1 spelled.begins in
     record {
       page = record { header = p.header; triples = zs };
       is = record {
@@ -216,10 +223,10 @@ taken-page t l w stored p levels items values ts rest plainly of-leaf top has pa
           repetitions = rw (reps-stored t l.physical ts zs put.are, ← rep) levels-are.repetitions;
           definitions = rw (defs-stored t l.physical ts zs put.are, ← def) levels-are.definitions;
           present = present-stored t l.physical w (max_definition l) ts zs (sym top) put.are within;
-          encoding = plain;
-          has_encoding = is-plain p.header o.served;
-          values = rw put.values spelled.begins;
-          counted = is-counted p.header zs o.served (sym o.count ∙ (sym levels-are.count ∙ sym size)) (subst (StatesRows p.header) (sym (rows-stored t l.physical ts zs put.are)) rows);
+          encoding = encoding_by has.indexed;
+          has_encoding = o.encoding;
+          values = rw put.values begins-here;
+          counted = is-counted p.header zs (has.indexed, o.encoding) (sym o.count ∙ (sym levels-are.count ∙ sym size)) (subst (StatesRows p.header) (sym (rows-stored t l.physical ts zs put.are)) rows);
           begins_row = begins-zs t l.physical ts zs put.are begins;
         };
       };

@@ -13,7 +13,7 @@ use Rattle.pq_files.specs.Chunk.{Chunk, Page}
 use Rattle.pq_files.specs.Page.{rows_in}
 use Rattle.pq_files.specs.Reasons.{AnyOf}
 use Rattle.pq_files.specs.Stored.{AreStored}
-use Rattle.pq_headline.specs.FieldReasons.{GivesPage, IsOfRows, IsPieceOf, ReadsFront, ReadsPages, IsUnserved}
+use Rattle.pq_headline.specs.FieldReasons.{GivesPage, IsOfRows, IsPieceOf, ReadsFront}
 use Rattle.pq_headline.specs.Openings.{leaf_levels, piece_size}
 use Rattle.pq_pages.specs.Held.{ArePagesIn, HoldsChunk}
 use Rattle.pq_tree.specs.Physical.{Physical}
@@ -21,14 +21,13 @@ use Rattle.pq_tree.specs.Tree.{Leaf}
 use Rattle.read_laws.specs.State.{count}
 use Rattle.read_state.specs.declared.init.InitNested.TheVariants.{Primitive, List as ListOf, Struct}
 use Rattle.read_column.proofs.Pages.{rows-stored, taken-page}
-use Rattle.read_column.proofs.CanRead.{front-taken, piece-of, reads-taken}
-use Rattle.read_column.proofs.Columns.{StartsPlain, begins-stored, continues, holds-plain, pages-begin, pages-push, pages-split, plain-holds, rows-between, stored-append, stored-begins, stored-both, stored-parts, rows-joined, rows-sized, starts-behind}
+use Rattle.read_column.proofs.CanRead.{piece-of, reads-taken}
+use Rattle.read_column.proofs.Columns.{StartsPlain, begins-stored, behind-none, continues, front-inside, front-on, holds-front, pages-begin, pages-push, rows-between, stored-append, stored-begins, stored-both, stored-parts, rows-joined, rows-sized}
 use Rattle.read_column.proofs.Taking.{begins-append, begins-taken, joined-last, sized-append, first-begins, piece-empty, piece-few, piece-some, rows-piece}
 use Rattle.read_column.proofs.Ways.{rows-append, rows-cons}
 use Rattle.columns_base.specs.declared.error.Error.{Error}
-use Rattle.columns_base.specs.declared.error.Error.TheVariants.{OutOfSpec, NotYetImplemented}
+use Rattle.columns_base.specs.declared.error.Error.TheVariants.{OutOfSpec}
 use Rattle.columns_base.specs.declared.error.S.TheVariants.{S9}
-use Rattle.columns_base.specs.declared.error.N.TheVariants.{N4}
 use Rattle.shredding.specs.Along.{thin}
 use Rattle.shredding.specs.Shape.{Way}
 use Rattle.shredding.specs.Shred.{Triple}
@@ -43,6 +42,8 @@ use Rattle.read_state.specs.Initial.{initial, IsWay}
 use Rattle.read_walk.specs.Pairs.{Item}
 use Rattle.read_walk.specs.Values.{Stored}
 use Rattle.read_walk.specs.Walk.{pair_of}
+use Rattle.pq_headline.specs.Columns.{ArrowColumn}
+use Rattle.read_column.specs.Dictionary.{Texts}
 use Rattle.read_column.specs.Opened.{IsServedPage}
 use Rattle.read_column.specs.Queues.{Waiting, begun_queue, ends_in_leaf}
 use Rattle.read_column.specs.Reading.{IsFilled, IsReading, Reading, Steps, TakesAll, reading, stored_in}
@@ -59,11 +60,11 @@ taken-some (p ∷ os) after lent o t e =
     let h : Some p ≡ Some o = sym t.2 ∙ e in
     ap (λ (x : Outcome). x ∷ os) (same_Some p o h) ∙ ap (λ (xs : List Outcome). o ∷ xs) (sym t.1)
 
-pub queue-is : (stored : List ℕ → List Stored) (limit : ℕ) (o : ColumnOpening) (pieces : List (List Triple)) (os : List Outcome) (q : Waiting) (b : Bool) → (r : IsReading stored limit o pieces (reading os q b)) → r.queue ≡ q
-queue-is stored limit o pieces os q b r = sym (same_Some q r.queue r.has)
+pub queue-is : (stored : List ℕ → List Stored) (limit : ℕ) (o : ColumnOpening) (pieces : List (List Triple)) (os : List Outcome) (d : Option Texts) (q : Waiting) (b : Bool) → (r : IsReading stored limit o pieces (reading os d q b)) → r.queue ≡ q
+queue-is stored limit o pieces os d q b r = sym (same_Some q r.queue r.has)
 
-pub queued-of : (stored : List ℕ → List Stored) (limit : ℕ) (o : ColumnOpening) (pieces : List (List Triple)) (os : List Outcome) (q : Waiting) (b : Bool) → (r : IsReading stored limit o pieces (reading os q b)) → IsQueued o.column.way r.middle r.whole r.last q
-queued-of stored limit o pieces os q b r = subst (λ (v : Waiting). IsQueued o.column.way r.middle r.whole r.last v) (queue-is stored limit o pieces os q b r) r.queued
+pub queued-of : (stored : List ℕ → List Stored) (limit : ℕ) (o : ColumnOpening) (pieces : List (List Triple)) (os : List Outcome) (d : Option Texts) (q : Waiting) (b : Bool) → (r : IsReading stored limit o pieces (reading os d q b)) → IsQueued o.column.way r.middle r.whole r.last q
+queued-of stored limit o pieces os d q b r = subst (λ (v : Waiting). IsQueued o.column.way r.middle r.whole r.last v) (queue-is stored limit o pieces os d q b r) r.queued
 
 count-none : (parts : List InitNested) → count (map initial parts) ≡ 0
 count-none [] = refl
@@ -82,25 +83,25 @@ any-behind P [] o rest p = inl p
 any-behind P (x ∷ os) o rest p = inr (any-behind P os o rest p)
 
 -- the first outcome that is left is one of the source's
-pub any-left : (stored : List ℕ → List Stored) (limit : ℕ) (o : ColumnOpening) (pieces : List (List Triple)) (x : Outcome) (os : List Outcome) (q : Waiting) (b : Bool) (P : Outcome → Type 0) → IsReading stored limit o pieces (reading (x ∷ os) q b) → P x → AnyOf P o.outcomes
-any-left stored limit o pieces x os q b P r p = subst (λ (xs : List Outcome). AnyOf P xs) (sym r.outcomes) (any-behind P r.taken x os p)
+pub any-left : (stored : List ℕ → List Stored) (limit : ℕ) (o : ColumnOpening) (pieces : List (List Triple)) (x : Outcome) (os : List Outcome) (d : Option Texts) (q : Waiting) (b : Bool) (P : Outcome → Type 0) → IsReading stored limit o pieces (reading (x ∷ os) d q b) → P x → AnyOf P o.outcomes
+any-left stored limit o pieces x os d q b P r p = subst (λ (xs : List Outcome). AnyOf P xs) (sym r.outcomes) (any-behind P r.taken x os p)
 
 all-at : (P : Outcome → Type 0) (os : List Outcome) (o : Outcome) (rest : List Outcome) → All P (os ++ o ∷ rest) → P o
 all-at P [] o rest a = All-head P o rest a
 all-at P (x ∷ os) o rest a = all-at P os o rest (All-tail P x (os ++ o ∷ rest) a)
 
 -- and what holds of all of them holds of it
-pub holds-left : (stored : List ℕ → List Stored) (limit : ℕ) (o : ColumnOpening) (pieces : List (List Triple)) (x : Outcome) (os : List Outcome) (q : Waiting) (b : Bool) (P : Outcome → Type 0) → IsReading stored limit o pieces (reading (x ∷ os) q b) → All P o.outcomes → P x
-holds-left stored limit o pieces x os q b P r a = all-at P r.taken x os (subst (λ (xs : List Outcome). All P xs) r.outcomes a)
+pub holds-left : (stored : List ℕ → List Stored) (limit : ℕ) (o : ColumnOpening) (pieces : List (List Triple)) (x : Outcome) (os : List Outcome) (d : Option Texts) (q : Waiting) (b : Bool) (P : Outcome → Type 0) → IsReading stored limit o pieces (reading (x ∷ os) d q b) → All P o.outcomes → P x
+holds-left stored limit o pieces x os d q b P r a = all-at P r.taken x os (subst (λ (xs : List Outcome). All P xs) r.outcomes a)
 
-pages-given : (l : Leaf) (os : List Outcome) (ps : List Page) → ArePagesIn l None os ps → All IsGiven os
-pages-given l [] ps a = All-nil IsGiven
-pages-given l (gives_page p levels ∷ os) [] a = absurd a
-pages-given l (gives_page p levels ∷ os) (q ∷ ps) a = All-cons IsGiven (gives_page p levels) os tt (pages-given l os ps a.1)
-pages-given l (gives_dictionary n body ∷ os) ps a = absurd a
-pages-given l (fails e ∷ os) ps a = absurd a
+pages-given : (l : Leaf) (es : Option (List Value)) (os : List Outcome) (ps : List Page) → ArePagesIn l es os ps → All IsGiven os
+pages-given l es [] ps a = All-nil IsGiven
+pages-given l es (gives_page p levels ∷ os) [] a = absurd a
+pages-given l es (gives_page p levels ∷ os) (q ∷ ps) a = All-cons IsGiven (gives_page p levels) os tt (pages-given l es os ps a.1)
+pages-given l es (gives_dictionary n body ∷ os) ps a = absurd a
+pages-given l es (fails e ∷ os) ps a = absurd a
 
-pub begins-reading : (stored : List ℕ → List Stored) (limit : ℕ) (o : ColumnOpening) (parts : List InitNested) (outcomes : List Outcome) → IsReadable o stored limit → o.outcomes ≡ outcomes → IsWay parts (thin o.column.way) → IsReading stored limit o [] (reading outcomes (begun_queue parts o.chunk_size o.rows) false)
+pub begins-reading : (stored : List ℕ → List Stored) (limit : ℕ) (o : ColumnOpening) (parts : List InitNested) (outcomes : List Outcome) → IsReadable o stored limit → o.outcomes ≡ outcomes → IsWay parts (thin o.column.way) → IsReading stored limit o [] (reading outcomes None (begun_queue parts o.chunk_size o.rows) false)
 begins-reading stored limit o parts outcomes r e way = record {
   readable = r;
   queue = begun_queue parts o.chunk_size o.rows;
@@ -126,6 +127,10 @@ begins-reading stored limit o parts outcomes r e way = record {
   wants = begins-open parts o.chunk_size o.rows;
   taken = [];
   outcomes = e;
+  entries = None;
+  behind = [];
+  front = (refl, refl);
+  texts = tt;
   began = inr (refl, refl);
   pages = [];
   are = tt;
@@ -133,14 +138,14 @@ begins-reading stored limit o parts outcomes r e way = record {
   triples = tt;
 }
 
-pub page-taken : (stored : List ℕ → List Stored) (limit : ℕ) (o : ColumnOpening) (pieces : List (List Triple)) (p : RawPage) (levels : Levels) (os : List Outcome) (q q' : Waiting) (b : Bool) → (r : IsReading stored limit o pieces (reading (gives_page p levels ∷ os) q b)) → TakesAll stored q.chunk_size o.column.way r.middle (joined r.whole ++ r.last) q' p levels → IsReading stored limit o pieces (reading os q' true)
-page-taken stored limit o pieces p levels os q q' b r t =
+pub page-taken : (stored : List ℕ → List Stored) (limit : ℕ) (o : ColumnOpening) (pieces : List (List Triple)) (p : RawPage) (levels : Levels) (os : List Outcome) (d : Option Texts) (q q' : Waiting) (b : Bool) → (r : IsReading stored limit o pieces (reading (gives_page p levels ∷ os) d q b)) → TakesAll stored d q.chunk_size o.column.way r.middle (joined r.whole ++ r.last) q' p levels → IsReading stored limit o pieces (reading os d q' true)
+page-taken stored limit o pieces p levels os d q q' b r t =
     let tk = t.takes.1 in
     let plainly = r.readable.values.plain in
-    let of-leaf : levels ≡ leaf_levels o.leaf = holds-left stored limit o pieces (gives_page p levels) os q b (IsOfLevels (leaf_levels o.leaf)) r r.readable.levels in
+    let of-leaf : levels ≡ leaf_levels o.leaf = holds-left stored limit o pieces (gives_page p levels) os d q b (IsOfLevels (leaf_levels o.leaf)) r r.readable.levels in
     let pairs : t.items ≡ map Ok (map pair_of tk.taken) = tk.pairs ∙ append-nil (map {B = Item} Ok (map pair_of tk.taken)) in
-    let page = taken-page (leaf_type o.column.data_type) o.leaf o.column.way stored p levels t.items t.values tk.taken t.takes.0 plainly of-leaf r.readable.definition t.has pairs tk.values tk.within (begins-taken t.items [] tk.taken tk.pairs (first-begins t.items t.first)) t.rows in
-    let q-is = queue-is stored limit o pieces (gives_page p levels ∷ os) q b r in
+    let page = taken-page (leaf_type o.column.data_type) o.leaf o.column.way stored d r.entries p levels t.items t.values tk.taken t.takes.0 plainly r.texts of-leaf r.readable.definition t.has pairs tk.values tk.within (begins-taken t.items [] tk.taken tk.pairs (first-begins t.items t.first)) t.rows in
+    let q-is = queue-is stored limit o pieces (gives_page p levels ∷ os) d q b r in
     let chunk : q'.chunk_size ≡ o.chunk_size = tk.chunk ∙ (ap (λ (v : Waiting). v.chunk_size) (sym q-is) ∙ r.chunk) in
     let outcome = gives_page p levels in
     let triples : (joined pieces ++ (joined r.whole ++ r.last)) ++ tk.taken ≡ joined pieces ++ (joined tk.whole ++ tk.last) = append_assoc (joined pieces) (joined r.whole ++ r.last) tk.taken ∙ ap (λ (ts : List Triple). joined pieces ++ ts) (sym tk.all) in
@@ -158,10 +163,14 @@ page-taken stored limit o pieces p levels os q q' b r t =
       wants = t.takes.2;
       taken = r.taken ++ outcome ∷ [];
       outcomes = r.outcomes ∙ sym (append_assoc r.taken (outcome ∷ []) os);
-      began = inl (refl, any-behind GivesPage r.taken outcome [] tt);
+      entries = r.entries;
+      behind = r.behind ++ outcome ∷ [];
+      front = front-on o.column o.leaf r.taken (outcome ∷ []) r.entries r.behind (λ _. tt) r.front;
+      texts = r.texts;
+      began = inl (refl, any-behind GivesPage r.behind outcome [] tt);
       pages = r.pages ++ page.page ∷ [];
-      are = pages-push o.leaf r.taken (outcome ∷ []) r.pages (page.page ∷ []) r.are (page.is, tt);
-      served = All-append IsServedPage r.taken (outcome ∷ []) r.served (All-cons IsServedPage outcome [] t.has.opened.served (All-nil IsServedPage));
+      are = pages-push o.leaf r.entries r.behind (outcome ∷ []) r.pages (page.page ∷ []) r.are (page.is, tt);
+      served = All-append IsServedPage r.behind (outcome ∷ []) r.served (All-cons IsServedPage outcome [] (t.has.indexed, t.has.opened.encoding) (All-nil IsServedPage));
       triples = rw (← triples, pages) (stored-both (leaf_type o.column.data_type) o.leaf.physical (joined pieces ++ (joined r.whole ++ r.last)) tk.taken (stored_in r.pages) page.page.triples r.triples page.stored);
     }
 
@@ -169,10 +178,10 @@ page-taken stored limit o pieces p levels os q q' b r t =
 pub of-rows : (o : ColumnOpening) (e : Error) → IsOfRows e → ((rows : List Slot) → AreColumnRows o rows → ⊥) → RefusesPiece o e
 of-rows o e is none = inr (inr (inr (inr (inr (inr (is, none))))))
 
-no-others : (l : Leaf) (t : LeafType) (p : Physical) (others : List Triple) (rest : List Page) → ArePagesIn l None [] rest → AreStored t p others (stored_in rest) → others ≡ []
-no-others l t p [] [] a s = refl
-no-others l t p (x ∷ others) [] a s = absurd s
-no-others l t p others (q ∷ rest) a s = absurd a
+no-others : (l : Leaf) (es : Option (List Value)) (t : LeafType) (p : Physical) (others : List Triple) (rest : List Page) → ArePagesIn l es [] rest → AreStored t p others (stored_in rest) → others ≡ []
+no-others l es t p [] [] a s = refl
+no-others l es t p (x ∷ others) [] a s = absurd s
+no-others l es t p others (q ∷ rest) a s = absurd a
 
 -- all rows: those of the triples so far, those that the last piece still wants, and those behind it
 pub rows-in-all : (stored : List ℕ → List Stored) (limit : ℕ) (o : ColumnOpening) (pieces : List (List Triple)) (now : Reading) → (r : IsReading stored limit o pieces now) → rows_in (joined pieces ++ (joined r.whole ++ r.last)) + (r.queued.rest - rows_in r.last) ≡ o.rows
@@ -211,20 +220,24 @@ pub no-rows : (ts : List Triple) → BeginsRow ts → rows_in ts ≤ 0 → ts �
 no-rows [] b n = refl
 no-rows (t ∷ ts) b n = absurd (let one : ◌≡◌ {A = ℕ} (cond (nat_eq t.repetition 0) 1 0) 1 = rw b refl in omega (arith, n, rows-cons t ts, one))
 
-pub ended-early : (stored : List ℕ → List Stored) (limit : ℕ) (o : ColumnOpening) (pieces : List (List Triple)) (q : Waiting) (b : Bool) (e : Error) → IsReading stored limit o pieces (reading [] q b) → e ≡ OutOfSpec S9 → 0 < q.rows → RefusesPiece o e
-ended-early stored limit o pieces q b e r is some = of-rows o e (inr (inr (inr (inr (inl is))))) (λ rows a.
-    let c = continues stored limit o pieces (reading [] q b) rows tt r a in
-    let none : c.others ≡ [] = no-others o.leaf (leaf_type o.column.data_type) o.leaf.physical c.others c.rest c.pages c.stored in
+pub ended-early : (stored : List ℕ → List Stored) (limit : ℕ) (o : ColumnOpening) (pieces : List (List Triple)) (d : Option Texts) (q : Waiting) (b : Bool) (e : Error) → IsReading stored limit o pieces (reading [] d q b) → e ≡ OutOfSpec S9 → 0 < q.rows → RefusesPiece o e
+ended-early stored limit o pieces d q b e r is some = of-rows o e (inr (inr (inr (inr (inl is))))) (λ rows a.
+    let c = continues stored limit o pieces (reading [] d q b) rows r (λ _. tt) a in
+    let none : c.others ≡ [] = no-others o.leaf r.entries (leaf_type o.column.data_type) o.leaf.physical c.others c.rest c.pages c.stored in
     let count : rows_in (column o.column.way rows) ≡ length rows = counted o.column.way rows in
-    let all = rows-in-all stored limit o pieces (reading [] q b) r in
-    let q-is = queue-is stored limit o pieces [] q b r in
-    absurd (omega (arith, count, ap rows_in c.parts, rows-append (joined pieces ++ (joined r.whole ++ r.last)) c.others, ap rows_in none, a.count, all, less-last stored limit o pieces (reading [] q b) r (omega (arith, some, ap (λ (v : Waiting). v.rows) q-is)), some, ap (λ (v : Waiting). v.rows) q-is)))
+    let all = rows-in-all stored limit o pieces (reading [] d q b) r in
+    let q-is = queue-is stored limit o pieces [] d q b r in
+    absurd (omega (arith, count, ap rows_in c.parts, rows-append (joined pieces ++ (joined r.whole ++ r.last)) c.others, ap rows_in none, a.count, all, less-last stored limit o pieces (reading [] d q b) r (omega (arith, some, ap (λ (v : Waiting). v.rows) q-is)), some, ap (λ (v : Waiting). v.rows) q-is)))
 
-pub source-fails : (stored : List ℕ → List Stored) (limit : ℕ) (o : ColumnOpening) (pieces : List (List Triple)) (e : Error) (os : List Outcome) (q : Waiting) (b : Bool) → IsReading stored limit o pieces (reading (fails e ∷ os) q b) → RefusesPiece o e
-source-fails stored limit o pieces e os q b r = inr (inl (holds-left stored limit o pieces (fails e) os q b FailsAs r r.readable.failing, any-left stored limit o pieces (fails e) os q b (λ x. x ≡ fails e) r refl))
+pub source-fails : (stored : List ℕ → List Stored) (limit : ℕ) (o : ColumnOpening) (pieces : List (List Triple)) (e : Error) (os : List Outcome) (d : Option Texts) (q : Waiting) (b : Bool) → IsReading stored limit o pieces (reading (fails e ∷ os) d q b) → RefusesPiece o e
+source-fails stored limit o pieces e os d q b r = inr (inl (holds-left stored limit o pieces (fails e) os d q b FailsAs r r.readable.failing, any-left stored limit o pieces (fails e) os d q b (λ x. x ≡ fails e) r refl))
 
-pub is-unserved : (stored : List ℕ → List Stored) (limit : ℕ) (o : ColumnOpening) (pieces : List (List Triple)) (n : ℕ) (body : List ℕ) (e : Error) (os : List Outcome) (q : Waiting) (b : Bool) → IsReading stored limit o pieces (reading (gives_dictionary n body ∷ os) q b) → e ≡ NotYetImplemented N4 → RefusesPiece o e
-is-unserved stored limit o pieces n body e os q b r is = inr (inr (inr (inl (is, inr (any-left stored limit o pieces (gives_dictionary n body) os q b IsUnserved r tt)))))
+-- all outcomes are given, with the dictionary page in front
+front-given : (c : ArrowColumn) (l : Leaf) (taken : List Outcome) (es : Option (List Value)) (behind : List Outcome) → ReadsFront c l taken es behind → All IsGiven behind → All IsGiven taken
+front-given c l [] es behind f a = rw f.1 at a
+front-given c l (gives_page p levels ∷ os) es behind f a = rw f.1 at a
+front-given c l (fails e ∷ os) es behind f a = rw f.1 at a
+front-given c l (gives_dictionary n body ∷ os) es behind f a = All-cons IsGiven (gives_dictionary n body) os tt (rw f.4 at a)
 
 pub record Gives (stored : List ℕ → List Stored) (limit : ℕ) (o : ColumnOpening) (pieces : List (List Triple)) (p : List Kept × List Slot) (now : Reading) : Type 0 where
   pub triples : List Triple
@@ -240,39 +253,17 @@ pub begins-joined : (n : Option ℕ) (left rest : ℕ) (pieces : List (List Trip
 begins-joined n left rest [] last s b = b
 begins-joined n left rest (ts ∷ pieces) last s b = rw (append_assoc ts (joined pieces) last) (begins-append ts (joined pieces ++ last) s.2 (λ _. begins-joined n (left - rows_in ts) rest pieces last s.3 b))
 
-some-pages : (t : LeafType) (p : Physical) (l : Leaf) (os : List Outcome) (ps : List Page) (a b c : List Triple) → ArePagesIn l None os ps → stored_in ps ≡ a ++ (b ++ c) → 0 < rows_in b → 0 < length os
-some-pages t p l [] [] a b c are e some = absurd (omega (arith, ap rows_in e, rows-append a (b ++ c), rows-append b c, some))
-some-pages t p l [] (q ∷ ps) a b c are e some = absurd are
-some-pages t p l (x ∷ os) ps a b c are e some = omega arith
+some-pages : (t : LeafType) (p : Physical) (l : Leaf) (es : Option (List Value)) (os : List Outcome) (ps : List Page) (a b c : List Triple) → ArePagesIn l es os ps → stored_in ps ≡ a ++ (b ++ c) → 0 < rows_in b → 0 < length os
+some-pages t p l es [] [] a b c are e some = absurd (omega (arith, ap rows_in e, rows-append a (b ++ c), rows-append b c, some))
+some-pages t p l es [] (q ∷ ps) a b c are e some = absurd are
+some-pages t p l es (x ∷ os) ps a b c are e some = omega arith
 
-starts-some : (l : Leaf) (os left : List Outcome) (ps : List Page) → ArePagesIn l None os ps → 0 < length os → StartsPlain (os ++ left)
-starts-some l [] left ps a some = absurd (omega (arith, some))
-starts-some l (gives_page p levels ∷ os) left ps a some = tt
-starts-some l (gives_dictionary n body ∷ os) left ps a some = absurd a
-starts-some l (fails e ∷ os) left ps a some = absurd a
-
--- behind pages stands no dictionary page where there are rows
-no-dictionary : (l : Leaf) (left : List Outcome) (rest : List Page) → ArePagesIn l None left rest → StartsPlain left
-no-dictionary l [] rest a = tt
-no-dictionary l (gives_page p levels ∷ os) rest a = tt
-no-dictionary l (gives_dictionary n body ∷ os) rest a = absurd a
-no-dictionary l (fails e ∷ os) rest a = tt
-
-starts-left : (stored : List ℕ → List Stored) (limit : ℕ) (o : ColumnOpening) (pieces : List (List Triple)) (outcomes : List Outcome) (q : Waiting) (b : Bool) (rows : List Slot) → (r : IsReading stored limit o pieces (reading outcomes q b)) → 0 < length r.taken → AreColumnRows o rows → StartsPlain outcomes
-starts-left stored limit o pieces outcomes q b rows r some a =
-    let c = a.chunk in
-    let holds : HoldsChunk o.leaf (r.taken ++ outcomes) c = subst (λ (xs : List Outcome). HoldsChunk o.leaf xs c) r.outcomes a.holds.holds in
-    let h = holds-plain o.leaf (r.taken ++ outcomes) c (starts-some o.leaf r.taken outcomes r.pages r.are some) holds in
-    let are : ArePagesIn o.leaf None (r.taken ++ outcomes) c.pages = subst (λ (x : Option (List Value)). ArePagesIn o.leaf x (r.taken ++ outcomes) c.pages) h.0 h.1 in
-    let split = pages-split o.leaf r.taken outcomes r.pages c.pages r.are are in
-    no-dictionary o.leaf outcomes split.0 split.2
-
-pub gives-piece : (stored : List ℕ → List Stored) (limit : ℕ) (o : ColumnOpening) (pieces : List (List Triple)) (outcomes : List Outcome) (q q' : Waiting) (b : Bool) (p : List Kept × List Slot) → IsReading stored limit o pieces (reading outcomes q b) → q ≡ record q' { whole = p ∷ q'.whole } → Gives stored limit o pieces p (reading outcomes q' b)
-gives-piece stored limit o pieces outcomes q q' b p r e =
+pub gives-piece : (stored : List ℕ → List Stored) (limit : ℕ) (o : ColumnOpening) (pieces : List (List Triple)) (outcomes : List Outcome) (d : Option Texts) (q q' : Waiting) (b : Bool) (p : List Kept × List Slot) → IsReading stored limit o pieces (reading outcomes d q b) → q ≡ record q' { whole = p ∷ q'.whole } → Gives stored limit o pieces p (reading outcomes d q' b)
+gives-piece stored limit o pieces outcomes d q q' b p r e =
     let w = o.column.way in
     let t = leaf_type o.column.data_type in
-    let k : IsQueued w r.middle r.whole r.last (record q' { whole = p ∷ q'.whole }) = subst (λ (v : Waiting). IsQueued w r.middle r.whole r.last v) e (queued-of stored limit o pieces outcomes q b r) in
-    let chunk : q'.chunk_size ≡ o.chunk_size = sym (ap (λ (v : Waiting). v.chunk_size) e) ∙ (sym (ap (λ (v : Waiting). v.chunk_size) (queue-is stored limit o pieces outcomes q b r)) ∙ r.chunk) in
+    let k : IsQueued w r.middle r.whole r.last (record q' { whole = p ∷ q'.whole }) = subst (λ (v : Waiting). IsQueued w r.middle r.whole r.last v) e (queued-of stored limit o pieces outcomes d q b r) in
+    let chunk : q'.chunk_size ≡ o.chunk_size = sym (ap (λ (v : Waiting). v.chunk_size) e) ∙ (sym (ap (λ (v : Waiting). v.chunk_size) (queue-is stored limit o pieces outcomes d q b r)) ∙ r.chunk) in
     let split = first-piece w r.whole q'.whole p k.are in
     let ts = split.0 in
     let more = split.1 in
@@ -290,27 +281,28 @@ gives-piece stored limit o pieces outcomes q q' b p r e =
     let same-b : rows_in second.0 ≡ rows_in ts = rows-stored t o.leaf.physical ts second.0 second.3 in
     let same-c : rows_in second.1 ≡ rows_in (joined more ++ r.last) = rows-stored t o.leaf.physical (joined more ++ r.last) second.1 second.4 in
     let parts : stored_in r.pages ≡ first.0 ++ (second.0 ++ second.1) = first.2 ∙ ap (λ (zs : List Triple). first.0 ++ zs) second.2 in
-    let some-taken : 0 < length r.taken = some-pages t o.leaf.physical o.leaf r.taken r.pages first.0 second.0 second.1 r.are parts (omega (arith, same-b, sized.1)) in
+    let some-taken : 0 < length r.behind = some-pages t o.leaf.physical o.leaf r.entries r.behind r.pages first.0 second.0 second.1 r.are parts (omega (arith, same-b, sized.1)) in
+    let taken-some-page : r.taken ≡ [] → StartsPlain outcomes = λ none. absurd (omega (arith, some-taken, ap length (behind-none o.column o.leaf r.taken r.entries r.behind r.front none))) in
     record {
       triples = ts;
       next = record {
         count = count ∙ ap (piece_size o.chunk_size) (omega (arith, before));
         some = sized.1;
-        entries = None;
+        entries = r.entries;
         triples = stored_in r.pages;
         reads = record {
-          behind = o.outcomes;
-          front = subst (λ (xs : List Outcome). ReadsFront o.column o.leaf xs None xs) (sym r.outcomes) (front-taken o.column o.leaf r.taken outcomes r.pages r.are some-taken);
-          pages = subst (λ (xs : List Outcome). ReadsPages o.column o.leaf None xs (stored_in r.pages)) (sym r.outcomes) (reads-taken o.column o.leaf r.taken outcomes r.pages (joined pieces ++ (joined r.whole ++ r.last)) r.readable.direct r.are r.served r.triples some-taken);
+          behind = r.behind ++ outcomes;
+          front = subst (λ (xs : List Outcome). ReadsFront o.column o.leaf xs r.entries (r.behind ++ outcomes)) (sym r.outcomes) (front-on o.column o.leaf r.taken outcomes r.entries r.behind taken-some-page r.front);
+          pages = reads-taken o.column o.leaf r.entries r.behind outcomes r.pages (joined pieces ++ (joined r.whole ++ r.last)) r.readable.direct r.are r.served r.triples some-taken;
         };
         stored = second.0;
         are = second.3;
         part = subst (λ (zs : List Triple). IsPieceOf o.chunk_size zs second.0) (sym parts) (piece-of o.chunk_size o.rows r.middle pieces first.0 second.0 second.1 r.sized (rows-stored t o.leaf.physical (joined pieces) first.0 first.3 ∙ rows-joined pieces) (omega (arith, count, sized.1, piece-few o.chunk_size r.middle)) (omega (arith, same-b, same-c, few-behind)) (inl (same-b ∙ count)) (omega (arith, same-b, count)) (begins-stored t o.leaf.physical (joined pieces) first.0 first.3 (rw append-nil at (begins-joined o.chunk_size o.rows r.middle pieces [] r.sized tt))) (subst BeginsRow second.2 (begins-stored t o.leaf.physical (ts ++ (joined more ++ r.last)) first.1 first.4 here-begins)) (begins-stored t o.leaf.physical (joined more ++ r.last) second.1 second.4 behind-begins));
         only = (λ rows a.
-            let c = continues stored limit o pieces (reading outcomes q b) rows (starts-left stored limit o pieces outcomes q b rows r some-taken a) r a in
+            let c = continues stored limit o pieces (reading outcomes d q b) rows r taken-some-page a in
             let column-is : column w rows ≡ joined pieces ++ (ts ++ ((joined more ++ r.last) ++ c.others)) =
             c.parts ∙ (ap (λ (xs : List Triple). (joined pieces ++ xs) ++ c.others) regrouped ∙ (append_assoc (joined pieces) (ts ++ (joined more ++ r.last)) c.others ∙ ap (λ (xs : List Triple). joined pieces ++ xs) (append_assoc ts (joined more ++ r.last) c.others))) in
-            let rest-begins : BeginsRow ((joined more ++ r.last) ++ c.others) = begins-append (joined more ++ r.last) c.others behind-begins (λ _. stored-begins t o.leaf.physical c.others (stored_in c.rest) c.stored (pages-begin o.leaf outcomes c.rest c.pages)) in
+            let rest-begins : BeginsRow ((joined more ++ r.last) ++ c.others) = begins-append (joined more ++ r.last) c.others behind-begins (λ _. stored-begins t o.leaf.physical c.others (stored_in c.rest) c.stored (pages-begin o.leaf r.entries outcomes c.rest c.pages)) in
             rw (rows-joined pieces) at (rows-between w rows (joined pieces) ts ((joined more ++ r.last) ++ c.others) column-is (begins-append ts ((joined more ++ r.last) ++ c.others) sized.2 (λ _. rest-begins)) rest-begins));
       };
       is = split.3;
@@ -336,9 +328,13 @@ gives-piece stored limit o pieces outcomes q q' b p r e =
           most = k.most;
           begins = k.begins;
         };
-        wants = subst (λ (v : Waiting). IsOpen v) e (subst (λ (v : Waiting). IsOpen v) (queue-is stored limit o pieces outcomes q b r) r.wants);
+        wants = subst (λ (v : Waiting). IsOpen v) e (subst (λ (v : Waiting). IsOpen v) (queue-is stored limit o pieces outcomes d q b r) r.wants);
         taken = r.taken;
         outcomes = r.outcomes;
+        entries = r.entries;
+        behind = r.behind;
+        front = r.front;
+        texts = r.texts;
         began = r.began;
         pages = r.pages;
         are = r.are;
@@ -347,46 +343,50 @@ gives-piece stored limit o pieces outcomes q q' b p r e =
       };
     }
 
-pub is-whole : (stored : List ℕ → List Stored) (limit : ℕ) (o : ColumnOpening) (pieces : List (List Triple)) (outcomes : List Outcome) (q : Waiting) (b : Bool) → IsReading stored limit o pieces (reading outcomes q b) → q.whole ≡ [] → q.rows ≡ 0 → outcomes ≡ [] → IsWhole o pieces
-is-whole stored limit o pieces outcomes q b r w n e =
-    let q-is = queue-is stored limit o pieces outcomes q b r in
+pub is-whole : (stored : List ℕ → List Stored) (limit : ℕ) (o : ColumnOpening) (pieces : List (List Triple)) (outcomes : List Outcome) (d : Option Texts) (q : Waiting) (b : Bool) → IsReading stored limit o pieces (reading outcomes d q b) → q.whole ≡ [] → q.rows ≡ 0 → outcomes ≡ [] → IsWhole o pieces
+is-whole stored limit o pieces outcomes d q b r w n e =
+    let q-is = queue-is stored limit o pieces outcomes d q b r in
     let whole : r.whole ≡ [] = no-pieces o.column.way r.whole r.queue.whole (ap (λ (v : Waiting). v.whole) q-is ∙ w) r.queued.are in
     let last : r.last ≡ [] = no-rows r.last r.queued.begins (omega (arith, r.queued.most, ap (λ (v : Waiting). v.rows) q-is, n)) in
     let outcomes-are : o.outcomes ≡ r.taken = r.outcomes ∙ (ap (λ (xs : List Outcome). r.taken ++ xs) e ∙ append-nil r.taken) in
-    let chunk : Chunk = record { entries = None; pages = r.pages } in
+    let chunk : Chunk = record { entries = r.entries; pages = r.pages } in
     let triples : joined pieces ++ (joined r.whole ++ r.last) ≡ joined pieces = rw (whole, last) (append-nil (joined pieces)) in
-    let all = rows-in-all stored limit o pieces (reading outcomes q b) r in
+    let all = rows-in-all stored limit o pieces (reading outcomes d q b) r in
     record {
-      given = subst (λ (xs : List Outcome). All IsGiven xs) (sym outcomes-are) (pages-given o.leaf r.taken r.pages r.are);
+      given = subst (λ (xs : List Outcome). All IsGiven xs) (sym outcomes-are) (front-given o.column o.leaf r.taken r.entries r.behind r.front (pages-given o.leaf r.entries r.behind r.pages r.are));
       chunk = chunk;
-      holds = subst (λ (xs : List Outcome). HoldsChunk o.leaf xs chunk) (sym outcomes-are) (plain-holds o.leaf r.taken chunk (rw append-nil at (starts-behind o.leaf r.taken [] r.pages r.are tt)) refl r.are);
+      holds = subst (λ (xs : List Outcome). HoldsChunk o.leaf xs chunk) (sym outcomes-are) (holds-front o.column o.leaf r.taken r.entries r.behind r.pages r.front r.are);
       stored = rw triples at r.triples;
-      plain = refl;
-      counted = omega (arith, all, ap rows_in triples, rows-joined pieces, r.queued.left, r.queued.rows, nothing-left-over stored limit o pieces (reading outcomes q b) r (omega (arith, n, ap (λ (v : Waiting). v.rows) q-is)));
+      inside = front-inside o.column o.leaf r.taken r.entries r.behind r.front;
+      counted = omega (arith, all, ap rows_in triples, rows-joined pieces, r.queued.left, r.queued.rows, nothing-left-over stored limit o pieces (reading outcomes d q b) r (omega (arith, n, ap (λ (v : Waiting). v.rows) q-is)));
     }
 
 -- ---- the loop over pages
+pub ended : (stored : List ℕ → List Stored) (limit : ℕ) (o : ColumnOpening) (pieces : List (List Triple)) (taken : Bool) (after : List Outcome) (d : Option Texts) (q q' : Waiting) (b : Bool) → IsReading stored limit o pieces (reading [] d q b) → after ≡ [] → q' ≡ q → taken ≡ false → q.rows ≡ 0 → Steps stored limit o pieces taken q' after d b
+ended stored limit o pieces true after d q q' b r e same none rows = absurd (cc none)
+ended stored limit o pieces false after d q q' b r e same none rows = rw (e, same) (refl, rows, r)
+
 pub not-not : (b : Bool) → not (not b) ≡ b
 not-not true = refl
 not-not false = refl
 
-pub ended-filled : (stored : List ℕ → List Stored) (limit : ℕ) (o : ColumnOpening) (pieces : List (List Triple)) (began taken : Bool) (q : Waiting) (os : List Outcome) → taken ≡ false → Steps stored limit o pieces (not (not began)) taken q os → IsFilled stored limit o pieces q os began
-ended-filled stored limit o pieces began true q os e s = absurd (cc e)
-ended-filled stored limit o pieces began false q os e s = record {
-  is = subst (λ (b : Bool). IsReading stored limit o pieces (reading os q b)) (not-not began) s.2;
+pub ended-filled : (stored : List ℕ → List Stored) (limit : ℕ) (o : ColumnOpening) (pieces : List (List Triple)) (taken : Bool) (q : Waiting) (os : List Outcome) (d : Option Texts) (began : Bool) → taken ≡ false → Steps stored limit o pieces taken q os d began → IsFilled stored limit o pieces q os d began
+ended-filled stored limit o pieces true q os d began e s = absurd (cc e)
+ended-filled stored limit o pieces false q os d began e s = record {
+  is = s.2;
   full = inr (s.0, s.1);
 }
 
-pub steps-on : (stored : List ℕ → List Stored) (limit : ℕ) (o : ColumnOpening) (pieces : List (List Triple)) (began taken : Bool) (q : Waiting) (os : List Outcome) → taken ≡ true → Steps stored limit o pieces began taken q os → IsReading stored limit o pieces (reading os q true)
-steps-on stored limit o pieces began true q os e s = s
-steps-on stored limit o pieces began false q os e s = absurd (cc e)
+pub steps-on : (stored : List ℕ → List Stored) (limit : ℕ) (o : ColumnOpening) (pieces : List (List Triple)) (taken : Bool) (q : Waiting) (os : List Outcome) (d : Option Texts) (began : Bool) → taken ≡ true → Steps stored limit o pieces taken q os d began → IsReading stored limit o pieces (reading os d q began)
+steps-on stored limit o pieces true q os d began e s = s
+steps-on stored limit o pieces false q os d began e s = absurd (cc e)
 
 pub begun-some : (parts : List InitNested) (o : Option Waiting) (q : Waiting) → ends_in_leaf parts ≡ true → MatchOption o (ends_in_leaf parts ≡ false) (λ x. x ≡ q) → o ≡ Some q
 begun-some parts None q e m = absurd (let h = sym e ∙ m in cc)
 begun-some parts (Some x) q e m = ap Some m
 
-pub nothing-more : (stored : List ℕ → List Stored) (limit : ℕ) (o : ColumnOpening) (pieces : List (List Triple)) (os : List Outcome) (q : Waiting) (b : Bool) → IsFilled stored limit o pieces q os b → q.whole ≡ [] → IsWhole o pieces
-nothing-more stored limit o pieces os q b f w = elim f.full [
+pub nothing-more : (stored : List ℕ → List Stored) (limit : ℕ) (o : ColumnOpening) (pieces : List (List Triple)) (os : List Outcome) (d : Option Texts) (q : Waiting) (b : Bool) → IsFilled stored limit o pieces q os d b → q.whole ≡ [] → IsWhole o pieces
+nothing-more stored limit o pieces os d q b f w = elim f.full [
   | inl some ↦ absurd (omega (arith, some, ap length w))
-  | inr none ↦ is-whole stored limit o pieces os q b f.is w none.1 none.0
+  | inr none ↦ is-whole stored limit o pieces os d q b f.is w none.1 none.0
 ]

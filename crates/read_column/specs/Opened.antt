@@ -1,5 +1,5 @@
 -- A data page that is opened for reading (Parquet format, "Data Pages").
-use Rattle.std.specs.Prelude.{◌≡◌, ◌⊎◌, ℕ, ◌<◌, ◌^◌, Bool, false, nat_lt, pos, Ok, Err, List, [], ◌∷◌}
+use Rattle.std.specs.Prelude.{◌≡◌, ◌⊎◌, ℕ, ◌<◌, ◌^◌, Bool, true, false, nat_lt, Ok, Err, List, [], ◌∷◌}
 use Rattle.columns_base.specs.declared.error.Error.{Error}
 use Rattle.columns_base.specs.declared.error.Error.TheVariants.{NotYetImplemented, OutOfSpec}
 use Rattle.columns_base.specs.declared.error.N.TheVariants.{N4}
@@ -7,16 +7,23 @@ use Rattle.columns_base.specs.declared.error.S.TheVariants.{S4}
 use Rattle.pq_numbers.specs.Bits.{IsWidth}
 use Rattle.pq_tree.specs.Headers.{Header, data_page, data_page_2}
 use Rattle.pq_tree.specs.Tree.{Leaf, max_definition, max_repetition}
-use Rattle.pq_files.specs.Chunk.{RawPage, count_in}
-use Rattle.pq_files.specs.Page.{Sections, IsSplit, SaysRuns}
+use Rattle.pq_files.specs.Chunk.{IsData, RawPage, count_in}
+use Rattle.pq_files.specs.Page.{Encoding, plain, dictionary, HasEncoding, Sections, IsSplit, SaysRuns}
 use Rattle.pq_pages.specs.Outcomes.{Levels, Outcome, gives_page}
 use Rattle.read_walk.specs.Pairs.{Item, page_items}
 
--- a data page that is read today, in PLAIN
+-- how values stand that are read today: plain, or as indices of entries
+abbrev pub encoding_by : Bool → Encoding
+encoding_by false = plain
+encoding_by true = dictionary
+
+-- a data page that is read today
 abbrev pub IsServed : Header → Type 0
-IsServed (data_page h) = h.encoding ≡ pos 0
-IsServed (data_page_2 h) = h.encoding ≡ pos 0
-IsServed h = ⊥
+IsServed h = (indexed : Bool) × HasEncoding h (encoding_by indexed)
+
+-- Its values are read, in a column where they stand in bytes of their own or not: only where they do are entries taken by their indices.
+abbrev pub IsServedIn : Bool → Header → Type 0
+IsServedIn own h = (indexed : Bool) × HasEncoding h (encoding_by indexed) × (indexed ≡ true → own ≡ true)
 
 abbrev pub IsServedPage : Outcome → Type 0
 IsServedPage (gives_page p levels) = IsServed p.header
@@ -36,9 +43,10 @@ StatesRows h n = Unit {0}
 abbrev pub IsCutInto : RawPage → Levels → Sections → Type 0
 IsCutInto p levels s = (l : Leaf) → max_repetition l ≡ levels.repetition → max_definition l ≡ levels.definition → IsSplit l p.header p.body s
 
--- The page is served, and these are its sections, its column's greatest levels, and how many pairs it has.
-pub record IsOpened (p : RawPage) (levels : Levels) (s : Sections) (repetition definition n : ℕ) : Type 0 where
-  pub served : IsServed p.header
+-- The page is served, with indices or plain, and these are its sections, its column's greatest levels, and how many pairs it has.
+pub record IsOpened (own indexed : Bool) (p : RawPage) (levels : Levels) (s : Sections) (repetition definition n : ℕ) : Type 0 where
+  pub encoding : HasEncoding p.header (encoding_by indexed)
+  pub entries : indexed ≡ true → own ≡ true
   pub runs : SayRuns levels p.header
   pub split : IsCutInto p levels s
   pub repetitions : repetition ≡ levels.repetition
@@ -48,9 +56,9 @@ pub record IsOpened (p : RawPage) (levels : Levels) (s : Sections) (repetition d
   pub low : definition < 2 ^ 32
 
 -- an error for which it is not opened, with its cause
-abbrev pub CannotOpen : RawPage → Levels → Error → Type 0
-CannotOpen p levels e =
-    ((e ≡ NotYetImplemented N4) × ((IsServed p.header → ⊥) ⊎ (SayRuns levels p.header → ⊥)))
+abbrev pub CannotOpen : Bool → RawPage → Levels → Error → Type 0
+CannotOpen own p levels e =
+    ((e ≡ NotYetImplemented N4) × ((IsData p.header × (IsServedIn own p.header → ⊥)) ⊎ (SayRuns levels p.header → ⊥)))
     ⊎ ((e ≡ OutOfSpec S4) × ((l : Leaf) → max_repetition l ≡ levels.repetition → max_definition l ≡ levels.definition → (s : Sections) → IsSplit l p.header p.body s → ⊥))
 
 -- the items of so many pairs of two sections, whatever the widths of their levels are called

@@ -1,27 +1,28 @@
 //! A data page as it is read.
-ghost use Rattle.std.specs.Prelude.{◌≡◌, ◌⊎◌, ◌↔◌, ◌++◌, ◌<◌, ◌≤◌, ◌^◌, ℕ, ℤ, List, Option, Some, None, IfErr, IfOk, IsTrue, MatchOption, MatchResult, length};
+ghost use Rattle.std.specs.Prelude.{◌≡◌, ◌⊎◌, ◌↔◌, ◌++◌, ◌<◌, ◌≤◌, ◌^◌, ℕ, ℤ, Bool, true, List, Option, Some, None, IfErr, IfOk, IsTrue, MatchOption, MatchResult, length};
 ghost use Rattle.columns_base.specs.declared.error.Error.TheVariants.{OutOfSpec};
 ghost use Rattle.columns_base.specs.declared.error.S.TheVariants.{S4};
 ghost use Rattle.pq_tree.specs.declared.types.DataPageHeader.TheVariants.{V1, V2};
 ghost use Rattle.pq_tree.specs.declared.types.TypedPageHeader.TheVariants as T;
 ghost use Rattle.pq_tree.specs.Tree.{Leaf, max_definition as leaf_definition, max_repetition as leaf_repetition};
 ghost use Rattle.pq_tree.specs.Views.{natural_part, typed_view};
-ghost use Rattle.pq_files.specs.Page.{Sections, IsSplit, IsSplit2, SaysRuns};
+ghost use Rattle.pq_files.specs.Chunk.{IsData};
+ghost use Rattle.pq_files.specs.Page.{HasEncoding, Sections, IsSplit, IsSplit2, SaysRuns, encoding_numbered};
 ghost use Rattle.pq_pages.specs.Outcomes.{levels_in, raw_page};
 ghost use Rattle.pq_pages.specs.Split.{sections};
 ghost use Rattle.read_walk.specs.Pairs.{Item};
-ghost use Rattle.read_column.specs.Opened.{ArePairsOf, CannotOpen, IsCutInto, IsOpened, IsServed, SayRuns, StatesRows, first_goes_on};
-ghost use Rattle.read_column.specs.Reading.{HasItems};
+ghost use Rattle.read_column.specs.Opened.{ArePairsOf, CannotOpen, IsCutInto, IsOpened, IsServed, IsServedIn, SayRuns, StatesRows, encoding_by, first_goes_on};
+ghost use Rattle.read_column.specs.Reading.{HasPairs};
 
 use columns_base::{Error, N, Result, S};
 use pq_pages::{DataPage, split_buffer, splits_are_of_pages};
 use pq_tree::{DataPageHeader, DataPageHeaderV1, DataPageHeaderV2, Descriptor};
-use read_pieces::PlainBytes;
 use read_walk::NestedPage;
 
-/// The sections of a data page that is served, the greatest levels of its column, and how many pairs it has.
+/// The sections of a data page that is served, whether its values are indices, the greatest levels of its column, and how many pairs it has.
 #[derive(Debug, Drop)]
 pub struct OpenPage<'a> {
+    pub is_indexed: bool,
     pub repetitions: &'a [u8],
     pub definitions: &'a [u8],
     pub values: &'a [u8],
@@ -40,13 +41,40 @@ fn natural(number: i32) -> usize
     number as usize
 }
 
-// The values stand plain.
-fn is_plain(header: &DataPageHeader) -> bool
-    ensures { IsTrue result ↔ IsServed (typed_view (T.Data header.now)) }
+// Whether values in the encoding of this number are indices; none where it is not read.
+fn is_indexed_by(encoding: i32) -> Option<bool>
+    ensures { MatchOption result ((indexed : Bool) → encoding_numbered encoding ≡ Some (encoding_by indexed) → ⊥) (λ indexed. encoding_numbered encoding ≡ Some (encoding_by indexed)) }
+{
+    if encoding == 0 {
+        return Some(false);
+    }
+    if encoding == 2 {
+        return Some(true);
+    }
+    if encoding == 8 {
+        return Some(true);
+    }
+    None
+}
+
+// Whether the values are indices; none where their encoding is not read.
+fn is_indexed(header: &DataPageHeader) -> Option<bool>
+    ensures { MatchOption result (IsData (typed_view (T.Data header.now)) × (IsServed (typed_view (T.Data header.now)) → ⊥)) (λ indexed. HasEncoding (typed_view (T.Data header.now)) (encoding_by indexed)) }
 {
     match header {
-        DataPageHeader::V1(header) => header.encoding == 0,
-        DataPageHeader::V2(header) => header.encoding == 0,
+        DataPageHeader::V1(header) => is_indexed_by(header.encoding),
+        DataPageHeader::V2(header) => is_indexed_by(header.encoding),
+    }
+}
+
+// The same in a column where values stand in bytes of their own or not: only where they do are indices read.
+fn is_served(header: &DataPageHeader, own: bool) -> Option<bool>
+    ensures { MatchOption result (IsData (typed_view (T.Data header.now)) × (IsServedIn own (typed_view (T.Data header.now)) → ⊥)) (λ indexed. HasEncoding (typed_view (T.Data header.now)) (encoding_by indexed) × (indexed ≡ true → own ≡ true)) }
+{
+    match is_indexed(header) {
+        None => None,
+        Some(true) if !own => None,
+        Some(indexed) => Some(indexed),
     }
 }
 
@@ -171,19 +199,20 @@ fn cut(page: &DataPage) -> Result<(&[u8], &[u8], &[u8])>
     }
 }
 
-/// Opens a data page, PLAIN.
+/// Opens a data page, of a column where each value stands in bytes of its own or not.
 ///
 /// # Errors
 ///
-/// N4 for another encoding, or levels that are no runs; S4 where a section of levels lies outside of the body.
-pub fn open_page(page: &DataPage) -> Result<OpenPage<'_>>
-    ensures ok { IfOk result (λ x. IsOpened (raw_page page.now) (levels_in page.now.descriptor) (sections x.repetitions.now x.definitions.now x.values.now) x.max_repetition x.max_definition x.count) }
-    ensures err { IfErr result (CannotOpen (raw_page page.now) (levels_in page.now.descriptor)) }
+/// N4 for another encoding than PLAIN and, where values stand in bytes of their own, those of a dictionary, or levels that are no runs; S4 where a
+/// section of levels lies outside of the body.
+pub fn open_page(page: &DataPage, own: bool) -> Result<OpenPage<'_>>
+    ensures ok { IfOk result (λ x. IsOpened own x.is_indexed (raw_page page.now) (levels_in page.now.descriptor) (sections x.repetitions.now x.definitions.now x.values.now) x.max_repetition x.max_definition x.count) }
+    ensures err { IfErr result (CannotOpen own (raw_page page.now) (levels_in page.now.descriptor)) }
 {
     let header = page.header();
-    if !is_plain(header) {
+    let Some(is_indexed) = is_served(header, own) else {
         return Err(Error::NotYetImplemented(N::N4));
-    }
+    };
     let (max_repetition, max_definition) = greatest_levels(page);
     if !say_runs(max_repetition, max_definition, header) {
         return Err(Error::NotYetImplemented(N::N4));
@@ -191,6 +220,7 @@ pub fn open_page(page: &DataPage) -> Result<OpenPage<'_>>
     let count = page.num_values();
     match cut(page) {
         Ok((repetitions, definitions, values)) => Ok(OpenPage {
+            is_indexed,
             repetitions,
             definitions,
             values,
@@ -250,33 +280,33 @@ pub fn goes_on(pairs: &mut NestedPage<'_>) -> bool
     }
 }
 
-/// The pairs of a data page that is served, the bytes of its values, and whether the first pair goes on with a row.
+/// The pairs of a data page that is served, the section of its values, whether they are indices, and whether the first pair goes on with a row.
 #[derive(Drop)]
 pub struct PagePairs<'a> {
     pub pairs: NestedPage<'a>,
-    pub bytes: PlainBytes<'a>,
+    pub section: &'a [u8],
+    pub is_indexed: bool,
     pub goes_on: bool,
 }
 
-/// Opens a data page, PLAIN, for its pairs.
+/// Opens a data page for its pairs, of a column where each value stands in bytes of its own or not.
 ///
 /// # Errors
 ///
 /// Those of `open_page`.
-pub fn open_pairs(page: &DataPage) -> Result<PagePairs<'_>>
-    ensures ok { IfOk result (λ x. HasItems (raw_page page.now) (levels_in page.now.descriptor) x.pairs x.bytes.values.now × (x.goes_on ≡ first_goes_on x.pairs)) }
-    ensures err { IfErr result (CannotOpen (raw_page page.now) (levels_in page.now.descriptor)) }
+pub fn open_pairs(page: &DataPage, own: bool) -> Result<PagePairs<'_>>
+    ensures ok { IfOk result (λ x. HasPairs own x.is_indexed (raw_page page.now) (levels_in page.now.descriptor) x.pairs x.section.now × (x.goes_on ≡ first_goes_on x.pairs)) }
+    ensures err { IfErr result (CannotOpen own (raw_page page.now) (levels_in page.now.descriptor)) }
 {
-    let open = match open_page(page) {
+    let open = match open_page(page, own) {
         Ok(open) => open,
         Err(error) => return Err(error),
     };
     match open.pairs_and_first() {
         Ok((pairs, goes_on)) => Ok(PagePairs {
             pairs,
-            bytes: PlainBytes {
-                values: open.values,
-            },
+            section: open.values,
+            is_indexed: open.is_indexed,
             goes_on,
         }),
         Err(error) => Err(error),

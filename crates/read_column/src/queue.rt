@@ -139,8 +139,8 @@ impl<L: LeafReader> Queue<L> {
         page: &mut NestedPage<'a>,
         bytes: &mut PlainBytes<'b>,
     ) -> Result<Self>
-        ensures ok { IfOk result (λ q. ExtendsLast self q page.old page.new (L.stored bytes.old.values.now) (L.stored bytes.new.values.now)) }
-        ensures err { IfErr result (Refuses L.byte_limit (self.rows - count self.state) page.old (L.stored bytes.old.values.now) self.state self.leaf) }
+        ensures ok { IfOk result (λ q. ExtendsLast self q page.old page.new (L.stored bytes.old.values.now bytes.old.bit) (L.stored bytes.new.values.now bytes.new.bit)) }
+        ensures err { IfErr result (Refuses L.byte_limit (self.rows - count self.state) page.old (L.stored bytes.old.values.now bytes.old.bit) self.state self.leaf) }
     {
         let Queue {
             alloc,

@@ -1,30 +1,35 @@
 //! The reader of a column.
-ghost use Rattle.std.specs.Prelude.{◌≡◌, ◌⊎◌, ◌<◌, [], length, not, IfErr, IfOk, IsTrue, List, false};
+ghost use Rattle.std.specs.Prelude.{◌≡◌, ◌⊎◌, ◌<◌, [], length, is_some, IfErr, IfOk, OnOk, IsTrue, List, Some, None, true, false};
 ghost use Rattle.columns_base.specs.declared.error.Error.TheVariants.{Memory, OutOfSpec};
-ghost use Rattle.columns_base.specs.declared.error.S.TheVariants.{S9};
+ghost use Rattle.columns_base.specs.declared.error.S.TheVariants.{S3, S9};
 ghost use Rattle.shredding.specs.Along.{thin};
 ghost use Rattle.shredding.specs.Shred.{Triple};
 ghost use Rattle.read_pieces.specs.Columns.{ColumnOpening, GivesPiece, IsReadable, RefusesPiece};
 ghost use Rattle.read_pieces.specs.Pieces.{IsPiece};
 ghost use Rattle.read_state.specs.Initial.{IsWay};
+ghost use Rattle.read_column.specs.Dictionary.{CannotHold, HoldsEntries, Texts};
 ghost use Rattle.read_column.specs.Reading.{IsFilled, IsReading, Steps, reading};
 
+use crate::entries::{Entries, read_entries};
 use crate::queue::Queue;
 use crate::take::take_page;
-use columns_base::{Error, N, Result, S};
-use pq_pages::{Page, Pages};
+use columns_base::{Error, Result, S};
+use pq_pages::{DictPage, Page, Pages};
 use read_items::items_are_counted;
 use read_pieces::LeafReader;
 use read_state::{InitNested, NestedState};
 use std::alloc::Global;
 use std::marker::Model;
 
-/// Reads one column of a row group in pieces of whole rows, from any source of its pages. Today's pages are PLAIN, of version 1 or 2.
+/// Reads one column of a row group in pieces of whole rows, from any source of its pages. Today's pages are PLAIN or by a dictionary, of version 1 or 2.
 ///
 /// After an error it gives nothing more.
 #[derive(Drop)]
 pub struct ColumnReader<I: Pages, L: LeafReader> {
+    alloc: Global,
     pages: I,
+    // Of its dictionary page, once that was taken.
+    entries: Option<Entries>,
     queue: Option<Queue<L>>,
     // Whether a data page was taken.
     began: bool,
@@ -39,7 +44,7 @@ impl<I: Pages, L: LeafReader> Model for ColumnReader<I, L> {
 
     ghost coded = { Prim.hlevel (codes, slot_code) };
 
-    ghost view = { λ r. record { outcomes = I.outcomes r.pages; queue = r.queue; began = r.began } };
+    ghost view = { λ r. record { outcomes = I.outcomes r.pages; entries = r.entries; queue = r.queue; began = r.began } };
 }
 
 // Nothing is left; no row may be wanting then.
@@ -53,15 +58,42 @@ fn end<L: LeafReader>(queue: Queue<L>) -> Result<(Queue<L>, bool)>
     Ok((queue, false))
 }
 
+// Takes the entries of a dictionary page, before which no page may stand.
+fn take_entries<L: LeafReader>(
+    alloc: Global,
+    page: &DictPage,
+    entries: &mut Option<Entries>,
+    began: bool,
+) -> Result<()>
+    ensures ok { OnOk result ((began ≡ false) × (entries.old ≡ None) × (texts : Texts) × (entries.new ≡ Some texts) × HoldsEntries (λ text. L.stored text 0) page.now.num_values page.now.buffer.items texts) }
+    ensures err { IfErr result (λ e. (e ≡ Memory) ⊎ ((e ≡ OutOfSpec S3) × ((began ≡ true) ⊎ IsTrue (is_some entries.old))) ⊎ ((began ≡ false) × (entries.old ≡ None) × CannotHold (λ text. L.stored text 0) page.now.num_values page.now.buffer.items e)) }
+{
+    if began {
+        return Err(Error::OutOfSpec(S::S3));
+    }
+    if entries.is_some() {
+        return Err(Error::OutOfSpec(S::S3));
+    }
+    match read_entries::<L>(alloc, &page.buffer, page.num_values) {
+        Ok(read) => {
+            *entries = Some(read);
+            Ok(())
+        }
+        Err(error) => Err(error),
+    }
+}
+
 // Takes the next page whole. Answers whether there was one.
 fn take_next<I: Pages, L: LeafReader>(
+    alloc: Global,
     pages: &mut I,
-    is_first: bool,
+    entries: &mut Option<Entries>,
+    began: &mut bool,
     queue: Queue<L>,
 ) -> Result<(Queue<L>, bool)>
-    ensures ok { (o : ColumnOpening) (pieces : List (List Triple)) → IsReading L.stored L.byte_limit o pieces (reading (I.outcomes pages.old) queue (not is_first)) → IfOk result (λ x. Steps L.stored L.byte_limit o pieces (not is_first) x.1 x.0 (I.outcomes pages.new)) }
+    ensures ok { (o : ColumnOpening) (pieces : List (List Triple)) → IsReading (λ text. L.stored text 0) L.byte_limit o pieces (reading (I.outcomes pages.old) entries.old queue began.old) → IfOk result (λ x. Steps (λ text. L.stored text 0) L.byte_limit o pieces x.1 x.0 (I.outcomes pages.new) entries.new began.new) }
     ensures less { IfOk result (λ x. IsTrue x.1 → length (I.outcomes pages.new) < length (I.outcomes pages.old)) }
-    ensures err { (o : ColumnOpening) (pieces : List (List Triple)) → IsReading L.stored L.byte_limit o pieces (reading (I.outcomes pages.old) queue (not is_first)) → IfErr result (RefusesPiece o) }
+    ensures err { (o : ColumnOpening) (pieces : List (List Triple)) → IsReading (λ text. L.stored text 0) L.byte_limit o pieces (reading (I.outcomes pages.old) entries.old queue began.old) → IfErr result (RefusesPiece o) }
 {
     items_are_counted();
     match pages.advance() {
@@ -70,9 +102,15 @@ fn take_next<I: Pages, L: LeafReader>(
     }
     match pages.get() {
         None => end(queue),
-        Some(Page::Dict(_)) => Err(Error::NotYetImplemented(N::N4)),
-        Some(Page::Data(page)) => match take_page(queue, page, is_first) {
-            Ok(queue) => Ok((queue, true)),
+        Some(Page::Dict(page)) => match take_entries::<L>(alloc, page, entries, *began) {
+            Ok(()) => Ok((queue, true)),
+            Err(error) => Err(error),
+        },
+        Some(Page::Data(page)) => match take_page(alloc, queue, page, entries, !*began) {
+            Ok(queue) => {
+                *began = true;
+                Ok((queue, true))
+            }
             Err(error) => Err(error),
         },
     }
@@ -80,16 +118,18 @@ fn take_next<I: Pages, L: LeafReader>(
 
 // Takes pages until a piece is whole, or they end.
 fn fill<I: Pages, L: LeafReader>(
+    alloc: Global,
     pages: &mut I,
+    entries: &mut Option<Entries>,
     began: &mut bool,
     queue: Queue<L>,
 ) -> Result<Queue<L>>
-    ensures ok { (o : ColumnOpening) (pieces : List (List Triple)) → IsReading L.stored L.byte_limit o pieces (reading (I.outcomes pages.old) queue began.old) → IfOk result (λ q. IsFilled L.stored L.byte_limit o pieces q (I.outcomes pages.new) began.new) }
-    ensures err { (o : ColumnOpening) (pieces : List (List Triple)) → IsReading L.stored L.byte_limit o pieces (reading (I.outcomes pages.old) queue began.old) → IfErr result (RefusesPiece o) }
+    ensures ok { (o : ColumnOpening) (pieces : List (List Triple)) → IsReading (λ text. L.stored text 0) L.byte_limit o pieces (reading (I.outcomes pages.old) entries.old queue began.old) → IfOk result (λ q. IsFilled (λ text. L.stored text 0) L.byte_limit o pieces q (I.outcomes pages.new) entries.new began.new) }
+    ensures err { (o : ColumnOpening) (pieces : List (List Triple)) → IsReading (λ text. L.stored text 0) L.byte_limit o pieces (reading (I.outcomes pages.old) entries.old queue began.old) → IfErr result (RefusesPiece o) }
 {
     let mut queue = queue;
     'pages: while !queue.has_whole() {
-        let (next, is_taken) = match take_next(pages, !*began, queue) {
+        let (next, is_taken) = match take_next(alloc, pages, entries, began, queue) {
             Ok(step) => step,
             Err(error) => return Err(error),
         };
@@ -97,7 +137,6 @@ fn fill<I: Pages, L: LeafReader>(
             return Ok(next);
         }
         queue = next;
-        *began = true;
     }
     Ok(queue)
 }
@@ -116,12 +155,14 @@ impl<I: Pages, L: LeafReader> ColumnReader<I, L> {
         chunk_size: Option<usize>,
         num_rows: usize,
     ) -> Result<Self>
-        ensures ok { (o : ColumnOpening) → IsReadable o L.stored L.byte_limit → o.outcomes ≡ I.outcomes pages → IsWay nested.items (thin o.column.way) → o.rows ≡ num_rows → o.chunk_size ≡ chunk_size → IfOk result (λ r. IsReading L.stored L.byte_limit o [] r) }
+        ensures ok { (o : ColumnOpening) → IsReadable o (λ text. L.stored text 0) L.byte_limit → o.outcomes ≡ I.outcomes pages → IsWay nested.items (thin o.column.way) → o.rows ≡ num_rows → o.chunk_size ≡ chunk_size → IfOk result (λ r. IsReading (λ text. L.stored text 0) L.byte_limit o [] r) }
         ensures err { IfErr result (λ e. e ≡ Memory) }
     {
         let queue = Queue::new(alloc, nested, chunk_size, num_rows)?;
         Ok(ColumnReader {
+            alloc,
             pages,
+            entries: None,
             queue,
             began: false,
         })
@@ -132,16 +173,22 @@ impl<I: Pages, L: LeafReader> ColumnReader<I, L> {
     ///
     /// # Errors
     ///
-    /// S3 or N4 of the source; N4 for a page that is not read yet; S5 or N8 where a page's first pair goes on with a row; S4, S6, S7 and S10 where a
-    /// page's levels or values are not those of rows; S9 where the pages have more or fewer rows than the group, or one
+    /// S3 or N4 of the source; S3 for a dictionary page behind another page, or indices without one; N4 for a page that is not read yet; S5 or N8 where a page's first pair goes on with a row; S4, S6, S7 and S10 where a
+    /// page's levels or values, or a dictionary's entries, used or not, are not those of rows; S9 where the pages have more or fewer rows than the group, or one
     /// of version 2 than its header states; V1 where a piece passes the offsets of its array; `Memory`.
     pub fn next_piece(&mut self) -> Option<Result<(NestedState, L::Values)>>
-        ensures { (o : ColumnOpening) (pieces : List (List Triple)) → IsReading L.stored L.byte_limit o pieces self.old → GivesPiece (IsReading L.stored L.byte_limit) (λ v ts. IsPiece o.column.way ts v.0 (L.slots v.1)) o pieces result self.new }
+        ensures { (o : ColumnOpening) (pieces : List (List Triple)) → IsReading (λ text. L.stored text 0) L.byte_limit o pieces self.old → GivesPiece (IsReading (λ text. L.stored text 0) L.byte_limit) (λ v ts. IsPiece o.column.way ts v.0 (L.slots v.1)) o pieces result self.new }
     {
         let Some(queue) = self.queue.take() else {
             return None;
         };
-        let mut queue = match fill(&mut self.pages, &mut self.began, queue) {
+        let mut queue = match fill(
+            self.alloc,
+            &mut self.pages,
+            &mut self.entries,
+            &mut self.began,
+            queue,
+        ) {
             Ok(queue) => queue,
             Err(error) => return Some(Err(error)),
         };

@@ -1,16 +1,21 @@
 //! The pairs of a page, to the pieces of a queue.
-ghost use Rattle.std.specs.Prelude.{◌≡◌, ◌⊎◌, ◌++◌, ℕ, List, [], ◌∷◌, Ok, IfErr, IfOk, MatchResult};
+ghost use Rattle.std.specs.Prelude.{◌≡◌, ◌⊎◌, ◌++◌, ℕ, List, [], ◌∷◌, Ok, Some, None, IfErr, IfOk, MatchResult};
 ghost use Rattle.columns_base.specs.declared.error.Error.TheVariants.{Memory, OutOfSpec};
-ghost use Rattle.columns_base.specs.declared.error.S.TheVariants.{S4, S9};
+ghost use Rattle.columns_base.specs.declared.error.S.TheVariants.{S3, S4, S9};
 ghost use Rattle.shredding.specs.Shape.{Way};
 ghost use Rattle.shredding.specs.Shred.{Triple};
 ghost use Rattle.read_walk.specs.Pairs.{Pair, Item, fault};
 ghost use Rattle.pq_tree.specs.declared.types.TypedPageHeader.TheVariants as T;
 ghost use Rattle.pq_tree.specs.Views.{typed_view};
 ghost use Rattle.pq_pages.specs.Outcomes.{levels_in, raw_page};
-ghost use Rattle.read_column.specs.Reading.{RefusesPage, TakesAll, goes_on_error};
+ghost use Rattle.pq_files.specs.Chunk.{count_in};
+ghost use Rattle.read_column.specs.Opened.{first_goes_on};
+ghost use Rattle.read_column.specs.Dictionary.{IsLaid, Texts, indices_in};
+ghost use Rattle.read_column.specs.Reading.{RefusesPage, RefusesRows, TakesAll, TakesRows, goes_on_error};
 ghost use Rattle.read_column.specs.Taken.{joined, BeginsPair, IsQueued, StopsPage, TakesPage};
 
+use crate::entries::Entries;
+use crate::indices::plain_values;
 use crate::page::{PagePairs, open_pairs, states_rows};
 use crate::queue::Queue;
 use columns_base::{Error, N, Result, S};
@@ -18,6 +23,7 @@ use pq_pages::DataPage;
 use pq_tree::DataPageHeader;
 use read_pieces::{LeafReader, PlainBytes};
 use read_walk::NestedPage;
+use std::alloc::Global;
 
 // No pair is left.
 fn no_more(page: &mut NestedPage<'_>) -> Result<()>
@@ -40,8 +46,8 @@ pub fn take_pairs<'a, 'b, L: LeafReader>(
     page: &mut NestedPage<'a>,
     bytes: &mut PlainBytes<'b>,
 ) -> Result<Queue<L>>
-    ensures ok { (w : Way) (before : ℕ) (whole : List (List Triple)) (last : List Triple) → IsQueued w before whole last queue → BeginsPair page.old → IfOk result (λ q. TakesPage queue.chunk_size w before (joined whole ++ last) q page.old (L.stored bytes.old.values.now)) }
-    ensures err { (w : Way) (before : ℕ) (whole : List (List Triple)) (last : List Triple) → IsQueued w before whole last queue → BeginsPair page.old → IfErr result (λ e. (e ≡ Memory) ⊎ StopsPage L.byte_limit queue.chunk_size w before (joined whole ++ last) page.old (L.stored bytes.old.values.now) e) }
+    ensures ok { (w : Way) (before : ℕ) (whole : List (List Triple)) (last : List Triple) → IsQueued w before whole last queue → BeginsPair page.old → IfOk result (λ q. TakesPage queue.chunk_size w before (joined whole ++ last) q page.old (L.stored bytes.old.values.now bytes.old.bit)) }
+    ensures err { (w : Way) (before : ℕ) (whole : List (List Triple)) (last : List Triple) → IsQueued w before whole last queue → BeginsPair page.old → IfErr result (λ e. (e ≡ Memory) ⊎ StopsPage L.byte_limit queue.chunk_size w before (joined whole ++ last) page.old (L.stored bytes.old.values.now bytes.old.bit) e) }
 {
     let mut queue = queue;
     'pieces: while queue.is_wanting() {
@@ -79,38 +85,75 @@ fn misplaced(header: &DataPageHeader, is_first: bool) -> Error
     }
 }
 
-/// Takes a data page whole.
-///
-/// # Errors
-///
-/// Those of `open_page` and `take_pairs`; where the first pair goes on with a row S5 if the page is the column's first or of version 2, and else N8;
-/// S9 where the header of a page of version 2 states another number of rows.
-pub fn take_page<L: LeafReader>(
+// Takes the pairs of a page that is opened, with its values, which stand plain in these bytes.
+fn take_values<L: LeafReader>(
     queue: Queue<L>,
-    page: &DataPage,
+    opened: PagePairs<'_>,
+    values: &[u8],
+    header: &DataPageHeader,
     is_first: bool,
 ) -> Result<Queue<L>>
-    ensures ok { (w : Way) (before : ℕ) (whole : List (List Triple)) (last : List Triple) → IsQueued w before whole last queue → IfOk result (λ q. TakesAll L.stored queue.chunk_size w before (joined whole ++ last) q (raw_page page.now) (levels_in page.now.descriptor)) }
-    ensures err { (w : Way) (before : ℕ) (whole : List (List Triple)) (last : List Triple) → IsQueued w before whole last queue → IfErr result (λ e. (e ≡ Memory) ⊎ RefusesPage L.stored L.byte_limit is_first queue.chunk_size w before (joined whole ++ last) (raw_page page.now) (levels_in page.now.descriptor) e) }
+    ensures ok { (w : Way) (before : ℕ) (whole : List (List Triple)) (last : List Triple) → IsQueued w before whole last queue → opened.entry.goes_on ≡ first_goes_on opened.entry.pairs → IfOk result (λ q. TakesRows (λ text. L.stored text 0) queue.chunk_size w before (joined whole ++ last) q (typed_view (T.Data header.now)) opened.entry.pairs values.now) }
+    ensures err { (w : Way) (before : ℕ) (whole : List (List Triple)) (last : List Triple) → IsQueued w before whole last queue → opened.entry.goes_on ≡ first_goes_on opened.entry.pairs → IfErr result (λ e. (e ≡ Memory) ⊎ RefusesRows (λ text. L.stored text 0) L.byte_limit is_first queue.chunk_size w before (joined whole ++ last) (typed_view (T.Data header.now)) opened.entry.pairs values.now e) }
 {
-    let PagePairs {
-        mut pairs,
-        mut bytes,
-        goes_on,
-    } = match open_pairs(page) {
-        Ok(open) => open,
-        Err(error) => return Err(error),
-    };
-    if goes_on {
-        return Err(misplaced(page.header(), is_first));
+    if opened.goes_on {
+        return Err(misplaced(header, is_first));
     }
+    let mut pairs = opened.pairs;
+    let mut bytes = PlainBytes { values, bit: 0 };
     let before = queue.rows_to_come();
     let queue = match take_pairs(queue, &mut pairs, &mut bytes) {
         Ok(queue) => queue,
         Err(error) => return Err(error),
     };
-    if !states_rows(page.header(), before.saturating_sub(queue.rows_to_come())) {
+    if !states_rows(header, before.saturating_sub(queue.rows_to_come())) {
         return Err(Error::OutOfSpec(S::S9));
     }
     Ok(queue)
+}
+
+// The entries at the indices of a page's section, as plain bytes.
+fn values_at(
+    alloc: Global,
+    entries: &Option<Entries>,
+    section: &[u8],
+    page: &DataPage,
+) -> Result<Vec<u8>>
+    ensures ok { IfOk result (λ values. (texts : Texts) × (entries.now ≡ Some texts) × IsLaid texts (indices_in (count_in (raw_page page.now).header) section.now) values.items) }
+    ensures err { IfErr result (λ e. (e ≡ Memory) ⊎ ((e ≡ OutOfSpec S3) × (entries.now ≡ None))) }
+{
+    match entries {
+        Some(entries) => plain_values(alloc, entries, section, page.num_values()),
+        None => Err(Error::OutOfSpec(S::S3)),
+    }
+}
+
+/// Takes a data page whole, of a column with these entries.
+///
+/// # Errors
+///
+/// Those of `open_page` and `take_pairs`; where the first pair goes on with a row S5 if the page is the column's first or of version 2, and else N8;
+/// S3 where its values are indices and there are no entries; S9 where the header of a page of version 2 states another number of rows.
+pub fn take_page<L: LeafReader>(
+    alloc: Global,
+    queue: Queue<L>,
+    page: &DataPage,
+    entries: &Option<Entries>,
+    is_first: bool,
+) -> Result<Queue<L>>
+    ensures ok { (w : Way) (before : ℕ) (whole : List (List Triple)) (last : List Triple) → IsQueued w before whole last queue → IfOk result (λ q. TakesAll (λ text. L.stored text 0) entries.now queue.chunk_size w before (joined whole ++ last) q (raw_page page.now) (levels_in page.now.descriptor)) }
+    ensures err { (w : Way) (before : ℕ) (whole : List (List Triple)) (last : List Triple) → IsQueued w before whole last queue → IfErr result (λ e. (e ≡ Memory) ⊎ RefusesPage (λ text. L.stored text 0) entries.now L.byte_limit is_first queue.chunk_size w before (joined whole ++ last) (raw_page page.now) (levels_in page.now.descriptor) e) }
+{
+    let open = match open_pairs(page, L::stands_in_bytes()) {
+        Ok(open) => open,
+        Err(error) => return Err(error),
+    };
+    let section = open.section;
+    if !open.is_indexed {
+        return take_values(queue, open, section, page.header(), is_first);
+    }
+    match values_at(alloc, entries, section, page) {
+        Ok(values) => take_values(queue, open, &values, page.header(), is_first),
+        Err(error) => Err(error),
+    }
 }

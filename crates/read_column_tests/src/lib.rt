@@ -2,6 +2,6 @@
 #![tactic(auto)]
 
 #[cfg(test)]
-mod numbers;
+mod dictionary_tests;
 #[cfg(test)]
 mod reader_tests;

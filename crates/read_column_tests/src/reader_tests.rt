@@ -2,7 +2,6 @@
 ghost use Rattle.std.specs.Prelude.{IfOk};
 ghost use Rattle.pq_pages.specs.Outcomes.{HasLevels};
 
-use crate::numbers::Numbers;
 use columns_base::{Error, N, PhysicalType, Result, S};
 use pq_pages::{DataPage, Page, VecPages};
 use pq_tree::{
@@ -11,6 +10,7 @@ use pq_tree::{
 };
 use read_column::ColumnReader;
 use read_state::InitNested;
+use read_types::Numbers;
 use std::alloc::Global;
 
 // The rows [1, null], null, [], [2]: repetition levels, definition levels and values (Parquet format, "Data Pages" and "Nested Encoding").
@@ -111,11 +111,11 @@ fn descriptor(alloc: Global) -> Result<Descriptor>
     })
 }
 
-// A page of five pairs, in PLAIN or another encoding.
+// A page of five pairs, in PLAIN or in deltas.
 fn page(alloc: Global, encoding: bool, body: &[u8]) -> Result<Page> {
     let header = DataPageHeaderV1 {
         num_values: 5,
-        encoding: if encoding { 0 } else { 8 },
+        encoding: if encoding { 0 } else { 5 },
         definition_level_encoding: Some(3),
         repetition_level_encoding: Some(3),
         statistics: None,
@@ -125,13 +125,13 @@ fn page(alloc: Global, encoding: bool, body: &[u8]) -> Result<Page> {
     Ok(Page::Data(DataPage::new(DataPageHeader::V1(header), body, descriptor, None)))
 }
 
-// A page of version 2 of five pairs, whose header states so many rows, in PLAIN or another encoding.
+// A page of version 2 of five pairs, whose header states so many rows, in PLAIN or in deltas.
 fn page_2(alloc: Global, is_plain: bool, num_rows: i32, body: &[u8]) -> Result<Page> {
     let header = DataPageHeaderV2 {
         num_values: 5,
         num_nulls: None,
         num_rows,
-        encoding: if is_plain { 0 } else { 8 },
+        encoding: if is_plain { 0 } else { 5 },
         definition_levels_byte_length: 3,
         repetition_levels_byte_length: 2,
         is_compressed: None,

@@ -9,3 +9,6 @@ pub mod EqualBits
 pub mod SetBits
 pub mod MixedNumbers
 pub mod MixedStrings
+pub mod AmongNulls
+pub mod PlainBits
+pub mod TruthSlots

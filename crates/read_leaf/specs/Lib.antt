@@ -3,3 +3,4 @@ pub mod Strings
 pub mod PlainValues
 pub mod Ranges
 pub mod Loads
+pub mod Truths

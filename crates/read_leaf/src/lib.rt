@@ -1,5 +1,5 @@
-//! Decoders of a leaf's plain values (Parquet format, Encodings, "Plain"), for the level walk of `read_walk`: whole numbers, dates and times over
-//! INT32 and INT64, and texts and byte strings. Values are taken in whole stretches, nulls too.
+//! Decoders of a leaf's plain values (Parquet format, Encodings, "Plain"), for the level walk of `read_walk`: truth values, whole numbers, dates and
+//! times over INT32 and INT64, and texts and byte strings. Values are taken in whole stretches, nulls too.
 #![tactic(auto)]
 
 mod binary;
@@ -10,6 +10,7 @@ mod primitive;
 mod set_bits;
 mod stored;
 mod strings;
+mod truths;
 
 pub use binary::Binary;
 pub use laws::{
@@ -18,3 +19,4 @@ pub use laws::{
 pub use primitive::{NumberValues, PlainNumbers, PrimitiveDecoder};
 pub use stored::{FromStored, StoredNumber};
 pub use strings::{Bytes, PlainStrings, StringDecoder, StringKind, StringValues, Text};
+pub use truths::{PlainTruths, TruthDecoder, TruthValues};

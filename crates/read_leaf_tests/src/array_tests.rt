@@ -5,11 +5,11 @@ ghost use Rattle.columns_core.specs.View.{type_view};
 
 use columns_array::ArrayBox;
 use columns_base::{Error, PhysicalType, Result, S};
-use columns_core::{DataType, TimeUnit};
+use columns_core::{Bitmap, DataType, TimeUnit};
 use read_leaf::{Bytes, Text};
-use read_pieces::PlainBytes;
+use read_pieces::{LeafReader, PlainBytes};
 use read_state::{InitNested, init_nested};
-use read_types::{LeafArray, LeafKind, Numbers, Strings};
+use read_types::{LeafArray, LeafKind, Numbers, Strings, Truths};
 use read_walk::NestedPage;
 use std::alloc::Global;
 
@@ -22,7 +22,10 @@ fn three<L: LeafArray>(alloc: Global, bytes: &[u8], data_type: DataType) -> Resu
     let mut nested = init_nested(alloc, &[InitNested::Primitive(true)], 0)?;
     let mut values = L::begin(alloc)?;
     let mut page = NestedPage::try_new(&[], 0, DEFS, 1, 3)?;
-    let mut bytes = PlainBytes { values: bytes };
+    let mut bytes = PlainBytes {
+        values: bytes,
+        bit: 0,
+    };
     L::extend(&mut page, &mut bytes, &mut nested, &mut values, 3)?;
     L::into_array(alloc, values, data_type)
 }
@@ -53,6 +56,57 @@ fn makes_wide_numbers(alloc: Global) -> Result<bool> {
 fn numbers_are_made(rt: HostRuntime) -> Result<()> {
     assert!(rt; makes_small_numbers(rt.alloc())?);
     assert!(rt; makes_wide_numbers(rt.alloc())?);
+    Ok(())
+}
+
+fn has_bits(bits: &Bitmap, count: usize, want: u64) -> bool {
+    bits.len() == count && count <= 64 && bits.word_at(0, count) == want
+}
+
+// The stored bits are 0 and 1.
+fn makes_truths(alloc: Global) -> Result<bool> {
+    match three::<Truths>(alloc, &[0b0000_0010], DataType::Boolean)? {
+        ArrayBox::Boolean(array) => {
+            Ok(has_bits(array.values(), 3, 0b100) && array.null_count() == 1)
+        }
+        _ => Ok(false),
+    }
+}
+
+#[test]
+fn truths_are_made(rt: HostRuntime) -> Result<()> {
+    assert!(rt; makes_truths(rt.alloc())?);
+    Ok(())
+}
+
+// The truth values of the next rows of a page without levels.
+fn next_truths(
+    alloc: Global,
+    page: &mut NestedPage<'_>,
+    bytes: &mut PlainBytes<'_>,
+    rows: usize,
+) -> Result<Bitmap> {
+    let mut nested = init_nested(alloc, &[InitNested::Primitive(false)], 0)?;
+    let mut values = Truths::begin(alloc)?;
+    Truths::extend(page, bytes, &mut nested, &mut values, rows)?;
+    values.into_parts().0.into_bitmap()
+}
+
+// Of nine bits the first three are 0, 1, 1, and the others 1, 0, 1, 0, 0, 1.
+fn reads_pieces(alloc: Global) -> Result<bool> {
+    let mut page = NestedPage::try_new(&[], 0, &[], 0, 9)?;
+    let mut bytes = PlainBytes {
+        values: &[0b0010_1110, 0b0000_0001],
+        bit: 0,
+    };
+    let first = next_truths(alloc, &mut page, &mut bytes, 3)?;
+    let others = next_truths(alloc, &mut page, &mut bytes, 6)?;
+    Ok(has_bits(&first, 3, 0b110) && has_bits(&others, 6, 0b10_0101))
+}
+
+#[test]
+fn pieces_go_on_inside_a_byte(rt: HostRuntime) -> Result<()> {
+    assert!(rt; reads_pieces(rt.alloc())?);
     Ok(())
 }
 
@@ -129,5 +183,12 @@ fn kinds_are_told(rt: HostRuntime) {
         )
     );
     assert!(rt; has_kind(&DataType::Int64, PhysicalType::Int32, None));
-    assert!(rt; has_kind(&DataType::Boolean, PhysicalType::Boolean, None));
+    assert!(rt;
+        has_kind(
+            &DataType::Boolean,
+            PhysicalType::Boolean,
+            Some(LeafKind::Boolean)
+        )
+    );
+    assert!(rt; has_kind(&DataType::Float32, PhysicalType::Float, None));
 }

@@ -20,6 +20,7 @@ use Rattle.shredding.specs.Shred.{Triple}
 
 -- no kind is of dictionaries
 direct : (t : TypeTree) (k : LeafKind) → types_of k t ≡ true → is_dictionary t ≡ false
+direct (t_dictionary key t s) K.Boolean e = absurd (true≢false (sym e))
 direct (t_dictionary key t s) K.Int8 e = absurd (true≢false (sym e))
 direct (t_dictionary key t s) K.Int16 e = absurd (true≢false (sym e))
 direct (t_dictionary key t s) K.Int32 e = absurd (true≢false (sym e))

@@ -6,6 +6,7 @@ use Rattle.read_leaves.specs.declared.column.KindColumn.{KindColumn}
 use Rattle.read_leaves.specs.declared.column.KindColumn.TheVariants as C
 
 abbrev pub kind_in : {I : Type 0} → KindColumn I → LeafKind
+kind_in (C.Boolean r) = K.Boolean
 kind_in (C.Int8 r) = K.Int8
 kind_in (C.Int16 r) = K.Int16
 kind_in (C.Int32 r) = K.Int32
@@ -21,6 +22,7 @@ kind_in (C.Binary r) = K.Binary
 kind_in (C.LargeBinary r) = K.LargeBinary
 
 abbrev pub reader_in : {I : Type 0} → KindColumn I → Reading
+reader_in (C.Boolean r) = r
 reader_in (C.Int8 r) = r
 reader_in (C.Int16 r) = r
 reader_in (C.Int32 r) = r

@@ -20,12 +20,13 @@ use read_column::ColumnReader;
 use read_leaf::{Bytes, Text};
 use read_pieces::{ColumnPiece, LeafReader};
 use read_state::InitNested;
-use read_types::{LeafArray, LeafKind, Numbers, Strings};
+use read_types::{LeafArray, LeafKind, Numbers, Strings, Truths};
 use std::alloc::Global;
 
 /// The reader of a column, by how its values are read.
 #[derive(Drop)]
 pub enum KindColumn<I: Pages> {
+    Boolean(ColumnReader<I, Truths>),
     Int8(ColumnReader<I, Numbers<i8, i32>>),
     Int16(ColumnReader<I, Numbers<i16, i32>>),
     Int32(ColumnReader<I, Numbers<i32, i32>>),
@@ -54,7 +55,7 @@ pub struct PagesOfRows<I: Pages> {
 impl<I: Pages> PagesOfRows<I> {
     // The reader of the column.
     fn read<L: LeafReader>(self) -> Result<ColumnReader<I, L>>
-        ensures reads { (o : ColumnOpening) → IsReadable o L.stored L.byte_limit → o.outcomes ≡ I.outcomes self.pages → IsWay self.nested.items (thin o.column.way) → o.rows ≡ self.num_rows → o.chunk_size ≡ self.chunk_size → IfOk result (λ r. IsReading L.stored L.byte_limit o [] r) }
+        ensures reads { (o : ColumnOpening) → IsReadable o (λ text. L.stored text 0) L.byte_limit → o.outcomes ≡ I.outcomes self.pages → IsWay self.nested.items (thin o.column.way) → o.rows ≡ self.num_rows → o.chunk_size ≡ self.chunk_size → IfOk result (λ r. IsReading (λ text. L.stored text 0) L.byte_limit o [] r) }
         ensures err { IfErr result (λ e. e ≡ Memory) }
     {
         ColumnReader::new(
@@ -74,7 +75,7 @@ fn next_of<I: Pages, L: LeafArray>(
     data_type: &DataType,
 ) -> Option<Result<ColumnPiece>>
     requires { L.makes (base (type_view data_type.now)) ≡ true }
-    ensures { (o : ColumnOpening) (pieces : List (List Triple)) → IsReading L.stored L.byte_limit o pieces reader.old → GivesPiece (IsReading L.stored L.byte_limit) (λ p ts. IsPieceOf o.column (type_view data_type.now) ts p) o pieces result reader.new }
+    ensures { (o : ColumnOpening) (pieces : List (List Triple)) → IsReading (λ text. L.stored text 0) L.byte_limit o pieces reader.old → GivesPiece (IsReading (λ text. L.stored text 0) L.byte_limit) (λ p ts. IsPieceOf o.column (type_view data_type.now) ts p) o pieces result reader.new }
 {
     piece_of::<L>(alloc, data_type, reader.next_piece())
 }
@@ -91,6 +92,7 @@ impl<I: Pages> KindColumn<I> {
         ensures err { IfErr result (λ e. e ≡ Memory) }
     {
         Ok(match kind {
+            LeafKind::Boolean => KindColumn::Boolean(rows.read()?),
             LeafKind::Int8 => KindColumn::Int8(rows.read()?),
             LeafKind::Int16 => KindColumn::Int16(rows.read()?),
             LeafKind::Int32 => KindColumn::Int32(rows.read()?),
@@ -118,6 +120,7 @@ impl<I: Pages> KindColumn<I> {
         ensures gives { (o : ColumnOpening) (pieces : List (List Triple)) → IsReading (stored_of (kind_in self.old)) (limit_of (kind_in self.old)) o pieces (reader_in self.old) → GivesPiece (IsReading (stored_of (kind_in self.old)) (limit_of (kind_in self.old))) (λ p ts. IsPieceOf o.column (type_view data_type.now) ts p) o pieces result (reader_in self.new) }
     {
         match self {
+            KindColumn::Boolean(reader) => next_of(reader, alloc, data_type),
             KindColumn::Int8(reader) => next_of(reader, alloc, data_type),
             KindColumn::Int16(reader) => next_of(reader, alloc, data_type),
             KindColumn::Int32(reader) => next_of(reader, alloc, data_type),

@@ -1,5 +1,5 @@
 -- A column of a row group as it is read, piece by piece (Dremel paper, section 4.3; Parquet format, "Column chunks", "Data Pages").
-use Rattle.std.specs.Prelude.{◌≡◌, ◌≢◌, ◌⊎◌, ℕ, ◌-◌, ◌<◌, ◌≤◌, false, List, [], ◌∷◌, ◌++◌, map, length, take, drop, sum_by, flat_map, All, Option, Some, None, Result, Ok, Err}
+use Rattle.std.specs.Prelude.{◌≡◌, ◌≢◌, ◌⊎◌, ℕ, ◌-◌, ◌<◌, ◌≤◌, false, List, [], ◌∷◌, ◌++◌, map, length, take, drop, sum_by, flat_map, All, Option, Some, None, IfSome, Result, Ok, Err}
 use Rattle.columns_base.specs.declared.error.Error.{Error}
 use Rattle.columns_base.specs.declared.error.Error.TheVariants.{Memory, OutOfSpec, NotYetImplemented, Overflow}
 use Rattle.columns_base.specs.declared.error.S.TheVariants.{S3}
@@ -10,9 +10,9 @@ use Rattle.shredding.specs.Shred.{Triple, column, max_definition as way_definiti
 use Rattle.shredding.specs.Slot.{Slot, Value}
 use Rattle.columns_core.specs.Shapes.{leaf_type}
 use Rattle.pq_tree.specs.Tree.{Leaf, max_definition, max_repetition}
-use Rattle.pq_files.specs.Carried.{column_in}
 use Rattle.pq_files.specs.Chunk.{Chunk, triples_of}
 use Rattle.pq_files.specs.Page.{rows_in}
+use Rattle.pq_files.specs.PageReasons.{IsOutside}
 use Rattle.pq_files.specs.Reasons.{AnyOf}
 use Rattle.pq_files.specs.Stored.{AreStored}
 use Rattle.pq_pages.specs.Held.{HoldsChunk}
@@ -78,13 +78,13 @@ pub record IsNextPiece (o : ColumnOpening) (before : ℕ) (ts : List Triple) : T
   pub part : IsPieceOf o.chunk_size triples stored
   pub only : (rows : List Slot) → AreColumnRows o rows → ts ≡ column o.column.way (take (rows_in ts) (drop before rows))
 
--- The pieces are the whole column: the pages hold it, and it has the rows of the group.
+-- The pieces are the whole column: the pages hold it, each entry of a dictionary is a value of the leaf type, and it has the rows of the group.
 pub record IsWhole (o : ColumnOpening) (pieces : List (List Triple)) : Type 0 where
   pub given : All IsGiven o.outcomes
   pub chunk : Chunk
   pub holds : HoldsChunk o.leaf o.outcomes chunk
   pub stored : AreStored (leaf_type o.column.data_type) o.leaf.physical (flat_map (λ ts. ts) pieces) (triples_of chunk)
-  pub plain : (column_in chunk).entries ≡ None
+  pub inside : IfSome chunk.entries (All (λ v. ¬ IsOutside (leaf_type o.column.data_type) o.leaf.physical v))
   pub counted : rows_of_all pieces ≡ o.rows
 
 -- ---- why no piece comes

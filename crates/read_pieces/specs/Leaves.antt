@@ -1,5 +1,5 @@
 -- How the values of a leaf are read from the plain bytes of a page (Parquet format, Encodings, "Plain"; LogicalTypes).
-use Rattle.std.specs.Prelude.{◌≡◌, ℕ, ◌≤◌, Some, None, List, length, take, All, sum_by}
+use Rattle.std.specs.Prelude.{◌≡◌, ℕ, ◌*◌, ◌<◌, ◌≤◌, Bool, Some, None, List, [], ◌∷◌, ◌++◌, length, map, take, nat_lt, All, sum_by}
 use Rattle.std.specs.List.{AllZip}
 use Rattle.shredding.specs.Slot.{Value}
 use Rattle.columns_core.specs.Shapes.{leaf_type}
@@ -28,3 +28,30 @@ pub record ReadsLeaf (c : ArrowColumn) (p : Physical) (stored : List ℕ → Lis
   pub plain : ReadsPlain (leaf_type c.data_type) p stored
   pub unique : (v w s : Value) → IsStored (leaf_type c.data_type) p v s → IsStored (leaf_type c.data_type) p w s → v ≡ w
   pub limited : (vs : List Value) → All (λ v. (s : Value) × IsStored (leaf_type c.data_type) p v s) vs → limit ≤ sum_by text_size vs → PassesTexts c.data_type vs
+
+-- ---- values one by one
+
+-- Each value stands in bytes of its own, so that a byte holds no two of them.
+abbrev pub in_bytes : (List ℕ → List Stored) → Bool
+in_bytes stored = nat_lt (length (stored (0 ∷ []))) 2
+
+-- a byte is eight values, whatever it is
+pub record AreEights (stored : List ℕ → List Stored) (text : List ℕ) : Type 0 where
+  pub values : List Value
+  pub are : stored text ≡ map Some values
+  pub count : length values ≡ 8 * length text
+
+-- The text is the value, whatever stands behind it, and no value stands in less of it.
+pub record IsValue (stored : List ℕ → List Stored) (text : List ℕ) (v : Value) : Type 0 where
+  pub is : (rest : List ℕ) → stored (text ++ rest) ≡ Some v ∷ stored rest
+  pub least : (n : ℕ) → n < length text → stored (take n text) ≡ []
+
+-- so many bytes at the front are a value
+pub record BeginsWithValue (stored : List ℕ → List Stored) (n : ℕ) (text : List ℕ) : Type 0 where
+  pub within : n ≤ length text
+  pub «value» : Value
+  pub is : IsValue stored (take n text) «value»
+
+-- at the front stands what is no value of the leaf's type
+abbrev pub BeginsOutside : (List ℕ → List Stored) → List ℕ → Type 0
+BeginsOutside stored text = (rest : List Stored) × (stored text ≡ None ∷ rest)

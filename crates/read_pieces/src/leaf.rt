@@ -1,8 +1,10 @@
 //! How the values of a leaf are read.
-ghost use Rattle.std.specs.Prelude.{◌≡◌, ℕ, List, [], ◌∷◌, None, length, OnOk, IfOk, IfErr};
-ghost use Rattle.columns_base.specs.declared.error.Error.TheVariants.{Memory};
+ghost use Rattle.std.specs.Prelude.{◌≡◌, ◌⊎◌, ℕ, List, [], ◌∷◌, None, true, false, length, OnOk, IfOk, IfErr};
+ghost use Rattle.columns_base.specs.declared.error.Error.TheVariants.{Memory, OutOfSpec};
+ghost use Rattle.columns_base.specs.declared.error.S.TheVariants.{S6, S7};
 ghost use Rattle.read_laws.specs.State.{leaf_count, StateFits};
 ghost use Rattle.read_walk.specs.Values.{Stored};
+ghost use Rattle.read_pieces.specs.Leaves.{AreEights, BeginsOutside, BeginsWithValue, in_bytes};
 ghost use Rattle.read_walk.specs.Walk.{Extends, Refuses};
 ghost use Rattle.shredding.specs.Slot.{Slot};
 
@@ -15,6 +17,8 @@ use std::alloc::Global;
 #[derive(Debug, Drop)]
 pub struct PlainBytes<'a> {
     pub values: &'a [u8],
+    /// How many bits of the first byte were taken; 0 but for truth values.
+    pub bit: usize,
 }
 
 /// Reads the plain values of a leaf, for pages of any life.
@@ -22,8 +26,8 @@ pub trait LeafReader {
     /// What was decoded.
     type Values: Drop;
 
-    // the stored values of plain bytes, as values of the leaf
-    ghost stored: { List ℕ → List Stored };
+    // the stored values of plain bytes from a bit of the first byte on, as values of the leaf
+    ghost stored: { List ℕ → ℕ → List Stored };
 
     // the slots that were decoded
     ghost slots: { Self.Values → List Slot };
@@ -40,6 +44,20 @@ pub trait LeafReader {
         ensures ok { IfOk result (λ v. slots v ≡ []) }
         ensures err { IfErr result (λ e. e ≡ Memory) };
 
+    /// Whether each value stands in bytes of its own. Truth values do not: a byte holds eight of them.
+    fn stands_in_bytes() -> bool
+        ensures value { result ≡ in_bytes (λ text. stored text 0) }
+        ensures bits { result ≡ false → (text : List ℕ) → AreEights (λ text. stored text 0) text };
+
+    /// How many bytes the first value has. Where values do not stand in bytes of their own, nothing is said of the number.
+    ///
+    /// # Errors
+    ///
+    /// S6 where the bytes are cut, S7 where no value of the leaf's type is stored so (Parquet format, Encodings, "Plain").
+    fn value_size(bytes: &[u8]) -> Result<usize>
+        ensures ok { in_bytes (λ text. stored text 0) ≡ true → IfOk result (λ n. BeginsWithValue (λ text. stored text 0) n bytes.now) }
+        ensures err { IfErr result (λ e. ((e ≡ OutOfSpec S6) × (stored bytes.now 0 ≡ [])) ⊎ ((e ≡ OutOfSpec S7) × BeginsOutside (λ text. stored text 0) bytes.now)) };
+
     /// Takes pairs of the page, and the values that they call for, until `additional` rows are whole or the page ends.
     ///
     /// # Errors
@@ -54,6 +72,6 @@ pub trait LeafReader {
     ) -> Result<()>
         requires fits { StateFits nested.old }
         requires decoded { length (slots values.old) ≡ leaf_count nested.old }
-        ensures ok { OnOk result (Extends additional page.old page.new (stored bytes.old.values.now) (stored bytes.new.values.now) nested.old nested.new (slots values.old) (slots values.new)) }
-        ensures err { IfErr result (Refuses byte_limit additional page.old (stored bytes.old.values.now) nested.old (slots values.old)) };
+        ensures ok { OnOk result (Extends additional page.old page.new (stored bytes.old.values.now bytes.old.bit) (stored bytes.new.values.now bytes.new.bit) nested.old nested.new (slots values.old) (slots values.new)) }
+        ensures err { IfErr result (Refuses byte_limit additional page.old (stored bytes.old.values.now bytes.old.bit) nested.old (slots values.old)) };
 }

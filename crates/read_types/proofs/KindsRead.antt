@@ -6,8 +6,10 @@ use Rattle.read_types.specs.declared.kind.LeafKind.TheVariants as K
 use Rattle.read_types.proofs.NumbersRead.{reads-32, reads-64}
 use Rattle.read_types.proofs.Slots.{stores-so, ordered-so}
 use Rattle.read_types.proofs.StringsRead.{texts, large-texts, strings, large-strings}
+use Rattle.read_types.proofs.TruthsRead.{truths}
 
 pub leaves-read : LeavesAreRead
+leaves-read K.Boolean c e = truths c e
 leaves-read K.Int8 c e = reads-32 c _ (loads-i8 c.data_type (stores-so stores_i8 c.data_type e) (ordered-so stores_i8 c.data_type e))
 leaves-read K.Int16 c e = reads-32 c _ (loads-i16 c.data_type (stores-so stores_i16 c.data_type e) (ordered-so stores_i16 c.data_type e))
 leaves-read K.Int32 c e = reads-32 c _ (loads-i32 c.data_type (stores-so stores_i32 c.data_type e) (ordered-so stores_i32 c.data_type e))

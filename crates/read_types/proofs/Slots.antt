@@ -4,7 +4,7 @@ use Rattle.std.proofs.lemmas.List.{length-map}
 use Rattle.std.proofs.lemmas.Str.{IsUtf8-from_is_utf8}
 use Rattle.std.specs.Str.{is_utf8}
 use Rattle.shredding.specs.Parts.{slots_from}
-use Rattle.shredding.specs.Slot.{Value, number, bytes, Slot, null, value}
+use Rattle.shredding.specs.Slot.{Value, truth, number, bytes, Slot, null, value}
 use Rattle.columns_core.specs.Rising.{RisesFrom, IsRising, last_place}
 use Rattle.columns_core.specs.Shapes.{leaf_type}
 use Rattle.columns_core.specs.Tree.{TypeTree}
@@ -15,6 +15,7 @@ use Rattle.columns_slots.specs.Slots.{slots, slot_at, AreUpTo, IsPlaces}
 use Rattle.pq_files.specs.Statistics.{has_order}
 use Rattle.read_leaf.specs.Numbers.{number_slots}
 use Rattle.read_leaf.specs.Strings.{string_slots, AreAllowed}
+use Rattle.read_leaf.specs.Truths.{truth_slots}
 use Rattle.read_types.specs.Arrays.{IsLeafArray, masked_leaf, makes_numbers}
 
 -- ---- a value or null at each position
@@ -67,6 +68,22 @@ stores-so stores t e = of (stores t) refl
 
 pub ordered-so : (stores : TypeTree → Bool) (t : TypeTree) → makes_numbers stores t ≡ true → has_order (leaf_type t) ≡ true
 ordered-so stores t e = rw (stores-so stores t e) at e
+
+-- ---- truth values
+
+of-truths : (ts bs : List Bool) → value_slots (map truth ts) bs ≡ truth_slots ts bs
+unfolding value_slots
+of-truths [] bs = refl
+of-truths (t ∷ ts) [] = refl
+of-truths (t ∷ ts) (true ∷ bs) = rw (of-truths ts bs) refl
+of-truths (t ∷ ts) (false ∷ bs) = rw (of-truths ts bs) refl
+
+pub truth-array : (t : TypeTree) (truths ts bits bs : List Bool) → truths ≡ ts → bits ≡ bs → length ts ≡ length bs → IsLeafArray t (truth_slots ts bs) (masked_leaf t (map truth truths) bits)
+truth-array t truths ts bits bs are b e = rw (are, b) record {
+  typed = refl;
+  same = masked-slots t (map truth ts) bs (length-map ts truth ∙ e) ∙ of-truths ts bs;
+  entries = refl;
+}
 
 -- ---- strings
 

@@ -4,12 +4,13 @@ use Rattle.std.specs.Int.{w32, w64, cast_unsigned}
 use Rattle.std.specs.Str.{is_utf8}
 use Rattle.columns_core.specs.Natives.{stores_i8, stores_i16, stores_i32, stores_i64, stores_u8, stores_u16, stores_u32, stores_u64}
 use Rattle.columns_core.specs.Tree.{TypeTree}
-use Rattle.columns_slots.specs.Types.{is_text, is_binary}
+use Rattle.columns_slots.specs.Types.{is_boolean, is_text, is_binary}
 use Rattle.pq_headline.specs.Columns.{ArrowColumn}
-use Rattle.pq_tree.specs.Physical.{Physical, int32, int64, byte_array}
+use Rattle.pq_tree.specs.Physical.{Physical, boolean, int32, int64, byte_array}
 use Rattle.read_leaf.specs.Numbers.{as_signed, as_unsigned, stored_numbers}
 use Rattle.read_leaf.specs.PlainValues.{spelled_32, spelled_64}
 use Rattle.read_leaf.specs.Strings.{stored_strings}
+use Rattle.read_leaf.specs.Truths.{stored_truths}
 use Rattle.read_pieces.specs.Leaves.{ReadsLeaf}
 use Rattle.read_walk.specs.Values.{Stored}
 use Rattle.read_types.specs.Arrays.{makes_numbers}
@@ -18,6 +19,7 @@ use Rattle.read_types.specs.declared.kind.LeafKind.TheVariants as K
 
 -- the physical type that the values are stored under
 abbrev pub physical_of : LeafKind → Physical
+physical_of K.Boolean = boolean
 physical_of K.Int8 = int32
 physical_of K.Int16 = int32
 physical_of K.Int32 = int32
@@ -34,6 +36,7 @@ physical_of K.LargeBinary = byte_array
 
 -- the types of its arrays, without extensions
 abbrev pub types_of : LeafKind → TypeTree → Bool
+types_of K.Boolean = is_boolean
 types_of K.Int8 = makes_numbers stores_i8
 types_of K.Int16 = makes_numbers stores_i16
 types_of K.Int32 = makes_numbers stores_i32
@@ -50,6 +53,7 @@ types_of K.LargeBinary = is_binary true
 
 -- the stored values of plain bytes, as they are loaded
 abbrev pub stored_of : LeafKind → List ℕ → List Stored
+stored_of K.Boolean = λ text. stored_truths text 0
 stored_of K.Int8 = stored_numbers (as_signed 8) spelled_32 4
 stored_of K.Int16 = stored_numbers (as_signed 16) spelled_32 4
 stored_of K.Int32 = stored_numbers (λ z. Some z) spelled_32 4
@@ -64,7 +68,7 @@ stored_of K.LargeUtf8 = stored_strings is_utf8
 stored_of K.Binary = stored_strings (λ s. true)
 stored_of K.LargeBinary = stored_strings (λ s. true)
 
--- one above the greatest number of bytes that the offsets of its arrays count; 1 for numbers
+-- one above the greatest number of bytes that the offsets of its arrays count; 1 for truth values and numbers
 abbrev pub limit_of : LeafKind → ℕ
 limit_of K.Utf8 = 2 ^ 31
 limit_of K.LargeUtf8 = 2 ^ 63

@@ -2,7 +2,8 @@
 ghost use Rattle.std.specs.Prelude.{◌≡◌, true, false, MatchOption};
 ghost use Rattle.columns_core.specs.Shapes.{base};
 ghost use Rattle.columns_core.specs.View.{type_view};
-ghost use Rattle.pq_tree.specs.Physical.{int32, int64, byte_array};
+ghost use Rattle.columns_slots.specs.Types.{is_boolean};
+ghost use Rattle.pq_tree.specs.Physical.{boolean, int32, int64, byte_array};
 ghost use Rattle.pq_tree.specs.Views.{physical_view};
 ghost use Rattle.read_types.specs.Reads.{physical_of, types_of};
 ghost use Rattle.write_values.specs.Served.{is_served, is_small, is_string, is_wide};
@@ -10,9 +11,10 @@ ghost use Rattle.write_values.specs.Served.{is_served, is_small, is_string, is_w
 use columns_base::PhysicalType;
 use columns_core::{DataType, TimeUnit};
 
-/// How the values of a leaf are read: as which numbers or strings, and from which physical type.
+/// How the values of a leaf are read: as truth values or as which numbers or strings, and from which physical type.
 #[derive(Clone, Copy, Debug, PartialEq, Eq)]
 pub enum LeafKind {
+    Boolean,
     Int8,
     Int16,
     /// Dates and times of 32 bits too.
@@ -29,6 +31,16 @@ pub enum LeafKind {
     LargeUtf8,
     Binary,
     LargeBinary,
+}
+
+// Of the type that is stored as truth values.
+fn truth_kind(data_type: &DataType) -> Option<LeafKind>
+    ensures { MatchOption result (is_boolean (type_view data_type.now) ≡ false) (λ k. (physical_of k ≡ boolean) × (types_of k (type_view data_type.now) ≡ true) × (is_boolean (type_view data_type.now) ≡ true)) }
+{
+    match data_type {
+        DataType::Boolean => Some(LeafKind::Boolean),
+        _ => None,
+    }
 }
 
 // Of types that are stored as numbers of 32 bits.
@@ -85,6 +97,7 @@ impl LeafKind {
         ensures { MatchOption result (is_served (base (type_view data_type.now)) (physical_view physical_type) ≡ false) (λ k. (physical_of k ≡ physical_view physical_type) × (types_of k (base (type_view data_type.now)) ≡ true) × (is_served (base (type_view data_type.now)) (physical_view physical_type) ≡ true)) }
     {
         match physical_type {
+            PhysicalType::Boolean => truth_kind(data_type.base()),
             PhysicalType::Int32 => small_kind(data_type.base()),
             PhysicalType::Int64 => wide_kind(data_type.base()),
             PhysicalType::ByteArray => string_kind(data_type.base()),

@@ -1,18 +1,20 @@
 //! Numbers.
-ghost use Rattle.std.specs.Prelude.{◌≡◌, ℕ, List, [], ◌∷◌, Some, true, length, map, OnOk, IfOk, IfErr};
-ghost use Rattle.columns_base.specs.declared.error.Error.TheVariants.{Memory};
+ghost use Rattle.std.specs.Prelude.{◌≡◌, ◌⊎◌, ◌≤◌, ℕ, List, [], ◌∷◌, Some, None, true, false, length, map, take, MatchOption, OnOk, IfOk, IfErr};
+ghost use Rattle.columns_base.specs.declared.error.Error.TheVariants.{Memory, OutOfSpec};
+ghost use Rattle.columns_base.specs.declared.error.S.TheVariants.{S6, S7};
 ghost use Rattle.columns_core.specs.Shapes.{base};
 ghost use Rattle.columns_core.specs.View.{type_view};
 ghost use Rattle.columns_array.specs.Boxed.{boxed};
 ghost use Rattle.read_laws.specs.State.{leaf_count, StateFits};
 ghost use Rattle.read_leaf.specs.Numbers.{number_slots, stored_numbers};
+ghost use Rattle.read_pieces.specs.Leaves.{AreEights, BeginsOutside, BeginsWithValue, in_bytes};
 ghost use Rattle.read_walk.specs.Walk.{Extends, Refuses};
 ghost use Rattle.read_types.specs.Arrays.{IsLeafArray, makes_numbers};
 
 use crate::array::LeafArray;
 use crate::boxes::NumberBox;
 use columns_array::ArrayBox;
-use columns_base::Result;
+use columns_base::{Error, Result, S};
 use columns_core::DataType;
 use read_leaf::{FromStored, NumberValues, PlainNumbers, PrimitiveDecoder, StoredNumber};
 use read_pieces::{LeafReader, PlainBytes};
@@ -28,13 +30,43 @@ pub struct Numbers<T, P> {
     stored: PhantomData<P>,
 }
 
+// The number of `T` at the front of the bytes, if it is one.
+fn first_of<T: FromStored<P>, P: StoredNumber>(bytes: &[u8]) -> Option<T>
+    requires { P.byte_count ≤ length bytes.now }
+    ensures { MatchOption result (T.loaded (P.spelled (take P.byte_count bytes.now)) ≡ None) (λ x. T.loaded (P.spelled (take P.byte_count bytes.now)) ≡ Some (T.loaded_number x)) }
+{
+    T::from_stored(P::read(&bytes[..P::width()]))
+}
+
+// How many bytes the first number has.
+fn number_size<T: FromStored<P>, P: StoredNumber>(bytes: &[u8]) -> Result<usize>
+    ensures ok { IfOk result (λ n. BeginsWithValue (stored_numbers T.loaded P.spelled P.byte_count) n bytes.now) }
+    ensures err { IfErr result (λ e. ((e ≡ OutOfSpec S6) × (stored_numbers T.loaded P.spelled P.byte_count bytes.now ≡ [])) ⊎ ((e ≡ OutOfSpec S7) × BeginsOutside (stored_numbers T.loaded P.spelled P.byte_count) bytes.now)) }
+{
+    if bytes.len() < P::width() {
+        return Err(Error::OutOfSpec(S::S6));
+    }
+    match first_of::<T, P>(bytes) {
+        Some(_) => Ok(P::width()),
+        None => Err(Error::OutOfSpec(S::S7)),
+    }
+}
+
+// Numbers stand in bytes of their own.
+fn has_own_bytes<T: FromStored<P>, P: StoredNumber>() -> bool
+    ensures is { result ≡ true }
+    ensures own { in_bytes (stored_numbers T.loaded P.spelled P.byte_count) ≡ true }
+{
+    true
+}
+
 impl<T: FromStored<P>, P: StoredNumber> LeafReader for Numbers<T, P> {
     ghost use Rattle.std.specs.Prelude.{map};
     ghost use Rattle.read_leaf.specs.Numbers.{number_slots, stored_numbers};
 
     type Values = NumberValues<T>;
 
-    ghost stored = { stored_numbers T.loaded P.spelled P.byte_count };
+    ghost stored = { λ text bit. stored_numbers T.loaded P.spelled P.byte_count text };
 
     ghost slots = { λ d. number_slots (map T.loaded_number d.0) d.1 };
 
@@ -45,6 +77,20 @@ impl<T: FromStored<P>, P: StoredNumber> LeafReader for Numbers<T, P> {
         ensures err { IfErr result (λ e. e ≡ Memory) }
     {
         Ok(NumberValues::new(alloc))
+    }
+
+    fn stands_in_bytes() -> bool
+        ensures value { result ≡ in_bytes (λ text. stored_numbers T.loaded P.spelled P.byte_count text) }
+        ensures bits { result ≡ false → (text : List ℕ) → AreEights (λ text. stored_numbers T.loaded P.spelled P.byte_count text) text }
+    {
+        has_own_bytes::<T, P>()
+    }
+
+    fn value_size(bytes: &[u8]) -> Result<usize>
+        ensures ok { in_bytes (λ text. stored_numbers T.loaded P.spelled P.byte_count text) ≡ true → IfOk result (λ n. BeginsWithValue (λ text. stored_numbers T.loaded P.spelled P.byte_count text) n bytes.now) }
+        ensures err { IfErr result (λ e. ((e ≡ OutOfSpec S6) × (stored_numbers T.loaded P.spelled P.byte_count bytes.now ≡ [])) ⊎ ((e ≡ OutOfSpec S7) × BeginsOutside (λ text. stored_numbers T.loaded P.spelled P.byte_count text) bytes.now)) }
+    {
+        number_size::<T, P>(bytes)
     }
 
     fn extend<'a, 'b>(

@@ -1,7 +1,9 @@
 //! Texts and byte strings.
-ghost use Rattle.std.specs.Prelude.{◌≡◌, ◌-◌, ◌<◌, [], Some, true, false, length, map, OnOk, IfOk, IfErr};
+ghost use Rattle.std.specs.Prelude.{◌≡◌, ◌⊎◌, ℕ, List, ◌-◌, ◌<◌, ◌≤◌, [], Some, true, false, length, map, take, drop, MatchOption, OnOk, IfOk, IfErr};
 ghost use Rattle.std.specs.Str.{is_utf8};
-ghost use Rattle.columns_base.specs.declared.error.Error.TheVariants.{Memory};
+ghost use Rattle.columns_base.specs.declared.error.Error.TheVariants.{Memory, OutOfSpec};
+ghost use Rattle.columns_base.specs.declared.error.S.TheVariants.{S6, S7};
+ghost use Rattle.pq_numbers.specs.Texts.{number_of};
 ghost use Rattle.columns_core.specs.Shapes.{base};
 ghost use Rattle.columns_core.specs.View.{type_view};
 ghost use Rattle.columns_slots.specs.Bytes.{pieces, pieces_values};
@@ -11,12 +13,13 @@ ghost use Rattle.columns_slots.specs.Types.{is_text, is_binary};
 ghost use Rattle.columns_array.specs.Boxed.{boxed};
 ghost use Rattle.read_laws.specs.State.{leaf_count, StateFits};
 ghost use Rattle.read_leaf.specs.Strings.{string_slots, stored_strings, AreAllowed};
+ghost use Rattle.read_pieces.specs.Leaves.{AreEights, BeginsOutside, BeginsWithValue, in_bytes};
 ghost use Rattle.read_walk.specs.Walk.{Extends, Refuses};
 ghost use Rattle.read_types.specs.Arrays.{IsLeafArray, masked_leaf};
 
 use crate::array::LeafArray;
 use columns_array::ArrayBox;
-use columns_base::{Error, Result};
+use columns_base::{Error, Result, S};
 use columns_core::{Bitmap, DataType, Offset, OffsetsBuffer};
 use columns_leaf::{BinaryArray, Utf8Array};
 use read_leaf::{Binary, Bytes, PlainStrings, StringDecoder, StringKind, StringValues, Text};
@@ -33,12 +36,56 @@ pub struct Strings<O, K> {
     kind: PhantomData<K>,
 }
 
+// The number in the first four bytes; none where they are cut.
+fn first_length(bytes: &[u8]) -> Option<usize>
+    ensures { MatchOption result (length bytes.now < 4) (λ n. (4 ≤ length bytes.now) × (n ≡ number_of (take 4 bytes.now))) }
+{
+    match bytes {
+        [a, b, c, d, ..] => Some(u32::from_le_bytes([*a, *b, *c, *d]) as usize),
+        _ => None,
+    }
+}
+
+// The bytes from a place on.
+fn skip(bytes: &[u8], count: usize) -> &[u8]
+    requires { count ≤ length bytes.now }
+    ensures { result.now ≡ drop count bytes.now }
+{
+    &bytes[count..]
+}
+
+// How many bytes the first string has, with those of its length.
+fn string_size<K: StringKind>(bytes: &[u8]) -> Result<usize>
+    ensures ok { IfOk result (λ n. BeginsWithValue (stored_strings K.allows) n bytes.now) }
+    ensures err { IfErr result (λ e. ((e ≡ OutOfSpec S6) × (stored_strings K.allows bytes.now ≡ [])) ⊎ ((e ≡ OutOfSpec S7) × BeginsOutside (stored_strings K.allows) bytes.now)) }
+{
+    let Some(count) = first_length(bytes) else {
+        return Err(Error::OutOfSpec(S::S6));
+    };
+    let behind = skip(bytes, 4);
+    if behind.len() < count {
+        return Err(Error::OutOfSpec(S::S6));
+    }
+    if !K::is_value(&behind[..count]) {
+        return Err(Error::OutOfSpec(S::S7));
+    }
+    Ok(4 + count)
+}
+
+// Strings stand in bytes of their own.
+fn has_own_bytes<K: StringKind>() -> bool
+    ensures is { result ≡ true }
+    ensures own { in_bytes (stored_strings K.allows) ≡ true }
+{
+    true
+}
+
 impl<O: Offset, K: StringKind> LeafReader for Strings<O, K> {
     ghost use Rattle.read_leaf.specs.Strings.{stored_strings, string_slots};
 
     type Values = StringValues<O, K>;
 
-    ghost stored = { stored_strings K.allows };
+    ghost stored = { λ text bit. stored_strings K.allows text };
 
     ghost slots = { λ d. string_slots d.0 d.1 };
 
@@ -49,6 +96,20 @@ impl<O: Offset, K: StringKind> LeafReader for Strings<O, K> {
         ensures err { IfErr result (λ e. e ≡ Memory) }
     {
         StringValues::new(alloc)
+    }
+
+    fn stands_in_bytes() -> bool
+        ensures value { result ≡ in_bytes (λ text. stored_strings K.allows text) }
+        ensures bits { result ≡ false → (text : List ℕ) → AreEights (λ text. stored_strings K.allows text) text }
+    {
+        has_own_bytes::<K>()
+    }
+
+    fn value_size(bytes: &[u8]) -> Result<usize>
+        ensures ok { in_bytes (λ text. stored_strings K.allows text) ≡ true → IfOk result (λ n. BeginsWithValue (λ text. stored_strings K.allows text) n bytes.now) }
+        ensures err { IfErr result (λ e. ((e ≡ OutOfSpec S6) × (stored_strings K.allows bytes.now ≡ [])) ⊎ ((e ≡ OutOfSpec S7) × BeginsOutside (λ text. stored_strings K.allows text) bytes.now)) }
+    {
+        string_size::<K>(bytes)
     }
 
     fn extend<'a, 'b>(

@@ -13,3 +13,5 @@ mod large_tests;
 mod run_tests;
 #[cfg(test)]
 mod sink_tests;
+#[cfg(test)]
+mod view_tests;

@@ -79,14 +79,14 @@ sole [] = Some None
 sole (a ∷ []) = Some (Some a)
 sole (a ∷ b ∷ more) = None
 
--- The options where no word asks for others. Statistics are not written yet.
+-- The options where no word asks for others.
 abbrev pub defaults : RewriteOptions
 defaults =
     record {
       version = V1;
       page_limit = 1_048_576;
       chunk_size = None;
-      statistics = false;
+      statistics = true;
       delta = false;
       key_rule = Use;
       byte_limit = 268_435_456;

@@ -7,12 +7,12 @@ use crate::setting::Setting;
 use pq_tree::Version;
 use schema_key::KeyRule;
 
-/// The options where no word asks for others. Statistics are not written yet.
+/// The options where no word asks for others.
 const DEFAULTS: RewriteOptions = RewriteOptions {
     version: Version::V1,
     page_limit: 1_048_576,
     chunk_size: None,
-    statistics: false,
+    statistics: true,
     delta: false,
     key_rule: KeyRule::Use,
     byte_limit: 268_435_456,

@@ -13,7 +13,7 @@ use crate::setting::read_word;
 /// | `--version=1`, `--version=2` | the version of the file and of its pages | 1 |
 /// | `--page=N` | about how many bytes of values a page has | 1,048,576 |
 /// | `--chunk=N` | how many rows go into a group | the groups of the input |
-/// | `--no-stats` | no statistics | none either, since they are not written yet |
+/// | `--no-stats` | no statistics of pages and columns | they stand |
 /// | `--delta` | delta encodings | none |
 /// | `--ignore-key` | the schema that the file carries is not used | it is |
 /// | `--limit=N` | the most bytes that the input may have | 268,435,456 |

@@ -11,7 +11,7 @@ const PLAIN: RewriteOptions = RewriteOptions {
     version: Version::V1,
     page_limit: 1_048_576,
     chunk_size: None,
-    statistics: false,
+    statistics: true,
     delta: false,
     key_rule: KeyRule::Use,
     byte_limit: 268_435_456,
@@ -38,10 +38,20 @@ const ALL_LINES: &[&str] = &[
 // Lines that ask for what stands without words.
 const PLAIN_LINES: &[&str] = &[
     "--version=1",
-    "--no-stats",
     "--page=1048576",
     "--pairs=134217728,--limit=268435456",
 ];
+
+const NO_STATISTICS: RewriteOptions = RewriteOptions {
+    version: Version::V1,
+    page_limit: 1_048_576,
+    chunk_size: None,
+    statistics: false,
+    delta: false,
+    key_rule: KeyRule::Use,
+    byte_limit: 268_435_456,
+    pair_limit: 134_217_728,
+};
 
 // Lines with a word that asks for nothing, or with an option twice.
 const NO_LINES: &[&str] = &[
@@ -76,6 +86,7 @@ fn words_are_read(rt: HostRuntime) -> TestResult {
     for line in PLAIN_LINES {
         assert!(rt; read_line(rt.alloc(), line)? == Some(PLAIN), "{line}");
     }
+    assert!(rt; read_line(rt.alloc(), "--no-stats")? == Some(NO_STATISTICS));
     for line in ALL_LINES {
         assert!(rt; read_line(rt.alloc(), line)? == Some(ALL), "{line}");
     }

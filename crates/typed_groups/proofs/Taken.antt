@@ -1,5 +1,5 @@
 -- Nothing stands against the columns of a chunk that suits.
-use Rattle.std.proofs.Common.{◌≡◌, inl, inr, ℕ, ◌≤◌, Bool, true, false, true≢false, nat_eq, Option, None, Some, List, [], ◌∷◌, length, map, refl, sym, ap, subst, ◌∙◌, arith, Vec}
+use Rattle.std.proofs.Common.{◌≡◌, inl, inr, ℕ, ◌≤◌, Bool, true, true≢false, nat_eq, Option, None, Some, List, [], ◌∷◌, length, map, refl, sym, ap, subst, ◌∙◌, arith, Vec}
 use Rattle.std.specs.Global.{Global}
 use Rattle.std.proofs.lemmas.List.{length-map}
 use Rattle.shredding.specs.Parts.{Part}
@@ -58,52 +58,51 @@ column_fits l slots w parts a type_ e h s =
       reached = rows_along h.values (leaf_slot a) h.are parts s.in_bounds;
     }
 
-not_unwritten : (o : WriteOptions) (parts : List Part) → o.write_statistics ≡ false → ¬ IsUnwritten o parts Plain
-not_unwritten o parts n (inl s) = true≢false (sym s ∙ n)
-not_unwritten o parts n (inr d) = d.1 refl
+not_unwritten : (parts : List Part) → ¬ IsUnwritten parts Plain
+not_unwritten parts d = d.1 refl
 
-not_refused : (o : WriteOptions) (l : Leaf) (slots : List Slot) (w : Way) (parts : List Part) (a : ArrayTree) (type_ : PrimitiveType) (error : Error) → o.write_statistics ≡ false → leaf_node type_ ≡ node_of l → IsServedLeaf l parts a → IsSeen slots w parts a → ¬ RefusesPages o type_ parts a Plain error
-not_refused o l slots w parts a type_ error n e h s (inl r) = not_unwritten o parts n r.1
-not_refused o l slots w parts a type_ error n e h s (inr (inl r)) = true≢false (sym h.written ∙ r.2)
-not_refused o l slots w parts a type_ error n e h s (inr (inr r)) = r.3 (s.in_bounds, column_fits l slots w parts a type_ e h s)
+not_refused : (o : WriteOptions) (l : Leaf) (slots : List Slot) (w : Way) (parts : List Part) (a : ArrayTree) (type_ : PrimitiveType) (error : Error) → leaf_node type_ ≡ node_of l → IsServedLeaf l parts a → IsSeen slots w parts a → ¬ RefusesPages o type_ parts a Plain error
+not_refused o l slots w parts a type_ error e h s (inl r) = not_unwritten parts r.1
+not_refused o l slots w parts a type_ error e h s (inr (inl r)) = true≢false (sym h.written ∙ r.2)
+not_refused o l slots w parts a type_ error e h s (inr (inr r)) = r.3 (s.in_bounds, column_fits l slots w parts a type_ e h s)
 
 -- ---- one field
 
-none_refused : (o : WriteOptions) (slots : List Slot) (ls : List Leaf) (ws : List Way) (ps : List (List Part)) (arrays : List ArrayTree) (error : Error) → o.write_statistics ≡ false → AreServedLeaves ls ps arrays → AreSeen slots ws ps arrays → ¬ AnyRefused o (map node_of ls) ps arrays (map (λ _. Plain) ls) error
-none_refused o slots [] ws ps arrays error n h s r = r
-none_refused o slots (l ∷ ls) (w ∷ ws) (p ∷ ps) (a ∷ arrays) error n h s (inl r) = not_refused o l slots w p a r.0 error n r.1 h.0 s.0 r.2
-none_refused o slots (l ∷ ls) (w ∷ ws) (p ∷ ps) (a ∷ arrays) error n h s (inr r) = none_refused o slots ls ws ps arrays error n h.1 s.1 r
-none_refused o slots (l ∷ ls) [] (p ∷ ps) (a ∷ arrays) error n h s r = s
-none_refused o slots (l ∷ ls) ws [] arrays error n h s r = r
-none_refused o slots (l ∷ ls) ws (p ∷ ps) [] error n h s r = r
+none_refused : (o : WriteOptions) (slots : List Slot) (ls : List Leaf) (ws : List Way) (ps : List (List Part)) (arrays : List ArrayTree) (error : Error) → AreServedLeaves ls ps arrays → AreSeen slots ws ps arrays → ¬ AnyRefused o (map node_of ls) ps arrays (map (λ _. Plain) ls) error
+none_refused o slots [] ws ps arrays error h s r = r
+none_refused o slots (l ∷ ls) (w ∷ ws) (p ∷ ps) (a ∷ arrays) error h s (inl r) = not_refused o l slots w p a r.0 error r.1 h.0 s.0 r.2
+none_refused o slots (l ∷ ls) (w ∷ ws) (p ∷ ps) (a ∷ arrays) error h s (inr r) = none_refused o slots ls ws ps arrays error h.1 s.1 r
+none_refused o slots (l ∷ ls) [] (p ∷ ps) (a ∷ arrays) error h s r = s
+none_refused o slots (l ∷ ls) ws [] arrays error h s r = r
+none_refused o slots (l ∷ ls) ws (p ∷ ps) [] error h s r = r
 
 some_none : (e : Error) → ◌≡◌ {A = Option Error} None (Some e) → ⊥
 some_none e h = cc
 
-field_taken : PathsAreSeen → (o : WriteOptions) (a : ArrayTree) (name : List ℕ) (b : Bool) (es : List Encoding) (error : Error) → o.write_statistics ≡ false → IsSound a → is_served_type (type_of a) ≡ true → nesting (node name b (type_of a)) ≤ 128 → es ≡ map (λ _. Plain) (leaves (node name b (type_of a)))
+field_taken : PathsAreSeen → (o : WriteOptions) (a : ArrayTree) (name : List ℕ) (b : Bool) (es : List Encoding) (error : Error) → IsSound a → is_served_type (type_of a) ≡ true → nesting (node name b (type_of a)) ≤ 128 → es ≡ map (λ _. Plain) (leaves (node name b (type_of a)))
     → ¬ RefusesField o a (node name b (type_of a)) es error
-field_taken law o a name b es error n sound s deep plain (inl r) = absurd (omega (arith, deep, r.1))
-field_taken law o a name b es error n sound s deep plain (inr (inl r)) = some_none error (sym (goes a name b sound s) ∙ r)
-field_taken law o a name b es error n sound s deep plain (inr (inr (inl r))) = r.1 (ap length plain ∙ length-map (leaves (node name b (type_of a))) (λ _. Plain))
-field_taken law o a name b es error n sound s deep plain (inr (inr (inr r))) =
+field_taken law o a name b es error sound s deep plain (inl r) = absurd (omega (arith, deep, r.1))
+field_taken law o a name b es error sound s deep plain (inr (inl r)) = some_none error (sym (goes a name b sound s) ∙ r)
+field_taken law o a name b es error sound s deep plain (inr (inr (inl r))) = r.1 (ap length plain ∙ length-map (leaves (node name b (type_of a))) (λ _. Plain))
+field_taken law o a name b es error sound s deep plain (inr (inr (inr r))) =
     let t = node name b (type_of a) in
-    none_refused o (slots (read_by a t)) (leaves t) (ways (shape_by a t)) (paths a t) (array_leaves a) error n (are_served a name b sound s) (law a t sound (goes a name b sound s))
+    none_refused o (slots (read_by a t)) (leaves t) (ways (shape_by a t)) (paths a t) (array_leaves a) error (are_served a name b sound s) (law a t sound (goes a name b sound s))
     (subst (λ (xs : List Encoding). AnyRefused o (map node_of (leaves t)) (paths a t) (array_leaves a) xs error) plain r)
 
 -- ---- field after field
 
-fields_taken : PathsAreSeen → (o : WriteOptions) (fs : FieldTrees) (cs : ArrayTrees) (ess : List (List Encoding)) (error : Error) → o.write_statistics ≡ false → AreAllSound cs → AreTyped fs cs → are_served_fields fs ≡ true → nesting_of (trees_of fs) ≤ 128 → ArePlain (trees_of fs) ess → ¬ RefusesFields o cs (trees_of fs) ess error
-fields_taken law o no_fields no_arrays ess error n sound typed s deep plain r = r
-fields_taken law o (more_fields (field name t b m) fs) (more_arrays c cs) [] error n sound typed s deep plain r = plain
-fields_taken law o (more_fields (field name t b m) fs) (more_arrays c cs) (es ∷ ess) error n sound typed s deep plain (inl r) =
+fields_taken : PathsAreSeen → (o : WriteOptions) (fs : FieldTrees) (cs : ArrayTrees) (ess : List (List Encoding)) (error : Error) → AreAllSound cs → AreTyped fs cs → are_served_fields fs ≡ true → nesting_of (trees_of fs) ≤ 128 → ArePlain (trees_of fs) ess → ¬ RefusesFields o cs (trees_of fs) ess error
+fields_taken law o no_fields no_arrays ess error sound typed s deep plain r = r
+fields_taken law o (more_fields (field name t b m) fs) (more_arrays c cs) [] error sound typed s deep plain r = plain
+fields_taken law o (more_fields (field name t b m) fs) (more_arrays c cs) (es ∷ ess) error sound typed s deep plain (inl r) =
     let own : is_served_type (type_of c) ≡ true = ap is_served_type (sym typed.0) ∙ served_first name t b m fs s in
     let here : ¬ RefusesField o c (node name b t) es error =
     subst (λ (x : TypeTree). nesting (node name b x) ≤ 128 → es ≡ map (λ _. Plain) (leaves (node name b x)) → ¬ RefusesField o c (node name b x) es error) (sym typed.0)
-    (λ d p. field_taken law o c name b es error n sound.0 own d p) (omega (arith, deep)) plain.0 in
+    (λ d p. field_taken law o c name b es error sound.0 own d p) (omega (arith, deep)) plain.0 in
     here r
-fields_taken law o (more_fields (field name t b m) fs) (more_arrays c cs) (es ∷ ess) error n sound typed s deep plain (inr r) = fields_taken law o fs cs ess error n sound.1 typed.1 (served_rest name t b m fs s) (omega (arith, deep)) plain.1 r
-fields_taken law o no_fields (more_arrays c cs) ess error n sound typed s deep plain r = typed
-fields_taken law o (more_fields (field name t b m) fs) no_arrays ess error n sound typed s deep plain r = typed
+fields_taken law o (more_fields (field name t b m) fs) (more_arrays c cs) (es ∷ ess) error sound typed s deep plain (inr r) = fields_taken law o fs cs ess error sound.1 typed.1 (served_rest name t b m fs s) (omega (arith, deep)) plain.1 r
+fields_taken law o no_fields (more_arrays c cs) ess error sound typed s deep plain r = typed
+fields_taken law o (more_fields (field name t b m) fs) no_arrays ess error sound typed s deep plain r = typed
 
 -- ---- as many
 
@@ -128,5 +127,5 @@ taken law fs o chunk encodings trees h =
         sym (length-map encodings (λ (es : Vec Encoding Global). es.items)) ∙ (plain_count (trees_of fs) lists plain ∙ sym many),
         sym (viewed_count trees) ∙ (ap count_trees view ∙ sym many),
       );
-      none = λ error r. fields_taken law o fs chunk lists error h.no_statistics h.sound h.typed h.served (omega (arith, h.written.tree_nesting)) plain (subst (λ (ts : Trees). RefusesFields o chunk ts lists error) view r);
+      none = λ error r. fields_taken law o fs chunk lists error h.sound h.typed h.served (omega (arith, h.written.tree_nesting)) plain (subst (λ (ts : Trees). RefusesFields o chunk ts lists error) view r);
     }

@@ -1,5 +1,5 @@
 -- The worked chunk.
-use Rattle.std.proofs.Common.{true, true≢false, pos, All, List, [], ◌∷◌, refl, sym, ap, arith}
+use Rattle.std.proofs.Common.{Bool, true, false, true≢false, pos, All, List, [], ◌∷◌, refl, sym, ap, arith}
 use Rattle.std.proofs.lemmas.List.Elements.{All-from_recursion}
 use Rattle.shredding.specs.Parts.{slots_from}
 use Rattle.shredding.specs.Shape.{AreOf, IsInRange, IsOf, leaf, signed}
@@ -11,7 +11,9 @@ use Rattle.pq_headline.specs.Arrays.{rows_of}
 use Rattle.pq_headline.specs.Openings.{CanBeWritten}
 use Rattle.pq_tree.specs.Tree.{count_trees}
 use Rattle.schema_to_tree.specs.Conditions.{AreWritten}
-use Rattle.typed_groups.specs.Worked.{AreWorked, four_lists, four_numbers, four_rows, two_fields}
+use Rattle.schema_to_tree.specs.Table.{trees_of}
+use Rattle.typed_groups.specs.Suiting.{Suits}
+use Rattle.typed_groups.specs.Worked.{AreWorked, four_lists, four_numbers, four_rows, options, plain_each, two_fields}
 
 lists_sound : IsSound four_lists
 lists_sound =
@@ -38,10 +40,13 @@ are_written = record { structs = refl; decimals = refl; times = refl; types = re
 held : CanBeWritten two_fields
 held = (refl, tt, (refl, tt, tt))
 
+suits : (statistics : Bool) → Suits two_fields (options statistics) four_rows (trees_of two_fields) plain_each
+suits statistics = record { sound = (lists_sound, (numbers_sound, tt)); typed = (refl, (refl, tt)); even = (refl, tt); rows_are = rows; trees_are = refl; written = are_written; held = held; served = refl; encodings = (refl, (refl, tt)) }
+
 pub worked : AreWorked
 worked = record {
-  suits = record { sound = (lists_sound, (numbers_sound, tt)); typed = (refl, (refl, tt)); even = (refl, tt); rows_are = rows; trees_are = refl; written = are_written; held = held; served = refl; encodings = (refl, (refl, tt)); no_statistics = refl };
-  statistics = λ h. true≢false h.no_statistics;
+  suits = suits false;
+  statistics = suits true;
   fewer_encodings = λ h. h.encodings.1;
   no_columns = λ h. absurd (omega (arith, ap count_trees h.trees_are));
   other_order = λ h. true≢false (sym (ap is_leaf h.typed.0));

@@ -1,4 +1,4 @@
--- Chunks of arrays that are written as groups of a schema that is settled, plain and without statistics (Parquet format, "Row groups", "Nested Encoding").
+-- Chunks of arrays that are written as groups of a schema that is settled, plain (Parquet format, "Row groups", "Nested Encoding").
 use Rattle.std.specs.Prelude.{◌≡◌, ◌⊎◌, true, false, All, List, [], ◌∷◌, length, map, Vec}
 use Rattle.std.specs.Global.{Global}
 use Rattle.shredding.specs.Shape.{AreOf}
@@ -43,7 +43,7 @@ ArePlain (tree t ts) (es ∷ ess) = (es ≡ map (λ _. Plain) (leaves t)) × Are
 ArePlain _ _ = ⊥
 
 -- The arrays are those of the fields: of their types and of one length, and their rows are rows of the schema. They are to be written by the trees of
--- the fields, which can be written and are served, each leaf plain, and without statistics.
+-- the fields, which can be written and are served, each leaf plain.
 pub record Suits (fs : FieldTrees) (o : WriteOptions) (chunk : ArrayTrees) (trees : Trees) (ess : List (List Encoding)) : Type 0 where
   pub sound : AreAllSound chunk
   pub typed : AreTyped fs chunk
@@ -54,7 +54,6 @@ pub record Suits (fs : FieldTrees) (o : WriteOptions) (chunk : ArrayTrees) (tree
   pub held : CanBeWritten fs
   pub served : are_served_fields fs ≡ true
   pub encodings : ArePlain trees ess
-  pub no_statistics : o.write_statistics ≡ false
 
 -- the same of a chunk whose columns are there
 abbrev pub IsSuiting : FieldTrees → RowGroupIter → Type 0

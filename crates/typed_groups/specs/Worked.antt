@@ -1,4 +1,4 @@
--- A worked chunk: lists of numbers and a number in each of four rows. It suits its fields, and neither with statistics, nor by fewer encodings, nor by other trees.
+-- A worked chunk: lists of numbers and a number in each of four rows. It suits its fields, with statistics and without, and neither by fewer encodings nor by other trees.
 use Rattle.std.specs.Prelude.{pos, codes, Bool, true, false, Some, None, List, [], ◌∷◌}
 use Rattle.shredding.specs.Slot.{number}
 use Rattle.columns_core.specs.Tree.{TypeTree, t_int32, t_int64, t_list, field, FieldTrees, no_fields, more_fields}
@@ -38,7 +38,7 @@ plain_each = (Plain ∷ []) ∷ (Plain ∷ []) ∷ []
 
 pub record AreWorked : Type 0 where
   pub suits : Suits two_fields (options false) four_rows (trees_of two_fields) plain_each
-  pub statistics : Suits two_fields (options true) four_rows (trees_of two_fields) plain_each → ⊥
+  pub statistics : Suits two_fields (options true) four_rows (trees_of two_fields) plain_each
   pub fewer_encodings : Suits two_fields (options false) four_rows (trees_of two_fields) ((Plain ∷ []) ∷ []) → ⊥
   pub no_columns : Suits two_fields (options false) four_rows no_trees [] → ⊥
   -- arrays in another order have other types

@@ -1,4 +1,4 @@
-//! Chunks of arrays as groups of a schema that is settled: what is known of them where they are written plain and without statistics.
+//! Chunks of arrays as groups of a schema that is settled: what is known of them where they are written plain.
 #![tactic(auto)]
 
 mod know;

@@ -1,11 +1,12 @@
 //! The pages of one column of a group, one at a time.
-ghost use Rattle.std.specs.Prelude.{◌≡◌, ◌<◌, ℕ, None, Some, All, option_map, IfSome, IfErr};
+ghost use Rattle.std.specs.Prelude.{◌≡◌, ◌<◌, ◌≤◌, ℕ, None, Some, All, option_map, IfSome, IfErr};
 ghost use Rattle.columns_base.specs.declared.error.Error.{Error as Fault};
 ghost use Rattle.pq_tree.specs.Tree.{Leaf};
 ghost use Rattle.pq_tree.specs.Views.{statistics_view};
 ghost use Rattle.pq_tree.specs.declared.version.Version.{Version};
 ghost use Rattle.pq_files.specs.Layout.{OutChunk};
-ghost use Rattle.pq_files.specs.Written.{statistics_of};
+ghost use Rattle.pq_files.specs.Room.{max_count};
+ghost use Rattle.pq_files.specs.Written.{pairs_in, statistics_of};
 ghost use Rattle.write_file.specs.Pages.{GivesNext, encoding_view};
 
 use columns_base::Result;
@@ -17,6 +18,9 @@ pub trait ChunkPages {
     /// It still gives the pages of this chunk of a leaf, in this version.
     ghost gives: { Self → Version → Leaf → OutChunk → Type 0 };
 
+    /// It is to give the pages of this chunk of a leaf, and gave none of them yet.
+    ghost begins: { Self → Version → Leaf → OutChunk → Type 0 };
+
     /// So many steps are left at most.
     ghost left: { Self → ℕ };
 
@@ -25,6 +29,9 @@ pub trait ChunkPages {
 
     /// A chunk without a dictionary.
     ghost no_entries: { (s : Self) (version : Version) (l : Leaf) (c : OutChunk) → gives s version l c → c.entries ≡ None };
+
+    /// What is to be given is still given.
+    ghost begun: { (s : Self) (version : Version) (l : Leaf) (c : OutChunk) → begins s version l c → gives s version l c };
 
     /// The next page; none at the end.
     fn next_page(&mut self) -> Option<Result<DataPage>>
@@ -37,7 +44,7 @@ pub trait ChunkPages {
     fn encoding(&self) -> Encoding
         ensures { (version : Version) (l : Leaf) (c : OutChunk) → gives self.now version l c → All (λ o. encoding_view result ≡ Some o.encoding) c.pages };
 
-    /// The statistics of the whole chunk, where they are written.
+    /// The statistics of the whole chunk, where they are written. Of a chunk with more pairs than a file counts nothing is known.
     fn statistics(&self) -> &Option<Statistics>
-        ensures { (version : Version) (l : Leaf) (c : OutChunk) → gives self.now version l c → option_map statistics_view result.now ≡ option_map statistics_of c.statistics };
+        ensures { (version : Version) (l : Leaf) (c : OutChunk) → begins self.now version l c → pairs_in c ≤ max_count → option_map statistics_view result.now ≡ option_map statistics_of c.statistics };
 }

@@ -1,7 +1,9 @@
 -- The columns of a field as chunks of a file.
-use Rattle.std.proofs.Common.{◌≡◌, inl, ℕ, ◌<◌, List, [], ◌∷◌, length, map, flat_map, None, refl, sym, ap, subst, ◌∙◌, arith, Bool, true, false}
+use Rattle.std.proofs.Common.{◌≡◌, ℕ, ◌<◌, ◌≤◌, option_map, List, [], ◌∷◌, length, map, flat_map, None, refl, sym, ap, subst, ◌∙◌, arith}
 use Rattle.std.specs.List.{AllByRecursion as Each}
-use Rattle.std.proofs.lemmas.List.{length-map}
+use Rattle.std.specs.Prelude.{sum_by}
+use Rattle.std.proofs.lemmas.List.{length-append, length-map}
+use Rattle.std.proofs.lemmas.List.Sums.{sum_by-cons}
 use Rattle.shredding.proofs.Counts.{counted as rows_are_counted}
 use Rattle.shredding.proofs.Pieces.{pieces_are_rows}
 use Rattle.shredding.specs.Along.{along}
@@ -15,10 +17,12 @@ use Rattle.columns_slots.specs.Tree.{ArrayTree}
 use Rattle.nested_paths.specs.Leaves.{node_of}
 use Rattle.nested_paths.specs.Levels.{path_levels, leaf_levels}
 use Rattle.nested_paths.specs.Seen.{AreSeen, IsSeen}
-use Rattle.pq_files.specs.Layout.{OutChunk, plain_length, rows_per_page}
+use Rattle.pq_files.specs.Layout.{OutPage, OutChunk, plain_length, rows_per_page}
 use Rattle.pq_files.specs.Packed.{triples_out}
 use Rattle.pq_files.specs.Page.{rows_in, values_in}
-use Rattle.pq_files.specs.Stored.{AreStored}
+use Rattle.pq_files.specs.Room.{max_count}
+use Rattle.pq_files.specs.Stored.{AreStored, IsStoredTriple}
+use Rattle.pq_files.specs.Written.{pairs_in, statistics_of}
 use Rattle.pq_tree.specs.Physical.{Physical}
 use Rattle.pq_tree.specs.Tree.{Leaf}
 use Rattle.pq_tree.specs.Views.{physical_view}
@@ -30,10 +34,11 @@ use Rattle.write_pages.specs.Columns.{AreColumns, IsColumn, LeafNode}
 use Rattle.write_pages.specs.Holds.{ToGive, rows_of}
 use Rattle.write_pages.specs.Rule.{page_limit}
 use Rattle.write_pages.specs.declared.options.WriteOptions.{WriteOptions}
+use Rattle.write_groups.proofs.Laid.{statistics_moved}
 use Rattle.write_groups.proofs.Pieces.{each_some, some_pieces, paged, stored_rows}
 use Rattle.write_groups.proofs.Lists.{zip_length}
 use Rattle.write_groups.specs.Columns.{IsFresh}
-use Rattle.write_groups.specs.Given.{GivesChunk, GivesColumn, IsPageOf, to_come}
+use Rattle.write_groups.specs.Given.{BeginsColumn, GivesChunk, IsPageOf, to_come}
 use Rattle.write_groups.specs.declared.column.ChunkColumn.{ChunkColumn}
 use Rattle.write_file.specs.Pages.{AllGive}
 
@@ -43,15 +48,16 @@ use Rattle.write_file.specs.Pages.{AllGive}
 pub record Chunked (version : Version) (l : Leaf) (g : ToGive) (rows : ℕ) : Type 0 where
   pub chunk : OutChunk
   pub gives : GivesChunk version l chunk g
+  pub stated : pairs_in chunk ≤ max_count → g.statistics ≡ option_map statistics_of chunk.statistics
   pub counted : rows_in (triples_out chunk) ≡ rows
   pub some : 0 < length chunk.pages
 
 at_least : (limit size n : ℕ) → 0 < rows_per_page limit size n
 at_least limit size n = omega arith
 
-not_true : (b : Bool) → (b ≡ true → ⊥) → b ≡ false
-not_true true h = absurd (h refl)
-not_true false h = refl
+pairs_long : (ps : List OutPage) → sum_by (λ o. length o.triples) ps ≡ length (flat_map (λ (o : OutPage). o.triples) ps)
+pairs_long [] = refl
+pairs_long (o ∷ ps) = sum_by-cons (λ (x : OutPage). length x.triples) o ps ∙ omega (arith, pairs_long ps, length-append o.triples (flat_map (λ (x : OutPage). x.triples) ps))
 
 as_given : (g : ToGive) (t : LeafType) (p : Physical) (w : Way) (rows : List Slot) (stored : List Triple) → g.type ≡ t → g.physical ≡ p → g.way ≡ w → flat_map (λ (x : List Slot). x) g.pieces ≡ rows → AreStored t p (column w rows) stored → AreStored g.type g.physical (column g.way (flat_map (λ (x : List Slot). x) g.pieces)) stored
 as_given g t p w rows stored a b c d h =
@@ -73,10 +79,9 @@ chunked o l node w slots parts a e g h n v s some =
     let made = paged g g.pieces p.stored each stored in
     let served = fits_served (base (type_of a)) (physical_view t.physical_type) h.written.values h.written.fits.physical in
     record {
-      chunk = record { entries = None; pages = made.pages; statistics = None };
+      chunk = record { entries = None; pages = made.pages; statistics = p.statistics.out };
       gives = record {
         version_is = ap (λ (x : WriteOptions). x.version) p.options;
-        no_statistics = ap (λ (x : WriteOptions). x.write_statistics) p.options ∙ not_true o.write_statistics (λ q. h.written.form (inl q));
         leaf = record {
           physical = ap (λ (x : LeafNode). x.1) (sym n ∙ sym h.is) ∙ sym p.physical;
           repeats = sym (ap (λ (x : ℕ × ℕ). x.1) v) ∙ ap max_repetition (sym p.way);
@@ -84,11 +89,14 @@ chunked o l node w slots parts a e g h n v s some =
         };
         once = λ xs ys zs x y. stored_once g.type (base (type_of a)) (physical_view t.physical_type) xs ys zs served (subst (λ (q : Physical). AreStored g.type q xs ys) p.physical x) (subst (λ (q : Physical). AreStored g.type q xs zs) p.physical y);
         entries = refl;
-        statistics = refl;
+        statistics =
+            statistics_moved o.write_statistics g.options.write_statistics (leaf_type (type_of a)) g.type (physical_view t.physical_type) g.physical p.statistics.out (column (path_way parts) rows) (column g.way g.rows) (sym (ap (λ (x : WriteOptions). x.write_statistics) p.options)) (sym p.type)
+            (sym p.physical) (λ j. column (sym p.way j) (sym p.rows j)) p.statistics.has;
         pages = made.are;
       };
+      stated = λ few. p.statistics.are (omega (arith, few, pairs_long made.pages, ap length made.whole, zip_length (IsStoredTriple (leaf_type (type_of a)) (physical_view t.physical_type)) (column (path_way parts) rows) p.stored p.are_stored));
       counted = ap rows_in made.whole ∙ (stored_rows g.type g.physical _ p.stored stored ∙ (rows_are_counted g.way _ ∙ (ap length pieces ∙ count)));
-      some = omega (arith, zip_length (IsPageOf g.type g.physical g.way) g.pieces made.pages made.are, ap length p.pieces, some_pieces k rows (omega (arith, some, count)));
+      some = omega (arith, zip_length (IsPageOf g.options.write_statistics g.type g.physical g.way) g.pieces made.pages made.are, ap length p.pieces, some_pieces k rows (omega (arith, some, count)));
     }
 
 -- ---- those of a field
@@ -103,7 +111,7 @@ tail_of (x ∷ xs) = xs
 
 pub record AllChunked (version : Version) (ls : List Leaf) (ss : List ChunkColumn) (rows : ℕ) : Type 0 where
   pub chunks : List OutChunk
-  pub give : AllGive GivesColumn version ls chunks ss
+  pub give : AllGive BeginsColumn version ls chunks ss
   pub counted : Each (λ (c : OutChunk). rows_in (triples_out c) ≡ rows) chunks
 
 pub all_chunked : (o : WriteOptions) (ls : List Leaf) (slots : List Slot) (ws : List Way) (paths : List (List Part)) (leaves : List ArrayTree) (es : List Encoding) (ss : List ChunkColumn) → AreColumns o (map node_of ls) paths leaves es (map to_come ss) → map path_levels paths ≡ map leaf_levels ls → AreSeen slots ws paths leaves → Each IsFresh ss → 0 < length slots → AllChunked o.version ls ss (length slots)
@@ -113,7 +121,7 @@ all_chunked o (l ∷ ls) slots (w ∷ ws) (parts ∷ paths) (a ∷ leaves) (e �
     let rest = all_chunked o ls slots ws paths leaves es ss h.1 (ap tail_of v) s.1 f.1 some in
     record {
       chunks = one.chunk ∷ rest.chunks;
-      give = ((f.0.has_failed, f.0.statistics, one.gives), one.some, rest.give);
+      give = (((f.0.has_failed, one.gives), one.stated), one.some, rest.give);
       counted = (one.counted, rest.counted);
     }
 all_chunked o [] slots (w ∷ ws) [] [] [] [] h v s f some = absurd s

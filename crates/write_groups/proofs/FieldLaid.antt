@@ -19,16 +19,16 @@ use Rattle.write_file.specs.Pages.{AllGive}
 use Rattle.write_pages.specs.Columns.{AreColumns}
 use Rattle.write_pages.specs.declared.options.WriteOptions.{WriteOptions}
 use Rattle.write_groups.proofs.Laid.{laid}
-use Rattle.write_groups.specs.Given.{GivesColumn, to_come}
+use Rattle.write_groups.specs.Given.{BeginsColumn, to_come}
 use Rattle.write_groups.specs.Laid.{AreOwnColumns, FieldsAreLaid, style_of}
 use Rattle.write_groups.specs.declared.column.ChunkColumn.{ChunkColumn}
 
 each_laid : (o : WriteOptions) (version : Version) (i : ℕ) (rows : List Slots) (ls : List Leaf) (ws : List Way) (ps : List (List Part)) (arrays : List ArrayTree) (es : List Encoding) (ss : List ChunkColumn) (chunks : List OutChunk) (cs : List ArrowColumn)
-    → AreColumns o (map node_of ls) ps arrays es (map to_come ss) → AreSeen (field_slots i rows) ws ps arrays → AllGive GivesColumn version ls chunks ss → AreOwnColumns i ws arrays cs
+    → AreColumns o (map node_of ls) ps arrays es (map to_come ss) → AreSeen (field_slots i rows) ws ps arrays → AllGive BeginsColumn version ls chunks ss → AreOwnColumns i ws arrays cs
     → AreLaid (style_of o) rows cs ls (map (λ c. plain) cs) (map (λ c. None) cs) chunks
 each_laid o version i rows [] [] [] [] [] [] [] [] h s k own = tt
 each_laid o version i rows (l ∷ ls) (w ∷ ws) (p ∷ ps) (a ∷ arrays) (e ∷ es) (x ∷ ss) (k ∷ chunks) (c ∷ cs) h s g own =
-    (laid o (node_of l) p a e (to_come x) version l k c i w rows h.0 s.0 g.0.2 own.0 own.1, each_laid o version i rows ls ws ps arrays es ss chunks cs h.1 s.1 g.2 own.2)
+    (laid o (node_of l) p a e (to_come x) version l k c i w rows h.0 s.0 g.0.0.1 own.0 own.1, each_laid o version i rows ls ws ps arrays es ss chunks cs h.1 s.1 g.2 own.2)
 each_laid o version i rows [] (w ∷ ws) [] [] [] [] chunks cs h s k own = absurd s
 each_laid o version i rows [] [] [] [] [] [] (k ∷ chunks) cs h s g own = absurd g
 each_laid o version i rows [] [] [] [] [] [] [] (c ∷ cs) h s k own = absurd own

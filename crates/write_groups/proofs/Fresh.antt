@@ -12,7 +12,7 @@ given_of (p ∷ ps) = ap (λ (gs : List ToGive). to_give p ∷ gs) (given_of ps)
 
 each_fresh : (ps : List PageState) → Each IsFresh (map column_of ps)
 each_fresh [] = tt
-each_fresh (p ∷ ps) = (record { statistics = refl; has_failed = refl }, each_fresh ps)
+each_fresh (p ∷ ps) = (record { has_failed = refl }, each_fresh ps)
 
 pub all_fresh : (ps : List PageState) → All IsFresh (map column_of ps)
 all_fresh ps = All-from_recursion IsFresh (map column_of ps) (each_fresh ps)

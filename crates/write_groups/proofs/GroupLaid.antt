@@ -30,7 +30,7 @@ use Rattle.write_pages.specs.declared.options.WriteOptions.{WriteOptions}
 use Rattle.write_groups.proofs.FieldLaid.{field_laid}
 use Rattle.write_groups.proofs.Groups.{even_len}
 use Rattle.write_groups.specs.Columns.{AreGroupColumns}
-use Rattle.write_groups.specs.Given.{GivesColumn, to_come}
+use Rattle.write_groups.specs.Given.{BeginsColumn, to_come}
 use Rattle.write_groups.specs.Laid.{AreOwnColumns, GroupsAreLaid, style_of}
 use Rattle.write_groups.specs.declared.column.ChunkColumn.{ChunkColumn}
 
@@ -40,10 +40,10 @@ record Halves (version : Version) (ls ks : List Leaf) (chunks : List OutChunk) (
   pub first : List OutChunk
   pub others : List OutChunk
   pub parts : chunks ≡ first ++ others
-  pub mine : AllGive GivesColumn version ls first ss
-  pub theirs : AllGive GivesColumn version ks others ts
+  pub mine : AllGive BeginsColumn version ls first ss
+  pub theirs : AllGive BeginsColumn version ks others ts
 
-halves : (version : Version) (ls ks : List Leaf) (chunks : List OutChunk) (ss ts : List ChunkColumn) → length ls ≡ length ss → AllGive GivesColumn version (ls ++ ks) chunks (ss ++ ts) → Halves version ls ks chunks ss ts
+halves : (version : Version) (ls ks : List Leaf) (chunks : List OutChunk) (ss ts : List ChunkColumn) → length ls ≡ length ss → AllGive BeginsColumn version (ls ++ ks) chunks (ss ++ ts) → Halves version ls ks chunks ss ts
 halves version [] ks chunks [] ts e h = record { first = []; others = chunks; parts = refl; mine = tt; theirs = h }
 halves version [] ks chunks (s ∷ ss) ts e h = absurd (omega (arith, e))
 halves version (l ∷ ls) ks chunks [] ts e h = absurd (omega (arith, e))
@@ -113,14 +113,14 @@ own_beneath place (w ∷ ws) [] cs h = absurd h
 own_beneath place (w ∷ ws) (a ∷ arrays) [] h = absurd h
 
 all_laid : TypedColumnsAreOwn → TypedSlotsAreRead → (o : WriteOptions) (version : Version) (rows : List Slots) (fs : FieldTrees) (cs : ArrayTrees) (ess : List (List Asked)) (columns : List ChunkColumn) (chunks : List OutChunk) (place : ℕ) (at : Slots → Slots)
-    → AreGroupColumns o cs (trees_of fs) ess columns → AllGive GivesColumn version (leaves_of (trees_of fs)) chunks columns → AreTyped fs cs
+    → AreGroupColumns o cs (trees_of fs) ess columns → AllGive BeginsColumn version (leaves_of (trees_of fs)) chunks columns → AreTyped fs cs
     → ((row : Slots) (j : ℕ) → slot_at row (place + j) ≡ slot_at (at row) j) → Each (λ row. AreOf (shapes_of fs) (at row)) rows → HaveLen (length rows) cs → ((j : ℕ) → tree_len (array_at j cs) ≡ length rows → field_slots (place + j) rows ≡ slots (array_at j cs))
     → AreLaid (style_of o) rows (columns_from false place fs) (leaves_of (trees_of fs)) (map (λ c. plain) (columns_from false place fs)) (map (λ c. None) (columns_from false place fs)) chunks
 all_laid own read o version rows no_fields no_arrays [] [] [] place at h give typed e are even own_slots = tt
 all_laid own read o version rows (more_fields (field name t b md) fs) (more_arrays c cs) (es ∷ ess) columns chunks place at h give typed e are even own_slots =
     let f = h.3 in
     let here : place + 0 ≡ place = omega arith in
-    let two = halves version (leaves (node name b t)) (leaves_of (trees_of fs)) chunks h.0 h.1 (as_many o (leaves (node name b t)) _ _ es h.0 f.are) (subst (λ (ss : List ChunkColumn). AllGive GivesColumn version (leaves (node name b t) ++ leaves_of (trees_of fs)) chunks ss) h.2 give) in
+    let two = halves version (leaves (node name b t)) (leaves_of (trees_of fs)) chunks h.0 h.1 (as_many o (leaves (node name b t)) _ _ es h.0 f.are) (subst (λ (ss : List ChunkColumn). AllGive BeginsColumn version (leaves (node name b t) ++ leaves_of (trees_of fs)) chunks ss) h.2 give) in
     let mine_are : field_slots place rows ≡ slots c = ap (λ (n : ℕ). field_slots n rows) (sym here) ∙ own_slots 0 even.0 in
     let of_field : Each (IsOf (type_shape b t)) (field_slots place rows) = each_first (type_shape b t) (shapes_of fs) at place rows (λ one. ap (slot_at one) (sym here) ∙ e one 0) are in
     let all : All (IsOf (type_shape b (type_of c))) (slots c) = subst (λ (x : TypeTree). All (IsOf (type_shape b x)) (slots c)) typed.0 (All-from_recursion (IsOf (type_shape b t)) (slots c) (subst (Each (IsOf (type_shape b t))) mine_are of_field)) in

@@ -19,7 +19,7 @@ use Rattle.write_file.specs.Pages.{AllGive}
 use Rattle.write_pages.specs.declared.options.WriteOptions.{WriteOptions}
 use Rattle.write_groups.proofs.Chunks.{AllChunked, all_chunked}
 use Rattle.write_groups.specs.Columns.{AreGroupColumns, IsFresh}
-use Rattle.write_groups.specs.Given.{GivesColumn}
+use Rattle.write_groups.specs.Given.{BeginsColumn}
 use Rattle.write_groups.specs.declared.column.ChunkColumn.{ChunkColumn}
 
 -- ---- an array has as many slots however its masks are looked at
@@ -51,7 +51,7 @@ even_len (more_arrays c cs) h = (refl, h)
 
 -- ---- field after field
 
-both_give : (version : Version) (ls ls' : List Leaf) (cs cs' : List OutChunk) (ss ss' : List ChunkColumn) → AllGive GivesColumn version ls cs ss → AllGive GivesColumn version ls' cs' ss' → AllGive GivesColumn version (ls ++ ls') (cs ++ cs') (ss ++ ss')
+both_give : (version : Version) (ls ls' : List Leaf) (cs cs' : List OutChunk) (ss ss' : List ChunkColumn) → AllGive BeginsColumn version ls cs ss → AllGive BeginsColumn version ls' cs' ss' → AllGive BeginsColumn version (ls ++ ls') (cs ++ cs') (ss ++ ss')
 both_give version [] ls' [] cs' [] ss' h g = g
 both_give version (l ∷ ls) ls' (c ∷ cs) cs' (s ∷ ss) ss' h g = (h.0, h.1, both_give version ls ls' cs cs' ss ss' h.2 g)
 both_give version [] ls' [] cs' (s ∷ ss) ss' h g = absurd h
@@ -65,7 +65,7 @@ each_of_both P (x ∷ xs) ys h g = (h.0, each_of_both P xs ys h.1 g)
 
 pub group_chunks : (o : WriteOptions) (cs : ArrayTrees) (ts : Trees) (ess : List (List Encoding)) (columns : List ChunkColumn) (n : ℕ) → PathsHaveLevels → AreGroupColumns o cs ts ess columns → HaveLen n cs → 0 < n → AllChunked o.version (leaves_of ts) columns n
 group_chunks o no_arrays no_trees [] columns n law h even some =
-    record { chunks = []; give = subst (λ (ss : List ChunkColumn). AllGive GivesColumn o.version [] [] ss) (sym h) tt; counted = tt }
+    record { chunks = []; give = subst (λ (ss : List ChunkColumn). AllGive BeginsColumn o.version [] [] ss) (sym h) tt; counted = tt }
 group_chunks o (more_arrays a cs) (tree t ts) (es ∷ ess) columns n law h even some =
     let f = h.3 in
     let long : length (slots (read_by a t)) ≡ n = read_slots a t ∙ even.0 in
@@ -74,7 +74,7 @@ group_chunks o (more_arrays a cs) (tree t ts) (es ∷ ess) columns n law h even 
     let count : OutChunk → Type 0 = λ c. rows_in (triples_out c) ≡ n in
     record {
       chunks = mine.chunks ++ rest.chunks;
-      give = subst (λ (ss : List ChunkColumn). AllGive GivesColumn o.version (leaves t ++ leaves_of ts) (mine.chunks ++ rest.chunks) ss) (sym h.2) (both_give o.version (leaves t) (leaves_of ts) mine.chunks rest.chunks h.0 h.1 mine.give rest.give);
+      give = subst (λ (ss : List ChunkColumn). AllGive BeginsColumn o.version (leaves t ++ leaves_of ts) (mine.chunks ++ rest.chunks) ss) (sym h.2) (both_give o.version (leaves t) (leaves_of ts) mine.chunks rest.chunks h.0 h.1 mine.give rest.give);
       counted = each_of_both count mine.chunks rest.chunks (subst (λ (k : ℕ). Each (λ c. rows_in (triples_out c) ≡ k) mine.chunks) long mine.counted) rest.counted;
     }
 group_chunks o no_arrays no_trees (es ∷ ess) columns n law h even some = absurd h

@@ -47,9 +47,12 @@ zip_maps P Q f h [] (o ∷ os) to z = absurd z
 zip_maps P Q f h (p ∷ ps) [] to z = absurd z
 zip_maps P Q f h (p ∷ ps) (o ∷ os) to z = (to p o z.0, zip_maps P Q f h ps os to z.1)
 
--- where none are asked for there are none
-no_statistics : (b : Bool) (t : LeafType) (p : Physical) (st : Option Statistics) (ts : List Triple) (vs : List Value) → b ≡ false → st ≡ None → HasStatistics b t p st ts vs
-no_statistics b t p st ts vs e h = subst (λ (x : Bool). HasStatistics x t p st ts vs) (sym e) (subst (λ (x : Option Statistics). HasStatistics false t p x ts vs) (sym h) tt)
+-- statistics of the same column
+pub statistics_moved : (b b' : Bool) (t t' : LeafType) (p p' : Physical) (st : Option Statistics) (xs ys : List Triple) → b ≡ b' → t ≡ t' → p ≡ p' → xs ≡ ys → HasStatistics b t p st xs (values_in xs) → HasStatistics b' t' p' st ys (values_in ys)
+statistics_moved b b' t t' p p' st xs ys i j k l h =
+    subst (λ (x : Bool). HasStatistics x t' p' st ys (values_in ys)) i
+    (subst (λ (x : LeafType). HasStatistics b x p' st ys (values_in ys)) j
+    (subst (λ (x : Physical). HasStatistics b t x st ys (values_in ys)) k (subst (λ (x : List Triple). HasStatistics b t p st x (values_in x)) l h)))
 
 no_entries : (t : LeafType) (p : Physical) (es : Option (List Value)) → es ≡ None → AreStoredEntries t p None es
 no_entries t p es e = subst (λ (x : Option (List Value)). AreStoredEntries t p None x) (sym e) tt
@@ -79,13 +82,13 @@ laid o node parts a e g version l chunk c i w rows h s k way kind =
     let given : g.pieces ≡ map (map f) (cut rows (Some n)) = p.pieces ∙ (ap (λ (xs : List Slot). cut xs (Some n)) here ∙ cut_map f n rows) in
     let asked : cut (map fields rows) (Some (rows_per_page limit (plain_length l.physical (values_in p.stored)) (length (map fields rows)))) ≡ map (map fields) (cut rows (Some n)) =
     (λ j. cut (map fields rows) (Some (rows_per_page limit (plain_length (physical j) (values_in p.stored)) (sym count j)))) ∙ cut_map fields n rows in
-    let none : o.write_statistics ≡ false = ap (λ (x : WriteOptions). x.write_statistics) (sym p.options) ∙ k.no_statistics in
-    let one : (q : List Slots) (x : OutPage) → IsPageOf g.type g.physical g.way (map f q) x → IsPageOfRows (style_of o) plain (record { arrow = c; physical = l.physical; entries = None }) (map fields q) x = λ q x z. record {
+    let wanted : g.options.write_statistics ≡ o.write_statistics = ap (λ (x : WriteOptions). x.write_statistics) p.options in
+    let one : (q : List Slots) (x : OutPage) → IsPageOf g.options.write_statistics g.type g.physical g.way (map f q) x → IsPageOfRows (style_of o) plain (record { arrow = c; physical = l.physical; entries = None }) (map fields q) x = λ q x z. record {
       triples = subst (λ (y : LeafType). AreStored y l.physical (column c.way (map fields q)) x.triples) type_is
           (subst (λ (y : Physical). AreStored g.type y (column c.way (map fields q)) x.triples) (sym k.leaf.physical)
           (subst (λ (ts : List Triple). AreStored g.type g.physical ts x.triples) (column_is q) z.triples));
       encoding = z.encoding;
-      statistics = no_statistics o.write_statistics _ _ x.statistics _ _ none z.statistics;
+      statistics = statistics_moved g.options.write_statistics o.write_statistics g.type (leaf_type c.data_type) g.physical l.physical x.statistics (column g.way (map f q)) (column c.way (map fields q)) wanted type_is (sym k.leaf.physical) (column_is q) z.statistics;
     } in
     record {
       stored = p.stored;
@@ -94,7 +97,7 @@ laid o node parts a e g version l chunk c i w rows h s k way kind =
           (subst (λ (ts : List Triple). AreStored (leaf_type (type_of a)) (physical_view t.physical_type) ts p.stored) all p.are_stored));
       entries = no_entries (leaf_type c.data_type) l.physical chunk.entries k.entries;
       pages = subst (λ (ps : List (List Slot)). AllZip (IsPageOfRows (style_of o) plain (record { arrow = c; physical = l.physical; entries = None })) ps chunk.pages) (sym asked)
-          (zip_maps (IsPageOf g.type g.physical g.way) (IsPageOfRows (style_of o) plain (record { arrow = c; physical = l.physical; entries = None })) f fields (cut rows (Some n)) chunk.pages one
-          (subst (λ (ps : List (List Slot)). AllZip (IsPageOf g.type g.physical g.way) ps chunk.pages) given k.pages));
-      statistics = no_statistics o.write_statistics _ _ chunk.statistics _ _ none k.statistics;
+          (zip_maps (IsPageOf g.options.write_statistics g.type g.physical g.way) (IsPageOfRows (style_of o) plain (record { arrow = c; physical = l.physical; entries = None })) f fields (cut rows (Some n)) chunk.pages one
+          (subst (λ (ps : List (List Slot)). AllZip (IsPageOf g.options.write_statistics g.type g.physical g.way) ps chunk.pages) given k.pages));
+      statistics = statistics_moved g.options.write_statistics o.write_statistics g.type (leaf_type c.data_type) g.physical l.physical chunk.statistics (column g.way g.rows) (column c.way (map fields rows)) wanted type_is (sym k.leaf.physical) (ap (column g.way) (p.rows ∙ here) ∙ column_is rows) k.statistics;
     }

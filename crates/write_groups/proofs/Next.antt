@@ -1,5 +1,5 @@
 -- The next page of a column.
-use Rattle.std.proofs.Common.{◌≡◌, inl, inr, All, List, [], ◌∷◌, Option, None, Some, Bool, true, false, refl, sym, ap, subst, ◌∙◌}
+use Rattle.std.proofs.Common.{◌≡◌, inl, inr, All, List, [], ◌∷◌, Option, None, Some, Bool, refl, sym, ap, subst, ◌∙◌}
 use Rattle.std.specs.Prelude.{Ok}
 use Rattle.std.specs.List.{AllZip, AllByRecursion as Each}
 use Rattle.std.proofs.lemmas.List.Elements.{All-from_recursion}
@@ -10,7 +10,8 @@ use Rattle.columns_base.specs.declared.error.Error.{Error}
 use Rattle.pq_files.specs.Layout.{OutPage, OutChunk}
 use Rattle.pq_files.specs.Page.{Encoding, plain}
 use Rattle.pq_files.specs.Reasons.{AnyOf}
-use Rattle.pq_files.specs.Statistics.{Statistics, HasStatistics}
+use Rattle.pq_files.specs.Stored.{AreStored, IsStored}
+use Rattle.page_statistics.proofs.Unique.{statistics_are_unique}
 use Rattle.pq_pages.specs.DataPages.{DataPageValue}
 use Rattle.pq_pages.specs.Denotes.{IsPageFor}
 use Rattle.pq_pages.specs.declared.page.Page.TheVariants.{Data}
@@ -23,20 +24,29 @@ use Rattle.write_pages.specs.Refused.{Gives, IsPastRoom}
 use Rattle.write_groups.specs.Given.{GivesChunk, GivesColumn, IsPageOf, RefusesColumn, to_come}
 use Rattle.write_groups.specs.declared.column.ChunkColumn.{ChunkColumn}
 
-none_stand : (b : Bool) (t : LeafType) (p : Physical) (s : Option Statistics) (ts : List Triple) (vs : List Value) → b ≡ false → HasStatistics b t p s ts vs → s ≡ None
-none_stand true t p s ts vs e h = absurd (no e)
-  where
-    no : true ≡ false → ⊥
-    no q = cc
-none_stand false t p None ts vs e h = refl
-none_stand false t p (Some s) ts vs e h = absurd h
+-- a column of one value
+abbrev single : Option Value → List Triple
+single v = record { repetition = 0; definition = 0; value = v } ∷ []
+
+abbrev given_or : Value → Option Value → Value
+given_or d None = d
+given_or d (Some v) = v
+
+abbrev first_or : Value → List Triple → Value
+first_or d [] = d
+first_or d (t ∷ ts) = given_or d t.value
+
+-- where no column is stored in two ways, no value is
+one_once : (t : LeafType) (p : Physical) → ((xs ys zs : List Triple) → AreStored t p xs ys → AreStored t p xs zs → ys ≡ zs) → (v s r : Value) → IsStored t p v s → IsStored t p v r → s ≡ r
+one_once t p once v s r h k =
+    ap (first_or s) (once (single (Some v)) (single (Some s)) (single (Some r)) (record { repetition = refl; definition = refl; value = h }, tt) (record { repetition = refl; definition = refl; value = k }, tt))
 
 -- the page holds the rows of the first piece, so it is the first page of the chunk
-is_given : (g : ToGive) (piece : List Slot) (o : OutPage) (page : DataPageValue) (version : Version) (l : Leaf) (c : OutChunk) → GivesChunk version l c g → IsPageOf g.type g.physical g.way piece o → HoldsRows g.options plain g.type g.node g.physical g.way piece page → IsGiven version l o page
+is_given : (g : ToGive) (piece : List Slot) (o : OutPage) (page : DataPageValue) (version : Version) (l : Leaf) (c : OutChunk) → GivesChunk version l c g → IsPageOf g.options.write_statistics g.type g.physical g.way piece o → HoldsRows g.options plain g.type g.node g.physical g.way piece page → IsGiven version l o page
 is_given g piece o page version l c k h r =
     let triples = k.once (column g.way piece) r.out.triples o.triples r.triples h.triples in
     let encoding = r.encoding ∙ sym h.encoding in
-    let statistics = none_stand g.options.write_statistics g.type g.physical r.out.statistics _ _ k.no_statistics r.statistics ∙ sym h.statistics in
+    let statistics = statistics_are_unique g.options.write_statistics g.type g.physical (column g.way piece) r.out.statistics o.statistics (one_once g.type g.physical k.once) r.statistics r.exact h.statistics h.exact in
     let same : r.out ≡ o = λ i. record { triples = triples i; encoding = encoding i; statistics = statistics i } in
     record {
       is = subst (λ (v : Version). IsPageFor v l None o page) k.version_is (subst (λ (x : OutPage). IsPageFor g.options.version l None x page) same (r.denotes.is l k.leaf));
@@ -44,10 +54,10 @@ is_given g piece o page version l c k h r =
       fits = r.denotes.fits;
     }
 
-given_next : (s : ChunkColumn) (now : PageState) (page : DataPageValue) (version : Version) (l : Leaf) (c : OutChunk) (piece : List Slot) (rest : List (List Slot)) → (to_come s).pieces ≡ piece ∷ rest → to_give now ≡ later (to_come s) rest → HoldsRows (to_come s).options plain (to_come s).type (to_come s).node (to_come s).physical (to_come s).way piece page → GivesColumn s version l c → (ps : List OutPage) → c.pages ≡ ps → AllZip (IsPageOf (to_come s).type (to_come s).physical (to_come s).way) (piece ∷ rest) ps → GivesNext GivesColumn version l c (Some (Ok page)) (record s { pages = now })
+given_next : (s : ChunkColumn) (now : PageState) (page : DataPageValue) (version : Version) (l : Leaf) (c : OutChunk) (piece : List Slot) (rest : List (List Slot)) → (to_come s).pieces ≡ piece ∷ rest → to_give now ≡ later (to_come s) rest → HoldsRows (to_come s).options plain (to_come s).type (to_come s).node (to_come s).physical (to_come s).way piece page → GivesColumn s version l c → (ps : List OutPage) → c.pages ≡ ps → AllZip (IsPageOf (to_come s).options.write_statistics (to_come s).type (to_come s).physical (to_come s).way) (piece ∷ rest) ps → GivesNext GivesColumn version l c (Some (Ok page)) (record s { pages = now })
 given_next s now page version l c piece rest a b r h [] e z = absurd z
 given_next s now page version l c piece rest a b r h (o ∷ os) e z =
-    let k = h.2 in
+    let k = h.1 in
     let left : OutChunk = record { entries = c.entries; pages = os; statistics = c.statistics } in (
       o,
       left,
@@ -55,10 +65,8 @@ given_next s now page version l c piece rest a b r h (o ∷ os) e z =
       is_given (to_come s) piece o page version l c k z.0 r,
       (
         h.0,
-        h.1,
         subst (λ (g : ToGive). GivesChunk version l left g) (sym b) (record {
           version_is = k.version_is;
-          no_statistics = k.no_statistics;
           leaf = k.leaf;
           once = k.once;
           entries = k.entries;
@@ -70,7 +78,7 @@ given_next s now page version l c piece rest a b r h (o ∷ os) e z =
 
 pub next_given : (s : ChunkColumn) (now : PageState) (page : DataPageValue) (version : Version) (l : Leaf) (c : OutChunk) → Gives (to_come s) (to_give now) (Some (Ok (Data page))) → GivesColumn s version l c → GivesNext GivesColumn version l c (Some (Ok page)) (record s { pages = now })
 next_given s now page version l c h k =
-    given_next s now page version l c h.0 h.1 h.2 h.3 h.4 k c.pages refl (subst (λ (ps : List (List Slot)). AllZip (IsPageOf (to_come s).type (to_come s).physical (to_come s).way) ps c.pages) h.2 k.2.pages)
+    given_next s now page version l c h.0 h.1 h.2 h.3 h.4 k c.pages refl (subst (λ (ps : List (List Slot)). AllZip (IsPageOf (to_come s).options.write_statistics (to_come s).type (to_come s).physical (to_come s).way) ps c.pages) h.2 k.1.pages)
 
 -- what refuses one of the pages that are left
 pub next_refused : (s : ChunkColumn) (now : PageState) (page : DataPageValue) (e : Error) → Gives (to_come s) (to_give now) (Some (Ok (Data page))) → RefusesColumn (record s { pages = now }) e → RefusesColumn s e
@@ -81,11 +89,11 @@ next_refused s now page e h (inr r) =
 
 -- ---- all pages are plain
 
-each_plain : (t : LeafType) (p : Physical) (w : Way) (pieces : List (List Slot)) (ps : List OutPage) → AllZip (IsPageOf t p w) pieces ps → Each (λ (o : OutPage). ◌≡◌ {A = Option Encoding} (Some plain) (Some o.encoding)) ps
-each_plain t p w [] [] h = tt
-each_plain t p w [] (o ∷ ps) h = absurd h
-each_plain t p w (x ∷ xs) [] h = absurd h
-each_plain t p w (x ∷ xs) (o ∷ ps) h = (ap (λ (e : Encoding). Some e) (sym h.0.encoding), each_plain t p w xs ps h.1)
+each_plain : (b : Bool) (t : LeafType) (p : Physical) (w : Way) (pieces : List (List Slot)) (ps : List OutPage) → AllZip (IsPageOf b t p w) pieces ps → Each (λ (o : OutPage). ◌≡◌ {A = Option Encoding} (Some plain) (Some o.encoding)) ps
+each_plain b t p w [] [] h = tt
+each_plain b t p w [] (o ∷ ps) h = absurd h
+each_plain b t p w (x ∷ xs) [] h = absurd h
+each_plain b t p w (x ∷ xs) (o ∷ ps) h = (ap (λ (e : Encoding). Some e) (sym h.0.encoding), each_plain b t p w xs ps h.1)
 
-pub all_plain : (t : LeafType) (p : Physical) (w : Way) (pieces : List (List Slot)) (ps : List OutPage) → AllZip (IsPageOf t p w) pieces ps → All (λ (o : OutPage). ◌≡◌ {A = Option Encoding} (Some plain) (Some o.encoding)) ps
-all_plain t p w pieces ps h = All-from_recursion (λ (o : OutPage). ◌≡◌ {A = Option Encoding} (Some plain) (Some o.encoding)) ps (each_plain t p w pieces ps h)
+pub all_plain : (b : Bool) (t : LeafType) (p : Physical) (w : Way) (pieces : List (List Slot)) (ps : List OutPage) → AllZip (IsPageOf b t p w) pieces ps → All (λ (o : OutPage). ◌≡◌ {A = Option Encoding} (Some plain) (Some o.encoding)) ps
+all_plain b t p w pieces ps h = All-from_recursion (λ (o : OutPage). ◌≡◌ {A = Option Encoding} (Some plain) (Some o.encoding)) ps (each_plain b t p w pieces ps h)

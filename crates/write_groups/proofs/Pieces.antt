@@ -1,5 +1,5 @@
 -- A column in pages.
-use Rattle.std.proofs.Common.{◌≡◌, ℕ, zero, suc, ◌+◌, ◌<◌, List, [], ◌∷◌, ◌++◌, length, flat_map, drop, None, Some, refl, sym, ap, subst, ◌∙◌, arith, nat_eq, cond}
+use Rattle.std.proofs.Common.{◌≡◌, ℕ, zero, suc, ◌+◌, ◌<◌, List, [], ◌∷◌, ◌++◌, length, flat_map, drop, Some, refl, sym, ap, subst, ◌∙◌, arith, nat_eq, cond}
 use Rattle.std.specs.List.{AllZip, AllByRecursion as Each}
 use Rattle.std.proofs.lemmas.Grind.{flat_map-append}
 use Rattle.std.proofs.lemmas.List.{length-take}
@@ -14,6 +14,7 @@ use Rattle.pq_files.specs.Layout.{OutPage}
 use Rattle.pq_files.specs.Page.{plain, rows_in}
 use Rattle.pq_files.specs.Stored.{AreStored, IsStoredTriple}
 use Rattle.pq_tree.specs.Physical.{Physical}
+use Rattle.page_statistics.proofs.Exist.{statistics_exist}
 use Rattle.write_groups.proofs.Lists.{split_zip, zip_length}
 use Rattle.write_groups.specs.Given.{IsPageOf}
 use Rattle.write_pages.specs.Holds.{ToGive}
@@ -50,7 +51,7 @@ some_pieces n (r ∷ rows) h = omega arith
 
 pub record Paged (g : ToGive) (ps : List (List Slot)) (stored : List Triple) : Type 0 where
   pub pages : List OutPage
-  pub are : AllZip (IsPageOf g.type g.physical g.way) ps pages
+  pub are : AllZip (IsPageOf g.options.write_statistics g.type g.physical g.way) ps pages
   pub whole : flat_map (λ (o : OutPage). o.triples) pages ≡ stored
 
 page_some : (g : ToGive) (p : List Slot) (ts : List Triple) → 0 < length p → AreStored g.type g.physical (column g.way p) ts → 0 < length ts
@@ -63,9 +64,10 @@ paged g [] (t ∷ ts) e h = absurd h
 paged g (p ∷ ps) stored e h =
     let parts = subst (λ (xs : List Triple). AllZip (IsStoredTriple g.type g.physical) xs stored) (flat_map-append (λ (s : Slot). shred g.way s 0 0 0) p (joined ps)) h in
     let two = split_zip (IsStoredTriple g.type g.physical) (column g.way p) (column g.way (joined ps)) stored parts in
+    let st = statistics_exist g.options.write_statistics g.type g.physical (column g.way p) two.0 two.3 in
     let rest = paged g ps two.1 e.1 two.4 in
     record {
-      pages = record { triples = two.0; encoding = plain; statistics = None } ∷ rest.pages;
-      are = (record { triples = two.3; encoding = refl; statistics = refl; some = page_some g p two.0 e.0 two.3 }, rest.are);
+      pages = record { triples = two.0; encoding = plain; statistics = st.0 } ∷ rest.pages;
+      are = (record { triples = two.3; encoding = refl; statistics = st.1; exact = st.2; some = page_some g p two.0 e.0 two.3 }, rest.are);
       whole = ap (λ (xs : List Triple). two.0 ++ xs) rest.whole ∙ sym two.2;
     }

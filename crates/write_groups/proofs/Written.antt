@@ -17,7 +17,7 @@ use Rattle.schema_to_tree.specs.Table.{schema_of}
 use Rattle.write_file.specs.Pages.{AllGive, SomeRefuses}
 use Rattle.write_counts.specs.Passing.{GroupPasses}
 use Rattle.write_groups.proofs.Groups.{even_len, group_chunks, has_rows}
-use Rattle.write_groups.specs.Given.{GivesColumn, RefusesColumn}
+use Rattle.write_groups.specs.Given.{BeginsColumn, RefusesColumn}
 use Rattle.write_groups.specs.Writing.{HasColumns, IsGroupOf, Refuses, fields_in}
 use Rattle.write_groups.specs.declared.column.ChunkColumn.{ChunkColumn}
 use Rattle.write_groups.specs.declared.group.RowGroupIter.{RowGroupIter}
@@ -27,18 +27,18 @@ pub record Grouped (fs : FieldTrees) (g : RowGroupIter) (version : Version) : Ty
   pub out : OutGroup
   pub is : IsGroupOf fs g out
   pub has : HasRows out
-  pub give : AllGive GivesColumn version (columns_of (schema_of fs)) out.chunks g.columns.items
+  pub give : AllGive BeginsColumn version (columns_of (schema_of fs)) out.chunks g.columns.items
 
 pub grouped : (fs : FieldTrees) (g : RowGroupIter) (version : Version) → PathsHaveLevels → HasColumns g → AreEven g.chunk → 0 < first_len g.chunk → trees_view g.fields.items ≡ (schema_of fs).fields → g.options.version ≡ version → Grouped fs g version
 grouped fs g version law h even some trees same =
     let k = group_chunks g.options g.chunk (trees_view g.fields.items) (map (λ es. es.items) g.encodings.items) g.columns.items (first_len g.chunk) law h (even_len g.chunk even) some in
     let out : OutGroup = record { rows = first_len g.chunk; chunks = k.chunks } in
-    let give = subst (λ (ts : Trees). AllGive GivesColumn g.options.version (leaves_of ts) k.chunks g.columns.items) trees k.give in
+    let give = subst (λ (ts : Trees). AllGive BeginsColumn g.options.version (leaves_of ts) k.chunks g.columns.items) trees k.give in
     record {
       out = out;
       is = record { rows = refl; columns = give };
       has = has_rows out (first_len g.chunk) refl k.counted;
-      give = subst (λ (v : Version). AllGive GivesColumn v (columns_of (schema_of fs)) k.chunks g.columns.items) same give;
+      give = subst (λ (v : Version). AllGive BeginsColumn v (columns_of (schema_of fs)) k.chunks g.columns.items) same give;
     }
 
 -- ---- refusals

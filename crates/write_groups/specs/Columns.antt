@@ -19,7 +19,6 @@ use Rattle.write_groups.specs.declared.column.ChunkColumn.{ChunkColumn}
 
 -- no page of it was asked for
 pub record IsFresh (s : ChunkColumn) : Type 0 where
-  pub statistics : s.statistics ≡ None
   pub has_failed : s.has_failed ≡ false
 
 -- The columns of one array that is written by a tree, in these encodings: those of its paths, which are what is seen of its slots along the way to each leaf.

@@ -1,5 +1,5 @@
 -- What the pages of a column are in a file (Parquet format, "Column chunks").
-use Rattle.std.specs.Prelude.{◌≡◌, ◌⊎◌, ℕ, zero, suc, ◌<◌, Bool, true, false, List, length, None}
+use Rattle.std.specs.Prelude.{◌≡◌, ◌⊎◌, ℕ, zero, suc, ◌<◌, ◌≤◌, Bool, true, false, List, length, None, option_map}
 use Rattle.std.specs.List.{AllZip}
 use Rattle.shredding.specs.Shape.{LeafType, Way}
 use Rattle.shredding.specs.Shred.{Triple, column, max_repetition, max_definition}
@@ -11,44 +11,55 @@ use Rattle.pq_tree.specs.Physical.{Physical}
 use Rattle.pq_tree.specs.Tree.{Leaf}
 use Rattle.pq_tree.specs.declared.version.Version.{Version}
 use Rattle.pq_files.specs.Layout.{OutPage, OutChunk}
-use Rattle.pq_files.specs.Page.{plain}
+use Rattle.pq_files.specs.Page.{plain, values_in}
 use Rattle.pq_files.specs.Reasons.{AnyOf}
+use Rattle.pq_files.specs.Room.{max_count}
+use Rattle.pq_files.specs.Statistics.{HasStatistics}
 use Rattle.pq_files.specs.Stored.{AreStored}
+use Rattle.pq_files.specs.Written.{pairs_in, statistics_of}
+use Rattle.page_statistics.specs.Spelled.{IsExact}
 use Rattle.pq_pages.specs.Denotes.{IsLeafAs}
 use Rattle.write_groups.specs.declared.column.ChunkColumn.{ChunkColumn}
 use Rattle.write_pages.specs.Holds.{PageState, ToGive, to_give}
 use Rattle.write_pages.specs.Refused.{IsPastRoom}
 
--- the page of a piece of rows: their stored values, plain and without statistics
-pub record IsPageOf (t : LeafType) (p : Physical) (w : Way) (piece : List Slot) (o : OutPage) : Type 0 where
+-- the page of a piece of rows: their stored values, plain, and their statistics exactly where they are wanted
+pub record IsPageOf (wanted : Bool) (t : LeafType) (p : Physical) (w : Way) (piece : List Slot) (o : OutPage) : Type 0 where
   pub triples : AreStored t p (column w piece) o.triples
   pub encoding : o.encoding ≡ plain
-  pub statistics : o.statistics ≡ None
+  pub statistics : HasStatistics wanted t p o.statistics (column w piece) (values_in (column w piece))
+  pub exact : IsExact t p (values_in (column w piece)) o.statistics
   pub some : 0 < length o.triples
 
--- The pages that are still to be given are those of this chunk of a leaf: no column of the type is stored in two ways, and the leaf is one of its
+-- The pages that are still to be given are those of this chunk of a leaf, whose statistics are those of the whole column: no column of the type is stored in two ways, and the leaf is one of its
 -- physical type and greatest levels.
 pub record GivesChunk (version : Version) (l : Leaf) (c : OutChunk) (g : ToGive) : Type 0 where
   pub version_is : g.options.version ≡ version
-  pub no_statistics : g.options.write_statistics ≡ false
   pub leaf : IsLeafAs l g.physical (max_repetition g.way) (max_definition g.way)
   pub once : (xs ys zs : List Triple) → AreStored g.type g.physical xs ys → AreStored g.type g.physical xs zs → ys ≡ zs
   pub entries : c.entries ≡ None
-  pub statistics : c.statistics ≡ None
-  pub pages : AllZip (IsPageOf g.type g.physical g.way) g.pieces c.pages
+  pub statistics : HasStatistics g.options.write_statistics g.type g.physical c.statistics (column g.way g.rows) (values_in (column g.way g.rows))
+  pub pages : AllZip (IsPageOf g.options.write_statistics g.type g.physical g.way) g.pieces c.pages
 
 -- a column of these pages
 abbrev pub column_of : PageState → ChunkColumn
-column_of p = record { pages = p; statistics = None; has_failed = false }
+column_of p = record { pages = p; has_failed = false }
 
 abbrev pub to_come : ChunkColumn → ToGive
 to_come s = to_give s.pages
 
 abbrev pub GivesColumn : ChunkColumn → Version → Leaf → OutChunk → Type 0
-GivesColumn s version l c = (s.has_failed ≡ false) × (s.statistics ≡ None) × GivesChunk version l c (to_come s)
+GivesColumn s version l c = (s.has_failed ≡ false) × GivesChunk version l c (to_come s)
+
+-- the same of a whole chunk, of which no page was given: its statistics are stated, where a file counts its pairs
+abbrev pub BeginsColumn : ChunkColumn → Version → Leaf → OutChunk → Type 0
+BeginsColumn s version l c = GivesColumn s version l c × (pairs_in c ≤ max_count → (to_come s).statistics ≡ option_map statistics_of c.statistics)
+
+abbrev pub begun_in : (s : ChunkColumn) (version : Version) (l : Leaf) (c : OutChunk) → BeginsColumn s version l c → GivesColumn s version l c
+begun_in s version l c h = h.0
 
 abbrev pub no_entries_in : (s : ChunkColumn) (version : Version) (l : Leaf) (c : OutChunk) → GivesColumn s version l c → c.entries ≡ None
-no_entries_in s version l c h = h.2.entries
+no_entries_in s version l c h = h.1.entries
 
 -- the steps that are left at most
 abbrev pub left_after : Bool → ℕ → ℕ

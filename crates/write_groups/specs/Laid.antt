@@ -22,7 +22,7 @@ use Rattle.write_pages.specs.declared.options.WriteOptions.{WriteOptions}
 use Rattle.nested_paths.specs.Leaves.{array_leaves}
 use Rattle.write_file.specs.Pages.{AllGive}
 use Rattle.write_groups.specs.Columns.{AreFieldColumns}
-use Rattle.write_groups.specs.Given.{GivesChunk, GivesColumn}
+use Rattle.write_groups.specs.Given.{BeginsColumn, GivesChunk}
 use Rattle.columns_array.specs.Chunks.{AreEven}
 use Rattle.columns_core.specs.Tree.{FieldTrees}
 use Rattle.pq_headline.specs.Arrays.{rows_of}
@@ -53,7 +53,7 @@ AreOwnColumns i _ _ _ = ⊥
 abbrev pub FieldsAreLaid : Type 0
 FieldsAreLaid =
     (o : WriteOptions) (a : ArrayTree) (t : Tree) (es : List Encoding) (columns : List ChunkColumn) (version : Version) (chunks : List OutChunk) (cs : List ArrowColumn) (i : ℕ) (rows : List Slots)
-    → AreFieldColumns o a t es columns → AllGive GivesColumn version (leaves t) chunks columns → slots (read_by a t) ≡ field_slots i rows → AreOwnColumns i (ways (shape_by a t)) (array_leaves a) cs
+    → AreFieldColumns o a t es columns → AllGive BeginsColumn version (leaves t) chunks columns → slots (read_by a t) ≡ field_slots i rows → AreOwnColumns i (ways (shape_by a t)) (array_leaves a) cs
     → AreLaid (style_of o) rows cs (leaves t) (map (λ c. plain) cs) (map (λ c. None) cs) chunks
 
 -- The group that the columns of a chunk give is laid out, plain and without dictionaries, as the rows of the chunk are to be, where the arrays have the types of the

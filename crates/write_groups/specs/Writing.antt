@@ -15,7 +15,7 @@ use Rattle.schema_to_tree.specs.Table.{schema_of}
 use Rattle.write_file.specs.Pages.{AllGive, SomeRefuses}
 use Rattle.write_counts.specs.Passing.{GroupPasses}
 use Rattle.write_groups.specs.Columns.{AreGroupColumns}
-use Rattle.write_groups.specs.Given.{GivesColumn, RefusesColumn}
+use Rattle.write_groups.specs.Given.{BeginsColumn, RefusesColumn}
 use Rattle.write_groups.specs.declared.group.RowGroupIter.{RowGroupIter}
 use Rattle.write_groups.specs.declared.writer.FileWriter.{FileWriter}
 
@@ -40,7 +40,7 @@ pub record Takes {W : Type 0} (w : FileWriter W) (g : RowGroupIter) : Type 0 whe
 -- the group that the columns give, with the rows of the chunk
 pub record IsGroupOf (fs : FieldTrees) (g : RowGroupIter) (out : OutGroup) : Type 0 where
   pub rows : out.rows ≡ first_len g.chunk
-  pub columns : AllGive GivesColumn g.options.version (columns_of (schema_of fs)) out.chunks g.columns.items
+  pub columns : AllGive BeginsColumn g.options.version (columns_of (schema_of fs)) out.chunks g.columns.items
 
 -- The group of the chunk stands behind those before, and nothing is changed where the chunk has no rows.
 abbrev pub Adds : {W : Type 0} → (W → Option (List ℕ)) → Option (List ℕ) → List OutGroup → RowGroupIter → FileWriter W → FileWriter W → Type 0

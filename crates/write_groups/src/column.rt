@@ -8,12 +8,10 @@ use pq_tree::{Encoding, Statistics};
 use write_file::ChunkPages;
 use write_pages::PageIter;
 
-/// The pages of a column, plain and without a dictionary and statistics. After an error it gives nothing.
+/// The pages of a column, plain and without a dictionary. After an error it gives nothing.
 #[derive(Drop)]
 pub struct ChunkColumn {
     pub pages: PageIter,
-    /// Those of the whole column; none are written yet.
-    pub statistics: Option<Statistics>,
     pub has_failed: bool,
 }
 
@@ -24,7 +22,6 @@ impl ChunkColumn {
     {
         ChunkColumn {
             pages,
-            statistics: None,
             has_failed: false,
         }
     }
@@ -36,15 +33,19 @@ impl ChunkPages for ChunkColumn {
     ghost use Rattle.pq_tree.specs.Tree.{Leaf};
     ghost use Rattle.pq_tree.specs.declared.version.Version.{Version};
     ghost use Rattle.pq_files.specs.Layout.{OutChunk};
-    ghost use Rattle.write_groups.specs.Given.{GivesColumn, RefusesColumn, left_of, no_entries_in};
+    ghost use Rattle.write_groups.specs.Given.{BeginsColumn, GivesColumn, RefusesColumn, begun_in, left_of, no_entries_in};
 
     ghost gives = { GivesColumn };
+
+    ghost begins = { BeginsColumn };
 
     ghost left = { left_of };
 
     ghost refuses = { RefusesColumn };
 
     ghost no_entries = { no_entries_in };
+
+    ghost begun = { begun_in };
 
     fn next_page(&mut self) -> Option<Result<DataPage>> {
         if self.has_failed {
@@ -66,6 +67,6 @@ impl ChunkPages for ChunkColumn {
     }
 
     fn statistics(&self) -> &Option<Statistics> {
-        &self.statistics
+        self.pages.statistics()
     }
 }

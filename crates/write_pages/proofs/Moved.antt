@@ -1,8 +1,9 @@
 -- A page of a cut path is one of the cut rows.
-use Rattle.std.proofs.Common.{◌≡◌, ℕ, zero, suc, ◌+◌, List, [], ◌∷◌, ◌++◌, take, drop, length, ap, refl, subst, ◌∙◌, arith}
+use Rattle.std.proofs.Common.{◌≡◌, ℕ, zero, suc, ◌+◌, List, [], ◌∷◌, ◌++◌, take, drop, length, Bool, Option, ap, refl, subst, ◌∙◌, arith}
 use Rattle.std.proofs.lemmas.List.{take_all}
 use Rattle.shredding.specs.Parts.{Part, path_slots, slots_from, slot_count}
 use Rattle.shredding.specs.Shape.{LeafType, Way}
+use Rattle.shredding.specs.Shred.{column}
 use Rattle.shredding.specs.Slot.{Slot}
 use Rattle.columns_slots.specs.Slots.{cut, type_of}
 use Rattle.columns_slots.specs.Tree.{ArrayTree, null_array, leaf_array, list_array, fixed_list_array, struct_array, dictionary_array}
@@ -12,6 +13,8 @@ use Rattle.nested_paths.specs.Laws.{CutLeavesAreSeen}
 use Rattle.nested_paths.specs.Seen.{leaf_slot}
 use Rattle.nested_slice.specs.CutPath.{leaf_rows}
 use Rattle.nested_slice.specs.Laws.{IsReadAsCut}
+use Rattle.page_statistics.specs.Stated.{AreStated}
+use Rattle.pq_tree.specs.Footers.{ChunkStatistics}
 use Rattle.pq_tree.specs.Physical.{Physical}
 use Rattle.write_pages.specs.Holds.{rows_of}
 use Rattle.write_pages.specs.Sized.{AreMeasured}
@@ -39,6 +42,10 @@ rows_cut a b old new o n law e read =
 pub measured_moved : (t t' : LeafType) (p : Physical) (w w' : Way) (rows rows' : List Slot) (n : ℕ) → t ≡ t' → w ≡ w' → rows ≡ rows' → AreMeasured t p w rows n → AreMeasured t' p w' rows' n
 measured_moved t t' p w w' rows rows' n a d e h =
     subst (λ (x : LeafType). AreMeasured x p w' rows' n) a (subst (λ (x : Way). AreMeasured t p x rows' n) d (subst (λ (x : List Slot). AreMeasured t p w x n) e h))
+
+pub stated_moved : (wanted : Bool) (t t' : LeafType) (p : Physical) (w w' : Way) (rows rows' : List Slot) (stated : Option ChunkStatistics) → t ≡ t' → w ≡ w' → rows ≡ rows' → AreStated wanted t p (column w rows) stated → AreStated wanted t' p (column w' rows') stated
+stated_moved wanted t t' p w w' rows rows' stated a d e h =
+    subst (λ (x : LeafType). AreStated wanted x p (column w' rows') stated) a (subst (λ (x : Way). AreStated wanted t p (column x rows') stated) d (subst (λ (x : List Slot). AreStated wanted t p (column w x) stated) e h))
 
 length-slots_from : (at : ℕ → Slot) (place count : ℕ) → length (slots_from at place count) ≡ count
 unfolding slots_from

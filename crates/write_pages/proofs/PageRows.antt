@@ -1,8 +1,7 @@
 -- What a page of a path holds of the rows of its array.
-use Rattle.std.proofs.Common.{◌≡◌, ◌≢◌, ◌⊎◌, ◌↔◌, ◌<◌, cond, ◌-◌, ◌^◌, ℕ, min, Bool, true, false, true≢false, Some, None, suc, List, [], ◌∷◌, length, refl, sym, ap, subst, ◌∙◌, inl, inr}
+use Rattle.std.proofs.Common.{◌≡◌, ◌≢◌, ◌⊎◌, ◌↔◌, ◌<◌, cond, ◌-◌, ◌^◌, ℕ, min, Bool, true, false, Option, Some, suc, List, [], ◌∷◌, length, refl, sym, ap, subst, ◌∙◌, inl, inr}
 use Rattle.std.specs.Prelude.{Result, Ok, Err, IfOk}
 use Rattle.shredding.specs.Parts.{Part, path_way, path_slots}
-use Rattle.shredding.specs.Shape.{LeafType}
 use Rattle.shredding.specs.Shred.{Triple, column}
 use Rattle.shredding.specs.Slot.{Slot, Value}
 use Rattle.std.specs.List.{AllZip}
@@ -15,6 +14,9 @@ use Rattle.levels.specs.declared.nested.Nested.{Nested}
 use Rattle.levels.specs.Nested.{parts_of, nested_column}
 use Rattle.nested_paths.specs.LeafNulls.{value_at}
 use Rattle.nested_paths.specs.Seen.{leaf_slot}
+use Rattle.page_statistics.specs.Spelled.{IsExact}
+use Rattle.page_statistics.specs.Stated.{AreStated}
+use Rattle.pq_tree.specs.Footers.{ChunkStatistics}
 use Rattle.pq_tree.specs.Physical.{Physical}
 use Rattle.pq_tree.specs.Reads.{ComesWhere}
 use Rattle.pq_tree.specs.TreeViews.{leaf_view}
@@ -53,11 +55,6 @@ comes_as reason C D f g (Err e) h = by_cause h
     by_cause (inl m) = inl m
     by_cause (inr c) = inr (λ x. f (c.0 x), λ d. c.1 (g d))
 
--- values that are not measured by statistics
-no_statistics : (b : Bool) (t : LeafType) (p : Physical) (ts : List Triple) → b ≡ false → HasStatistics b t p None ts (values_in ts)
-no_statistics false t p ts e = tt
-no_statistics true t p ts e = absurd (true≢false e)
-
 module _ (a : ArrayTree) (p : Physical) (nested : List Nested) (s : IsSound a) (e : is_served (base (type_of a)) p ≡ true) where
   abbrev ts : List Triple
   ts = column (path_way (parts_of nested)) (path_slots (leaf_slot a) (parts_of nested))
@@ -69,19 +66,24 @@ module _ (a : ArrayTree) (p : Physical) (nested : List Nested) (s : IsSound a) (
   pub rows_stored : AreStored (leaf_type (type_of a)) p (value_column a nested) (stored_column a p nested) → AreStored (leaf_type (type_of a)) p ts (stored_column a p nested)
   rows_stored h = subst (λ (xs : List Triple). AreStored (leaf_type (type_of a)) p xs (stored_column a p nested)) column_is h
 
-  pub holds_rows : (o : WriteOptions) (type_ : PrimitiveType) (page : DataPageValue) → o.write_statistics ≡ false → AreStored (leaf_type (type_of a)) p (value_column a nested) (stored_column a p nested) → IsPlainPage o.version p (stored_at a p) type_ nested page
+  pub holds_rows : (o : WriteOptions) (type_ : PrimitiveType) (page : DataPageValue) → AreStored (leaf_type (type_of a)) p (value_column a nested) (stored_column a p nested) → IsPlainPage o.version o.write_statistics a p type_ nested page
       → HoldsRows o plain (leaf_type (type_of a)) (leaf_view type_) p (path_way (parts_of nested)) (path_slots (leaf_slot a) (parts_of nested)) page
-  holds_rows o type_ page f are h = record {
-    out = plain_out (stored_column a p nested);
+  holds_rows o type_ page are h = record {
+    out = plain_out (stored_column a p nested) h.statistics;
     denotes = h.denotes;
     triples = rows_stored are;
     encoding = refl;
-    statistics = no_statistics o.write_statistics (leaf_type (type_of a)) p ts f;
+    statistics = subst (λ (xs : List Triple). HasStatistics o.write_statistics (leaf_type (type_of a)) p h.statistics xs (values_in xs)) column_is h.has;
+    exact = subst (λ (xs : List Triple). IsExact (leaf_type (type_of a)) p (values_in xs) h.statistics) column_is h.exact;
     within = h.within;
     about = ap leaf_view h.about;
     repeats = h.repeats;
     defines = h.defines;
   }
+
+  -- what is stated of the values is stated of the rows
+  pub rows_stated : (wanted : Bool) (stated : Option ChunkStatistics) → AreStated wanted (leaf_type (type_of a)) p (value_column a nested) stated → AreStated wanted (leaf_type (type_of a)) p ts stated
+  rows_stated wanted stated h = subst (λ (xs : List Triple). AreStated wanted (leaf_type (type_of a)) p xs stated) column_is h
 
   -- the room of the page, whatever is stored
   length_is : (stored : List Triple) → AreStored (leaf_type (type_of a)) p ts stored → length ts ≡ length stored
@@ -114,8 +116,8 @@ module _ (a : ArrayTree) (p : Physical) (nested : List Nested) (s : IsSound a) (
   }
 
 -- a flat path in another encoding than PLAIN is not written
-pub written_plain : (o : WriteOptions) (parts : List Part) (e : RustEncoding) → ¬ IsUnwritten o parts e → written_encoding parts e ≡ Some plain
-written_plain o parts e h = by_path (is_flat_path parts) refl
+pub written_plain : (parts : List Part) (e : RustEncoding) → ¬ IsUnwritten parts e → written_encoding parts e ≡ Some plain
+written_plain parts e h = by_path (is_flat_path parts) refl
   where
     by_name : (e : RustEncoding) → ¬ (e ≢ E.Plain) → encoding_view e ≡ Some plain
     by_name E.Plain h = refl
@@ -129,4 +131,4 @@ written_plain o parts e h = by_path (is_flat_path parts) refl
 
     by_path : (b : Bool) → is_flat_path parts ≡ b → cond b (encoding_view e) (Some plain) ≡ Some plain
     by_path false q = refl
-    by_path true q = by_name e (λ n. h (inr (q, n)))
+    by_path true q = by_name e (λ n. h (q, n))

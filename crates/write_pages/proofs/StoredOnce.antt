@@ -1,29 +1,32 @@
 -- Of a column of values that are written there is one stored column.
 use Rattle.std.proofs.Common.{◌≡◌, Bool, true, false, true≢false, Option, Some, None, List, [], ◌∷◌, refl, sym, ap, ◌∙◌}
 use Rattle.std.specs.List.{AllZip}
-use Rattle.shredding.specs.Shape.{LeafType, text, binary, signed, unsigned, decimal}
+use Rattle.shredding.specs.Shape.{LeafType, truths, text, binary, signed, unsigned, decimal}
 use Rattle.shredding.specs.Shred.{Triple}
-use Rattle.shredding.specs.Slot.{Value, number, bytes}
+use Rattle.shredding.specs.Slot.{Value, truth, number, bytes}
 use Rattle.columns_core.specs.Tree.{TypeTree}
 use Rattle.std.specs.Prelude.{pos}
-use Rattle.pq_tree.specs.Physical.{Physical, int32, int64, byte_array}
+use Rattle.pq_tree.specs.Physical.{Physical, boolean, int32, int64, byte_array}
 use Rattle.pq_files.specs.Stored.{IsStored, IsStoredOption, IsStoredTriple, AreStored}
 use Rattle.write_values.specs.Served.{is_served}
 use Rattle.write_values.specs.Stored.{stored_value}
 
 abbrev is_row : Physical → Bool
+is_row boolean = true
 is_row int32 = true
 is_row int64 = true
 is_row byte_array = true
 is_row p = false
 
 served_row : (t : TypeTree) (p : Physical) → is_served t p ≡ true → is_row p ≡ true
+served_row t boolean e = refl
 served_row t int32 e = refl
 served_row t int64 e = refl
 served_row t byte_array e = refl
 served_row t p e = absurd (true≢false (sym e))
 
 stored_is : (t : LeafType) (p : Physical) (v s : Value) → is_row p ≡ true → IsStored t p v s → s ≡ stored_value t p v
+stored_is truths boolean (truth b) s n h = h
 stored_is (signed w) int32 (number z) s n h = h.2
 stored_is (signed w) int64 (number z) s n h = h.2
 stored_is (unsigned w) int32 (number (pos k)) s n h = h.2
@@ -32,6 +35,7 @@ stored_is decimal int32 (number z) s n h = h.1
 stored_is decimal int64 (number z) s n h = h.1
 stored_is text byte_array (bytes b) s n h = h.1
 stored_is binary byte_array (bytes b) s n h = h
+stored_is t boolean v s n h = absurd h
 stored_is t int32 v s n h = absurd h
 stored_is t int64 v s n h = absurd h
 stored_is t byte_array v s n h = absurd h

@@ -6,6 +6,7 @@ use Rattle.shredding.specs.Slot.{Slot}
 use Rattle.columns_core.specs.Shapes.{base}
 use Rattle.columns_core.specs.Tree.{TypeTree, t_dictionary}
 use Rattle.columns_slots.specs.Slots.{type_of}
+use Rattle.columns_slots.specs.Types.{is_boolean}
 use Rattle.columns_slots.specs.Tree.{ArrayTree}
 use Rattle.nested_paths.specs.Nodes.{is_optional}
 use Rattle.nested_paths.specs.PathLeaf.{is_leaf_optional, FitsLeaf}
@@ -28,7 +29,7 @@ pub record FitsColumn (parts : List Part) (rows : List Slot) (leaf : Tree) (p : 
   pub optional : is_optional leaf ≡ is_leaf_optional parts
   pub reached : All (IsAlong (path_way parts)) rows
 
--- Values of a type, without its extensions, are written: whole numbers, dates, times, timestamps, durations, texts and byte strings. Not
--- yet written are truth values, fixed byte strings, decimals, intervals, nulls alone and dictionaries; other types are in no page.
+-- Values of a type, without its extensions, are written: truth values, whole numbers, dates, times, timestamps, durations, texts and byte
+-- strings. Not yet written are fixed byte strings, decimals, intervals, nulls alone and dictionaries; other types are in no page.
 abbrev pub is_written : TypeTree → Bool
-is_written t = is_small t || is_wide t || is_string t
+is_written t = is_boolean t || is_small t || is_wide t || is_string t

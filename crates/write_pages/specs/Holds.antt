@@ -13,6 +13,7 @@ use Rattle.nested_paths.specs.Seen.{leaf_slot}
 use Rattle.pq_tree.specs.declared.types.Encoding.{Encoding as RustEncoding}
 use Rattle.pq_tree.specs.declared.types.Encoding.TheVariants as E
 use Rattle.pq_tree.specs.declared.types.PrimitiveType.{PrimitiveType}
+use Rattle.pq_tree.specs.Footers.{ChunkStatistics}
 use Rattle.pq_tree.specs.Physical.{Physical}
 use Rattle.pq_tree.specs.Tree.{Tree}
 use Rattle.pq_tree.specs.TreeViews.{leaf_view}
@@ -22,6 +23,8 @@ use Rattle.pq_files.specs.Page.{Encoding, plain, dictionary, delta, delta_length
 use Rattle.pq_files.specs.Room.{room, max_size}
 use Rattle.pq_files.specs.Statistics.{HasStatistics}
 use Rattle.pq_files.specs.Stored.{AreStored}
+use Rattle.page_statistics.specs.Spelled.{IsExact}
+use Rattle.page_statistics.specs.Stated.{AreStated}
 use Rattle.pq_pages.specs.DataPages.{DataPageValue}
 use Rattle.pq_pages.specs.Denotes.{Denotes}
 use Rattle.write_pages.specs.declared.options.WriteOptions.{WriteOptions}
@@ -45,14 +48,15 @@ abbrev pub written_encoding : List Part → RustEncoding → Option Encoding
 written_encoding parts e = cond (is_flat_path parts) (encoding_view e) (Some plain)
 
 -- A page of some rows along a way, whose leaf is of the leaf type and of this node and physical type. It denotes the rows' column, with the
--- stored value of each value, in the encoding, within its room, and with statistics exactly where they are asked for. Its descriptor is the
--- node with the greatest levels of the way.
+-- stored value of each value, in the encoding, within its room, and with statistics exactly where they are asked for, whose
+-- texts are those of the stored values. Its descriptor is the node with the greatest levels of the way.
 pub record HoldsRows (o : WriteOptions) (e : Encoding) (t : LeafType) (node : Tree) (p : Physical) (w : Way) (rows : List Slot) (page : DataPageValue) : Type 0 where
   pub out : OutPage
   pub denotes : Denotes o.version p (max_repetition w) (max_definition w) None out page
   pub triples : AreStored t p (column w rows) out.triples
   pub encoding : out.encoding ≡ e
   pub statistics : HasStatistics o.write_statistics t p out.statistics (column w rows) (values_in (column w rows))
+  pub exact : IsExact t p (values_in (column w rows)) out.statistics
   pub within : room (length out.triples) (plain_length p (values_in out.triples)) ≤ max_size
   pub about : leaf_view page.descriptor.primitive_type ≡ node
   pub repeats : page.descriptor.max_rep_level ≡ pos (max_repetition w)
@@ -62,21 +66,25 @@ pub record HoldsRows (o : WriteOptions) (e : Encoding) (t : LeafType) (node : Tr
 abbrev pub rows_of : List Part → ArrayTree → List Slot
 rows_of parts a = bounded_slots (leaf_slot a) parts
 
--- Pages that are still to be given: how, of which column, and for each page the rows that it is to hold.
+-- Pages that are still to be given: how, of which column with which rows in all, for each page the rows that it is to hold, and what is
+-- stated of the whole column.
 pub record ToGive : Type 0 where
   pub options : WriteOptions
   pub type : LeafType
   pub node : Tree
   pub physical : Physical
   pub way : Way
+  pub rows : List Slot
   pub pieces : List (List Slot)
+  pub statistics : Option ChunkStatistics
 
 -- the pieces of so many rows that are left from a row on, and none after an error
 abbrev pub pieces_left : Bool → ℕ → ℕ → List Slot → List (List Slot)
 pieces_left true per_page next rows = []
 pieces_left false per_page next rows = cut (drop next rows) (Some per_page)
 
--- What an iterator over pages keeps: the array, its path, the next row, the rows of a page, and whether it gave an error.
+-- What an iterator over pages keeps: the array, its path, the next row, the rows of a page, whether it gave an error, and the
+-- statistics of the column.
 pub record PageState : Type 0 where
   pub options : WriteOptions
   pub type_ : PrimitiveType
@@ -85,6 +93,7 @@ pub record PageState : Type 0 where
   pub next : ℕ
   pub per_page : ℕ
   pub has_failed : Bool
+  pub statistics : Option ChunkStatistics
 
 -- the pages that it is still to give
 abbrev pub to_give : PageState → ToGive
@@ -95,20 +104,24 @@ to_give s =
       node = leaf_view s.type_;
       physical = physical_view s.type_.physical_type;
       way = path_way s.parts;
+      rows = rows_of s.parts s.array;
       pieces = pieces_left s.has_failed s.per_page s.next (rows_of s.parts s.array);
+      statistics = s.statistics;
     }
 
 -- without the first piece, and without any
 abbrev pub later : ToGive → List (List Slot) → ToGive
-later g pieces = record { options = g.options; type = g.type; node = g.node; physical = g.physical; way = g.way; pieces = pieces }
+later g pieces = record { options = g.options; type = g.type; node = g.node; physical = g.physical; way = g.way; rows = g.rows; pieces = pieces; statistics = g.statistics }
 
--- The pages of a column by the row rule: those of the rows of the path over the leaf array.
+-- The pages of a column by the row rule: those of the rows of the path over the leaf array, whose statistics are stated.
 pub record IsPagesOf (o : WriteOptions) (type_ : PrimitiveType) (parts : List Part) (a : ArrayTree) (g : ToGive) : Type 0 where
   pub options : g.options ≡ o
   pub type : g.type ≡ leaf_type (type_of a)
   pub node : g.node ≡ leaf_view type_
   pub physical : g.physical ≡ physical_view type_.physical_type
   pub way : g.way ≡ path_way parts
+  pub rows : g.rows ≡ rows_of parts a
+  pub statistics : AreStated o.write_statistics (leaf_type (type_of a)) (physical_view type_.physical_type) (column (path_way parts) (rows_of parts a)) g.statistics
   pub stored : List Triple
   pub are_stored : AreStored (leaf_type (type_of a)) (physical_view type_.physical_type) (column (path_way parts) (rows_of parts a)) stored
   pub pieces : g.pieces ≡ pieces_by_rule o.data_pagesize_limit (plain_length (physical_view type_.physical_type) (values_in stored)) (rows_of parts a)

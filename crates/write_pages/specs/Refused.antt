@@ -29,13 +29,13 @@ use Rattle.write_pages.specs.declared.options.WriteOptions.{WriteOptions}
 use Rattle.write_pages.specs.Fits.{FitsColumn, is_written}
 use Rattle.write_pages.specs.Holds.{HoldsRows, ToGive, is_flat_path, later, rows_of}
 
--- Pages are not written so: with statistics (not yet), or of a flat path in another encoding than PLAIN (the two of deltas not yet).
-abbrev pub IsUnwritten : WriteOptions → List Part → Encoding → Type 0
-IsUnwritten o parts e = (o.write_statistics ≡ true) ⊎ ((is_flat_path parts ≡ true) × (e ≢ E.Plain))
+-- Pages are not written so: of a flat path in another encoding than PLAIN (the two of deltas not yet).
+abbrev pub IsUnwritten : List Part → Encoding → Type 0
+IsUnwritten parts e = (is_flat_path parts ≡ true) × (e ≢ E.Plain)
 
 -- The pages of a column are written: so, of the type of the array's values, and the path in bounds and the type fit the array.
 pub record AreWritten (o : WriteOptions) (type_ : PrimitiveType) (parts : List Part) (a : ArrayTree) (e : Encoding) : Type 0 where
-  pub form : ¬ IsUnwritten o parts e
+  pub form : ¬ IsUnwritten parts e
   pub values : is_written (base (type_of a)) ≡ true
   pub in_bounds : IsInBounds parts
   pub fits : FitsColumn parts (rows_of parts a) (leaf_view type_) (physical_view type_.physical_type) a
@@ -43,9 +43,9 @@ pub record AreWritten (o : WriteOptions) (type_ : PrimitiveType) (parts : List P
 -- Why the pages of a column are refused: the first of these that holds.
 abbrev pub RefusesPages : WriteOptions → PrimitiveType → List Part → ArrayTree → Encoding → Error → Type 0
 RefusesPages o type_ parts a e error =
-    ((error ≡ NotYetImplemented N4) × IsUnwritten o parts e)
-    ⊎ ((error ≡ NotYetImplemented N5) × (¬ IsUnwritten o parts e) × (is_written (base (type_of a)) ≡ false))
-    ⊎ ((error ≡ InvalidArgumentError A8) × (¬ IsUnwritten o parts e) × (is_written (base (type_of a)) ≡ true) × ¬ (IsInBounds parts × FitsColumn parts (rows_of parts a) (leaf_view type_) (physical_view type_.physical_type) a))
+    ((error ≡ NotYetImplemented N4) × IsUnwritten parts e)
+    ⊎ ((error ≡ NotYetImplemented N5) × (¬ IsUnwritten parts e) × (is_written (base (type_of a)) ≡ false))
+    ⊎ ((error ≡ InvalidArgumentError A8) × (¬ IsUnwritten parts e) × (is_written (base (type_of a)) ≡ true) × ¬ (IsInBounds parts × FitsColumn parts (rows_of parts a) (leaf_view type_) (physical_view type_.physical_type) a))
 
 -- the room of a page of the column, with its stored values, passes the sizes of a header
 abbrev pub IsPastRoom : LeafType → Physical → List Triple → Type 0

@@ -1,5 +1,5 @@
 -- The rows of a page, as they are found from the values of a whole column.
-use Rattle.std.specs.Prelude.{◌≡◌, ℕ, ◌-◌, ◌^◌, ◌<◌, ◌≤◌, min, true, false, Option, Some, List, length}
+use Rattle.std.specs.Prelude.{◌≡◌, ℕ, ◌-◌, ◌^◌, ◌<◌, ◌≤◌, min, true, Option, Some, List, length}
 use Rattle.shredding.specs.Cut.{cut}
 use Rattle.shredding.specs.Parts.{Part}
 use Rattle.shredding.specs.Shape.{LeafType, Way}
@@ -15,7 +15,6 @@ use Rattle.pq_files.specs.Layout.{plain_length}
 use Rattle.pq_files.specs.Page.{values_in}
 use Rattle.pq_files.specs.Stored.{AreStored}
 use Rattle.write_values.specs.Served.{is_served}
-use Rattle.write_pages.specs.declared.options.WriteOptions.{WriteOptions}
 use Rattle.write_pages.specs.Rule.{pieces_by_rule}
 
 -- the plain bytes of the stored values of a column, up to the largest number
@@ -31,10 +30,9 @@ pub record IsByRule (limit : Option ℕ) (t : LeafType) (p : Physical) (w : Way)
   pub pieces : cut rows (Some n) ≡ pieces_by_rule limit (plain_length p (values_in stored)) rows
 
 -- the pages of such a column can be written
-pub record IsReady (o : WriteOptions) (a : ArrayTree) (parts : List Part) (p : Physical) (per_page : ℕ) : Type 0 where
+pub record IsReady (a : ArrayTree) (parts : List Part) (p : Physical) (per_page : ℕ) : Type 0 where
   pub in_bounds : IsInBounds parts
   pub few : length parts ≤ 128
   pub leaf : tree_len a ≡ leaf_count_or 0 parts
   pub served : is_served (base (type_of a)) p ≡ true
-  pub options : o.write_statistics ≡ false
   pub some : 0 < per_page

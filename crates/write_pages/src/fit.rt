@@ -19,7 +19,6 @@ ghost use Rattle.write_pages.specs.Fits.{FitsColumn, is_written};
 ghost use Rattle.write_pages.specs.Holds.{is_flat_path, rows_of};
 ghost use Rattle.write_pages.specs.Refused.{IsUnwritten};
 
-use crate::options::WriteOptions;
 use columns_array::ArrayBox;
 use columns_core::{A, DataType, Error, N, Result};
 use levels::{Nested, is_in_bounds};
@@ -42,12 +41,9 @@ fn is_plain(encoding: Encoding) -> bool
 }
 
 // Whether pages are written so.
-fn is_unwritten(options: WriteOptions, nested: &[Nested], encoding: Encoding) -> bool
-    ensures { IsTrue result ↔ IsUnwritten options (parts_of nested.now) encoding }
+fn is_unwritten(nested: &[Nested], encoding: Encoding) -> bool
+    ensures { IsTrue result ↔ IsUnwritten (parts_of nested.now) encoding }
 {
-    if options.write_statistics {
-        return true;
-    }
     is_flat(nested) && !is_plain(encoding)
 }
 
@@ -55,7 +51,8 @@ fn is_unwritten(options: WriteOptions, nested: &[Nested], encoding: Encoding) ->
 fn is_written(data_type: &DataType) -> bool
     ensures { result ≡ is_written (base (type_view data_type.now)) }
 {
-    is_served(data_type, PhysicalType::Int32)
+    is_served(data_type, PhysicalType::Boolean)
+        || is_served(data_type, PhysicalType::Int32)
         || is_served(data_type, PhysicalType::Int64)
         || is_served(data_type, PhysicalType::ByteArray)
 }
@@ -64,18 +61,13 @@ fn is_written(data_type: &DataType) -> bool
 ///
 /// # Errors
 ///
-/// - `NotYetImplemented(N4)` exactly where statistics are asked for, or a flat path in another encoding than PLAIN.
+/// - `NotYetImplemented(N4)` exactly where a flat path is in another encoding than PLAIN.
 /// - `NotYetImplemented(N5)` exactly where not, and values of the array's type are not written.
-pub fn check_written(
-    array: &ArrayBox,
-    nested: &[Nested],
-    options: WriteOptions,
-    encoding: Encoding,
-) -> Result<()>
-    ensures ok { OnOk result ((¬ IsUnwritten options (parts_of nested.now) encoding) × (is_written (base (type_of (boxed array.now))) ≡ true)) }
-    ensures err { IfErr result (λ e. ((e ≡ NotYetImplemented N4) × IsUnwritten options (parts_of nested.now) encoding) ⊎ ((e ≡ NotYetImplemented N5) × (¬ IsUnwritten options (parts_of nested.now) encoding) × (is_written (base (type_of (boxed array.now))) ≡ false))) }
+pub fn check_written(array: &ArrayBox, nested: &[Nested], encoding: Encoding) -> Result<()>
+    ensures ok { OnOk result ((¬ IsUnwritten (parts_of nested.now) encoding) × (is_written (base (type_of (boxed array.now))) ≡ true)) }
+    ensures err { IfErr result (λ e. ((e ≡ NotYetImplemented N4) × IsUnwritten (parts_of nested.now) encoding) ⊎ ((e ≡ NotYetImplemented N5) × (¬ IsUnwritten (parts_of nested.now) encoding) × (is_written (base (type_of (boxed array.now))) ≡ false))) }
 {
-    if is_unwritten(options, nested, encoding) {
+    if is_unwritten(nested, encoding) {
         return Err(Error::NotYetImplemented(N::N4));
     }
     if !is_written(array.data_type()) {

@@ -32,7 +32,7 @@ use pq_tree::{Encoding, PrimitiveType};
 use std::alloc::Global;
 use write_values::plain_page;
 
-// A plain page without statistics of a well-formed path over an array whose values are written.
+// A plain page of a well-formed path over an array whose values are written.
 pub fn page_of_rows(
     alloc: Global,
     array: &ArrayBox,
@@ -44,22 +44,28 @@ pub fn page_of_rows(
     requires parts { length nested.now ≤ 128 }
     requires leaf { tree_len (boxed array.now) ≡ leaf_count_or 0 (parts_of nested.now) }
     requires served { is_served (base (type_of (boxed array.now))) (physical_view type_.physical_type) ≡ true }
-    requires options { options.write_statistics ≡ false }
     ensures ok { IfOk result (HoldsRows options plain (leaf_type (type_of (boxed array.now))) (leaf_view type_) (physical_view type_.physical_type) (path_way (parts_of nested.now)) (path_slots (leaf_slot (boxed array.now)) (parts_of nested.now))) }
     ensures too_large { ComesWhere (Overflow V3) (IsPastRoom (leaf_type (type_of (boxed array.now))) (physical_view type_.physical_type) (column (path_way (parts_of nested.now)) (path_slots (leaf_slot (boxed array.now)) (parts_of nested.now)))) result }
     ensures err { IfErr result (λ e. (e ≡ Memory) ⊎ (e ≡ Overflow V3)) }
 {
     array.know();
-    plain_page(alloc, array, type_, nested, options.version)
+    plain_page(
+        alloc,
+        array,
+        type_,
+        nested,
+        options.version,
+        options.write_statistics,
+    )
 }
 
 /// One page of a well-formed path over its leaf array: of a flat path in the encoding that is asked for, of every other one in PLAIN (Parquet
 /// format, "Data Pages", "Nested Encoding" and Encodings). It denotes the column of the rows that are read along the path, whatever lies
-/// beneath nulls. The path and the type fit the array.
+/// beneath nulls, and has the statistics of its values exactly where they are asked for (parquet.thrift: `Statistics`). The path and the type fit the array.
 ///
 /// # Errors
 ///
-/// - `NotYetImplemented(N4)` exactly where the page is not written so: statistics are asked for, or a flat path in another encoding than PLAIN.
+/// - `NotYetImplemented(N4)` exactly where the page is not written so: a flat path in another encoding than PLAIN.
 /// - `NotYetImplemented(N5)` exactly where it is, and values of the array's type are not written (`is_written`).
 /// - `Overflow(V3)` exactly where neither is so, and the room of the page passes 2^31 - 1.
 /// - `Memory`.
@@ -75,12 +81,12 @@ pub fn array_to_page(
     requires parts { length nested.now ≤ 128 }
     requires fits { FitsColumn (parts_of nested.now) (path_slots (leaf_slot (boxed array.now)) (parts_of nested.now)) (leaf_view type_) (physical_view type_.physical_type) (boxed array.now) }
     ensures ok { IfOk result (λ p. (page : DataPageValue) × (p ≡ Data page) × (e : PageEncoding) × (written_encoding (parts_of nested.now) encoding ≡ Some e) × HoldsRows options e (leaf_type (type_of (boxed array.now))) (leaf_view type_) (physical_view type_.physical_type) (path_way (parts_of nested.now)) (path_slots (leaf_slot (boxed array.now)) (parts_of nested.now)) page) }
-    ensures form { ComesWhere (NotYetImplemented N4) (IsUnwritten options (parts_of nested.now) encoding) result }
-    ensures unserved { ComesWhere (NotYetImplemented N5) ((¬ IsUnwritten options (parts_of nested.now) encoding) × (is_written (base (type_of (boxed array.now))) ≡ false)) result }
-    ensures too_large { ComesWhere (Overflow V3) ((¬ IsUnwritten options (parts_of nested.now) encoding) × (is_written (base (type_of (boxed array.now))) ≡ true) × IsPastRoom (leaf_type (type_of (boxed array.now))) (physical_view type_.physical_type) (column (path_way (parts_of nested.now)) (path_slots (leaf_slot (boxed array.now)) (parts_of nested.now)))) result }
+    ensures form { ComesWhere (NotYetImplemented N4) (IsUnwritten (parts_of nested.now) encoding) result }
+    ensures unserved { ComesWhere (NotYetImplemented N5) ((¬ IsUnwritten (parts_of nested.now) encoding) × (is_written (base (type_of (boxed array.now))) ≡ false)) result }
+    ensures too_large { ComesWhere (Overflow V3) ((¬ IsUnwritten (parts_of nested.now) encoding) × (is_written (base (type_of (boxed array.now))) ≡ true) × IsPastRoom (leaf_type (type_of (boxed array.now))) (physical_view type_.physical_type) (column (path_way (parts_of nested.now)) (path_slots (leaf_slot (boxed array.now)) (parts_of nested.now)))) result }
     ensures err { IfErr result (λ e. (e ≡ Memory) ⊎ (e ≡ NotYetImplemented N4) ⊎ (e ≡ NotYetImplemented N5) ⊎ (e ≡ Overflow V3)) }
 {
-    check_written(array, nested, options, encoding)?;
+    check_written(array, nested, encoding)?;
     let page = page_of_rows(alloc, array, type_, nested, options)?;
     Ok(Page::Data(page))
 }

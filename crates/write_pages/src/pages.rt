@@ -1,5 +1,5 @@
 //! The pages of a column, one at a time.
-ghost use Rattle.std.specs.Prelude.{◌≡◌, ◌⊎◌, ◌+◌, ◌<◌, ◌≤◌, take, drop, true, false, length, IfOk, IfErr};
+ghost use Rattle.std.specs.Prelude.{◌≡◌, ◌⊎◌, ◌+◌, ◌<◌, ◌≤◌, take, drop, true, length, option_map, IfOk, IfErr};
 ghost use Rattle.shredding.specs.Parts.{IsPath, path_way, path_slots, slot_count};
 ghost use Rattle.shredding.specs.Shred.{column};
 ghost use Rattle.columns_base.specs.declared.error.Error.TheVariants.{Memory, Overflow};
@@ -12,7 +12,8 @@ ghost use Rattle.levels.specs.Nested.{parts_of};
 ghost use Rattle.levels.specs.Ranges.{leaf_count_or};
 ghost use Rattle.nested_paths.specs.Seen.{leaf_slot};
 ghost use Rattle.pq_tree.specs.TreeViews.{leaf_view};
-ghost use Rattle.pq_tree.specs.Views.{physical_view};
+ghost use Rattle.page_statistics.specs.Stated.{AreStated};
+ghost use Rattle.pq_tree.specs.Views.{physical_view, statistics_view};
 ghost use Rattle.pq_files.specs.Page.{plain};
 ghost use Rattle.write_values.specs.Served.{is_served};
 ghost use Rattle.write_pages.specs.Holds.{HoldsRows, IsPagesOf, rows_of, to_give};
@@ -28,10 +29,10 @@ use columns_array::ArrayBox;
 use columns_core::Result;
 use levels::{Nested, slot_count};
 use pq_pages::{DataPage, Page};
-use pq_tree::{Encoding, PhysicalType, PrimitiveType};
+use pq_tree::{Encoding, PhysicalType, PrimitiveType, Statistics};
 use std::alloc::Global;
 use std::marker::Model;
-use write_values::measure_values;
+use write_values::{column_statistics, measure_values};
 
 /// Gives the pages of a column in order, each when it is asked for. It shares the array and its path, and keeps no page. After an error
 /// it gives nothing.
@@ -45,6 +46,7 @@ pub struct PageIter {
     next: usize,
     per_page: usize,
     has_failed: bool,
+    statistics: Option<Statistics>,
 }
 
 impl Model for PageIter {
@@ -52,7 +54,8 @@ impl Model for PageIter {
     ghost use Rattle.columns_array.specs.Boxed.{boxed};
     ghost use Rattle.columns_slots.specs.Tree.{tree_code};
     ghost use Rattle.levels.specs.Nested.{parts_of};
-    ghost use Rattle.pq_tree.specs.Views.{physical_view};
+    ghost use Rattle.std.specs.Prelude.{option_map};
+    ghost use Rattle.pq_tree.specs.Views.{physical_view, statistics_view};
     ghost use Rattle.write_pages.specs.Holds.{PageState};
     ghost use Rattle.write_pages.specs.Sized.{IsReady};
 
@@ -60,9 +63,9 @@ impl Model for PageIter {
 
     ghost coded = { Prim.hlevel (codes, tree_code) };
 
-    ghost view = { λ s. record { options = s.options; type_ = s.type_; array = boxed s.array; parts = parts_of s.nested.items; next = s.next; per_page = s.per_page; has_failed = s.has_failed } };
+    ghost view = { λ s. record { options = s.options; type_ = s.type_; array = boxed s.array; parts = parts_of s.nested.items; next = s.next; per_page = s.per_page; has_failed = s.has_failed; statistics = option_map statistics_view s.statistics } };
 
-    ghost invariant = { λ s. IsReady s.options (boxed s.array) (parts_of s.nested.items) (physical_view s.type_.physical_type) s.per_page };
+    ghost invariant = { λ s. IsReady (boxed s.array) (parts_of s.nested.items) (physical_view s.type_.physical_type) s.per_page };
 }
 
 // The page of some rows of a path in bounds.
@@ -79,7 +82,6 @@ fn page_at(
     requires parts { length nested.now ≤ 128 }
     requires leaf { tree_len (boxed array.now) ≡ leaf_count_or 0 (parts_of nested.now) }
     requires served { is_served (base (type_of (boxed array.now))) (physical_view type_.now.physical_type) ≡ true }
-    requires options { options.write_statistics ≡ false }
     requires rows { first + count ≤ slot_count (parts_of nested.now) }
     ensures ok { IfOk result (HoldsRows options plain (leaf_type (type_of (boxed array.now))) (leaf_view type_.now) (physical_view type_.now.physical_type) (path_way (parts_of nested.now)) (take count (drop first (rows_of (parts_of nested.now) (boxed array.now))))) }
     ensures err { IfErr result (λ e. (e ≡ Memory) ⊎ ((e ≡ Overflow V3) × IsPastRoom (leaf_type (type_of (boxed array.now))) (physical_view type_.now.physical_type) (column (path_way (parts_of nested.now)) (take count (drop first (rows_of (parts_of nested.now) (boxed array.now))))))) }
@@ -123,6 +125,14 @@ impl PageIter {
                 Some(Err(error))
             }
         }
+    }
+
+    /// The statistics of the whole column, where they are asked for (Parquet format, parquet.thrift: `ColumnMetaData`). Of a column with
+    /// more pairs than a file counts nothing is known.
+    pub fn statistics(&self) -> &Option<Statistics>
+        ensures { option_map statistics_view result.now ≡ self.now.statistics }
+    {
+        &self.statistics
     }
 }
 
@@ -182,14 +192,52 @@ fn page_rows(
     Ok(rows_per_page(limit, plain, rows))
 }
 
+// The statistics of the values that a well-formed path reaches, where they are wanted.
+fn row_statistics(
+    alloc: Global,
+    array: &ArrayBox,
+    physical_type: PhysicalType,
+    nested: &[Nested],
+    is_wanted: bool,
+) -> Result<Option<Statistics>>
+    requires well { IsPath (parts_of nested.now) }
+    requires leaf { tree_len (boxed array.now) ≡ leaf_count_or 0 (parts_of nested.now) }
+    requires served { is_served (base (type_of (boxed array.now))) (physical_view physical_type) ≡ true }
+    ensures ok { IfOk result (λ s. AreStated is_wanted (leaf_type (type_of (boxed array.now))) (physical_view physical_type) (column (path_way (parts_of nested.now)) (path_slots (leaf_slot (boxed array.now)) (parts_of nested.now))) (option_map statistics_view s)) }
+    ensures err { IfErr result (λ e. e ≡ Memory) }
+{
+    array.know();
+    column_statistics(alloc, array, physical_type, nested, is_wanted)
+}
+
+// The statistics of the values of all rows of a path in bounds, where they are wanted.
+fn all_statistics(
+    alloc: Global,
+    array: &ArrayBox,
+    physical_type: PhysicalType,
+    nested: &[Nested],
+    is_wanted: bool,
+) -> Result<Option<Statistics>>
+    requires in_bounds { IsInBounds (parts_of nested.now) }
+    requires leaf { tree_len (boxed array.now) ≡ leaf_count_or 0 (parts_of nested.now) }
+    requires served { is_served (base (type_of (boxed array.now))) (physical_view physical_type) ≡ true }
+    ensures ok { IfOk result (λ s. AreStated is_wanted (leaf_type (type_of (boxed array.now))) (physical_view physical_type) (column (path_way (parts_of nested.now)) (rows_of (parts_of nested.now) (boxed array.now))) (option_map statistics_view s)) }
+    ensures err { IfErr result (λ e. e ≡ Memory) }
+{
+    let all = cut_column(alloc, array, nested, 0, slot_count(nested))?;
+    let statistics = row_statistics(alloc, &all.array, physical_type, &all.nested, is_wanted)?;
+    Ok(statistics)
+}
+
 /// The pages of a column in order, each to be made when it is asked for: those of the rows that are read along the path over its leaf array,
-/// whatever lies beneath nulls, in pieces by the row rule; none of no rows (Parquet format, "Data Pages", "Nested Encoding").
+/// whatever lies beneath nulls, in pieces by the row rule; none of no rows (Parquet format, "Data Pages", "Nested Encoding"). Statistics of each page and of the
+/// whole column stand exactly where they are asked for (parquet.thrift: `Statistics`).
 ///
 /// # Errors
 ///
 /// The first condition that holds is told.
 ///
-/// - `NotYetImplemented(N4)`: statistics are asked for, or a flat path in another encoding than PLAIN.
+/// - `NotYetImplemented(N4)`: a flat path in another encoding than PLAIN.
 /// - `NotYetImplemented(N5)`: values of the array's type are not written (`is_written`).
 /// - `InvalidArgumentError(A8)`: the path is not in bounds, or the path and the type do not fit the array (`FitsColumn`).
 /// - `Memory`.
@@ -206,7 +254,7 @@ pub fn array_to_pages(
     ensures fits { IfOk result (λ _. AreWritten options type_ (parts_of nested.now) (boxed primitive_array.now) encoding) }
     ensures err { IfErr result (λ e. (e ≡ Memory) ⊎ RefusesPages options type_ (parts_of nested.now) (boxed primitive_array.now) encoding e) }
 {
-    check_written(primitive_array, nested, options, encoding)?;
+    check_written(primitive_array, nested, encoding)?;
     check_fit(primitive_array, &type_, nested)?;
     let per_page = page_rows(
         alloc,
@@ -214,6 +262,13 @@ pub fn array_to_pages(
         type_.physical_type,
         nested,
         options.data_pagesize_limit,
+    )?;
+    let statistics = all_statistics(
+        alloc,
+        primitive_array,
+        type_.physical_type,
+        nested,
+        options.write_statistics,
     )?;
     Ok(PageIter {
         alloc,
@@ -224,5 +279,6 @@ pub fn array_to_pages(
         next: 0,
         per_page,
         has_failed: false,
+        statistics,
     })
 }

@@ -3,3 +3,5 @@
 
 #[cfg(test)]
 mod file_tests;
+#[cfg(test)]
+mod statistics_tests;

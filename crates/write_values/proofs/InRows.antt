@@ -13,7 +13,7 @@ use Rattle.pq_files.specs.Layout.{plain_length, plain_size}
 use Rattle.write_places.specs.Places.{gather, range}
 use Rattle.write_values.specs.declared.measured.Measured.{Measured}
 use Rattle.write_values.specs.Lengths.{plain-places}
-use Rattle.write_values.specs.Rows.{AppendsRow, Adds}
+use Rattle.write_values.specs.Rows.{AppendsRow, AppendsPlain, Adds}
 
 row-append : (p : Physical) (s t : List ℕ) (us vs : List Value) → InARow p s us → InARow p t vs → InARow p (s ++ t) (us ++ vs)
 row-append p s t [] vs h g = subst (λ (x : List ℕ). InARow p (x ++ t) vs) (sym h) g
@@ -27,7 +27,7 @@ row-more p a b c us vs h g = record {
   row = row-append p h.text g.text us vs h.row g.row;
 }
 
-pub plain_of : (p : Physical) (text : List ℕ) (vs : List Value) → p ≢ boolean → InARow p text vs → IsPlain p text vs
+plain_of : (p : Physical) (text : List ℕ) (vs : List Value) → p ≢ boolean → InARow p text vs → IsPlain p text vs
 plain_of boolean text vs n h = absurd (n refl)
 plain_of int32 text vs n h = h
 plain_of int64 text vs n h = h
@@ -36,6 +36,9 @@ plain_of float text vs n h = h
 plain_of double text vs n h = h
 plain_of byte_array text vs n h = h
 plain_of (fixed k) text vs n h = h
+
+pub row-plain : (p : Physical) (a b : List ℕ) (vs : List Value) → p ≢ boolean → AppendsRow p a b vs → AppendsPlain p a b vs
+row-plain p a b vs n h = record { text = h.text; parts = h.parts; spelled = plain_of p h.text vs n h.row }
 
 one_size : (p : Physical) (text : List ℕ) (v : Value) → IsOne p text v → length text ≡ plain_size p v
 one_size int32 text (number z) h = h.0
@@ -52,6 +55,17 @@ pub row_size : (p : Physical) (text : List ℕ) (vs : List Value) → InARow p t
 row_size p text [] h = ap length h
 row_size p text (v ∷ vs) h = ap length h.4 ∙ (length-append h.0 h.1 ∙ omega (arith, one_size p h.0 v h.2, row_size p h.1 vs h.3, sum_by-cons (plain_size p) v vs))
 
+-- the number of bytes of the plain spelling
+pub text_size : (p : Physical) (text : List ℕ) (vs : List Value) → IsPlain p text vs → length text ≡ plain_length p vs
+text_size boolean text vs h = h.0
+text_size int32 text vs h = row_size int32 text vs h
+text_size int64 text vs h = row_size int64 text vs h
+text_size int96 text vs h = row_size int96 text vs h
+text_size float text vs h = row_size float text vs h
+text_size double text vs h = row_size double text vs h
+text_size byte_array text vs h = row_size byte_array text vs h
+text_size (fixed k) text vs h = row_size (fixed k) text vs h
+
 pub length-range : (from count : ℕ) → length (range from count) ≡ count
 unfolding gather
 length-range from zero = refl
@@ -59,7 +73,7 @@ length-range from (suc count) = ap suc (length-range (from + 1) count)
 
 -- ---- places
 
-each-range : (limit from count : ℕ) → from + count ≤ limit → Each (λ i. i < limit) (range from count)
+pub each-range : (limit from count : ℕ) → from + count ≤ limit → Each (λ i. i < limit) (range from count)
 unfolding gather
 each-range limit from zero h = tt
 each-range limit from (suc count) h = (omega (arith, h), each-range limit (from + 1) count (omega (arith, h)))

@@ -6,4 +6,6 @@ pub mod NumberPlaces
 pub mod Picked
 pub mod ServedTypes
 pub mod StringPlaces
+pub mod TruthPlaces
 pub mod ServedColumns
+pub mod Ordered

@@ -1,12 +1,12 @@
 -- Which types the arrays have whose values are written.
-use Rattle.std.proofs.Common.{◌≡◌, ◌≢◌, ◌<◌, Bool, true, false, true≢false, Some, refl, sym, arith, lit≤, inl, inr, pos}
+use Rattle.std.proofs.Common.{◌≡◌, ◌<◌, Bool, true, false, true≢false, Some, refl, sym, arith, lit≤, inl, inr, pos}
 use Rattle.shredding.specs.Shape.{IsInRange}
-use Rattle.shredding.specs.Slot.{Value, number, bytes}
+use Rattle.shredding.specs.Slot.{Value, truth, number, bytes}
 use Rattle.columns_core.specs.Shapes.{base, leaf_type}
-use Rattle.columns_core.specs.Tree.{TypeTree, t_null, t_int8, t_int16, t_int32, t_int64, t_uint8, t_uint16, t_uint32, t_uint64, t_date32, t_date64, t_time32, t_time64, t_timestamp, t_duration, t_utf8, t_large_utf8, t_binary, t_large_binary, t_extension, t_list, t_large_list, t_map, t_fixed_size_list, t_struct, t_dictionary}
+use Rattle.columns_core.specs.Tree.{TypeTree, t_null, t_boolean, t_int8, t_int16, t_int32, t_int64, t_uint8, t_uint16, t_uint32, t_uint64, t_date32, t_date64, t_time32, t_time64, t_timestamp, t_duration, t_utf8, t_large_utf8, t_binary, t_large_binary, t_extension, t_list, t_large_list, t_map, t_fixed_size_list, t_struct, t_dictionary}
 use Rattle.columns_slots.specs.Tree.{ArrayTree, null_array, leaf_array, list_array, fixed_list_array, struct_array, dictionary_array, ArrayTrees, no_arrays, more_arrays}
 use Rattle.columns_slots.specs.Slots.{IsSound, AreTyped, count_arrays, type_of}
-use Rattle.columns_slots.specs.Types.{is_null_type, list_item, fixed_item, entry_type, part_types}
+use Rattle.columns_slots.specs.Types.{is_null_type, is_boolean, list_item, fixed_item, entry_type, part_types}
 use Rattle.pq_tree.specs.Physical.{Physical, boolean, int32, int64, int96, float, double, byte_array, fixed}
 use Rattle.pq_files.specs.Stored.{IsStored}
 use Rattle.write_values.specs.Served.{is_small, is_wide, is_string, is_served}
@@ -14,36 +14,36 @@ use Rattle.write_values.specs.Stored.{stored_value}
 
 -- ---- values that are not written
 
-no_row : (t : TypeTree) → is_small t ≡ false → is_wide t ≡ false → is_string t ≡ false → (p : Physical) → is_served t p ≡ false
-no_row t a b c boolean = refl
-no_row t a b c int32 = a
-no_row t a b c int64 = b
-no_row t a b c int96 = refl
-no_row t a b c float = refl
-no_row t a b c double = refl
-no_row t a b c byte_array = c
-no_row t a b c (fixed n) = refl
+no_row : (t : TypeTree) → is_boolean t ≡ false → is_small t ≡ false → is_wide t ≡ false → is_string t ≡ false → (p : Physical) → is_served t p ≡ false
+no_row t d a b c boolean = d
+no_row t d a b c int32 = a
+no_row t d a b c int64 = b
+no_row t d a b c int96 = refl
+no_row t d a b c float = refl
+no_row t d a b c double = refl
+no_row t d a b c byte_array = c
+no_row t d a b c (fixed n) = refl
 
 no_nulls : (t : TypeTree) (p : Physical) → is_null_type t ≡ true → is_served t p ≡ false
-no_nulls t_null p e = no_row t_null refl refl refl p
+no_nulls t_null p e = no_row t_null refl refl refl refl p
 no_nulls t p e = absurd (true≢false (sym e))
 
 no_items : (t i : TypeTree) (p : Physical) → list_item t ≡ Some i → is_served t p ≡ false
-no_items (t_list f) i p e = no_row (t_list f) refl refl refl p
-no_items (t_large_list f) i p e = no_row (t_large_list f) refl refl refl p
-no_items (t_map f s) i p e = no_row (t_map f s) refl refl refl p
+no_items (t_list f) i p e = no_row (t_list f) refl refl refl refl p
+no_items (t_large_list f) i p e = no_row (t_large_list f) refl refl refl refl p
+no_items (t_map f s) i p e = no_row (t_map f s) refl refl refl refl p
 no_items t i p e = absurd cc
 
 no_fixed_items : (t i : TypeTree) (p : Physical) → fixed_item t ≡ Some i → is_served t p ≡ false
-no_fixed_items (t_fixed_size_list f k) i p e = no_row (t_fixed_size_list f k) refl refl refl p
+no_fixed_items (t_fixed_size_list f k) i p e = no_row (t_fixed_size_list f k) refl refl refl refl p
 no_fixed_items t i p e = absurd cc
 
 no_entries : (t i : TypeTree) (p : Physical) → entry_type t ≡ Some i → is_served t p ≡ false
-no_entries (t_dictionary k v s) i p e = no_row (t_dictionary k v s) refl refl refl p
+no_entries (t_dictionary k v s) i p e = no_row (t_dictionary k v s) refl refl refl refl p
 no_entries t i p e = absurd cc
 
 no_parts : (t : TypeTree) (cs : ArrayTrees) (p : Physical) → AreTyped (part_types t) cs → 0 < count_arrays cs → is_served t p ≡ false
-no_parts (t_struct fs) cs p h k = no_row (t_struct fs) refl refl refl p
+no_parts (t_struct fs) cs p h k = no_row (t_struct fs) refl refl refl refl p
 no_parts t no_arrays p h k = absurd (omega (arith, k))
 no_parts t (more_arrays c cs) p h k = absurd h
 
@@ -109,8 +109,14 @@ string_stored t_binary v e h = absurd h
 string_stored t_large_binary v e h = absurd h
 string_stored t v e h = absurd (true≢false (sym e))
 
+truth_stored : (t : TypeTree) (v : Value) → is_boolean t ≡ true → IsInRange (leaf_type t) v → IsStored (leaf_type t) boolean v (stored_value (leaf_type t) boolean v)
+truth_stored t_boolean (truth b) e h = refl
+truth_stored t_boolean v e h = absurd h
+truth_stored t v e h = absurd (true≢false (sym e))
+
 -- by the page table
 pub served_stored : (t : TypeTree) (p : Physical) (v : Value) → is_served t p ≡ true → IsInRange (leaf_type t) v → IsStored (leaf_type t) p v (stored_value (leaf_type t) p v)
+served_stored t boolean v e h = truth_stored t v e h
 served_stored t int32 v e h = small_stored t v e h
 served_stored t int64 v e h = wide_stored t v e h
 served_stored t byte_array v e h = string_stored t v e h
@@ -119,14 +125,3 @@ served_stored t p v e h = absurd (true≢false (sym e))
 pub leaf_base : (t : TypeTree) → leaf_type (base t) ≡ leaf_type t
 leaf_base (t_extension n t m) = leaf_base t
 leaf_base t = refl
-
--- values that are written are spelled one behind the other
-pub served_in_a_row : (t : TypeTree) (p : Physical) → is_served t p ≡ true → p ≢ boolean
-served_in_a_row t boolean e = λ h. true≢false (sym e)
-served_in_a_row t int32 e = λ h. cc
-served_in_a_row t int64 e = λ h. cc
-served_in_a_row t int96 e = λ h. cc
-served_in_a_row t float e = λ h. cc
-served_in_a_row t double e = λ h. cc
-served_in_a_row t byte_array e = λ h. cc
-served_in_a_row t (fixed n) e = λ h. cc

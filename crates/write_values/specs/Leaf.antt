@@ -1,17 +1,19 @@
 -- The leaf arrays whose values are written, by what they stand for.
 use Rattle.std.specs.Prelude.{◌≡◌, true, map}
+use Rattle.shredding.specs.Slot.{truth}
 use Rattle.columns_core.specs.Natives.{value_i8, value_i16, value_i32, value_i64, value_u8, value_u16, value_u32, value_u64}
 use Rattle.columns_core.specs.Shapes.{base}
 use Rattle.columns_slots.specs.Bytes.{pieces_values}
 use Rattle.columns_slots.specs.Slots.{type_of}
 use Rattle.columns_slots.specs.Tree.{ArrayTree, leaf_array}
-use Rattle.pq_tree.specs.Physical.{Physical, int32, int64, byte_array}
+use Rattle.pq_tree.specs.Physical.{Physical, boolean, int32, int64, byte_array}
 use Rattle.write_values.specs.declared.leaf.Leaf.{Leaf}
-use Rattle.write_values.specs.declared.leaf.Leaf.TheVariants.{Int8, Int16, Int32, UInt8, UInt16, UInt32, WideUInt32, Int64, UInt64, Utf8, LargeUtf8, Binary, LargeBinary}
+use Rattle.write_values.specs.declared.leaf.Leaf.TheVariants.{Boolean, Int8, Int16, Int32, UInt8, UInt16, UInt32, WideUInt32, Int64, UInt64, Utf8, LargeUtf8, Binary, LargeBinary}
 use Rattle.write_values.specs.Served.{is_served}
 
 -- what the array stands for
 abbrev pub leaf_tree : Leaf → ArrayTree
+leaf_tree (Boolean a) = leaf_array a.now.0 (map truth a.now.1.0) a.now.1.1
 leaf_tree (Int8 a) = leaf_array a.now.0 (map (value_i8 (base a.now.0)) a.now.1.0) a.now.1.1
 leaf_tree (Int16 a) = leaf_array a.now.0 (map (value_i16 (base a.now.0)) a.now.1.0) a.now.1.1
 leaf_tree (Int32 a) = leaf_array a.now.0 (map (value_i32 (base a.now.0)) a.now.1.0) a.now.1.1
@@ -28,6 +30,7 @@ leaf_tree (LargeBinary a) = leaf_array a.now.0 (pieces_values a.now.1.0 a.now.1.
 
 -- the physical type of its column
 abbrev pub leaf_physical : Leaf → Physical
+leaf_physical (Boolean a) = boolean
 leaf_physical (Int8 a) = int32
 leaf_physical (Int16 a) = int32
 leaf_physical (Int32 a) = int32

@@ -5,3 +5,4 @@ pub mod Pages
 pub mod Rows
 pub mod Served
 pub mod Stored
+pub mod Truths

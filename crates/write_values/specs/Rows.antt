@@ -4,7 +4,7 @@ use Rattle.std.proofs.Common.{sym, append-nil, ◌∙◌}
 use Rattle.std.proofs.lemmas.List.Elements.{All-from_recursion}
 use Rattle.shredding.specs.Slot.{Value}
 use Rattle.pq_tree.specs.Physical.{Physical, boolean, int32, int64, int96, float, double, byte_array, fixed}
-use Rattle.pq_files.specs.Plain.{InARow}
+use Rattle.pq_files.specs.Plain.{InARow, IsPlain}
 use Rattle.pq_files.specs.Layout.{plain_length}
 use Rattle.write_values.specs.declared.measured.Measured.{Measured}
 
@@ -13,6 +13,12 @@ pub record AppendsRow (p : Physical) (before after : List ℕ) (vs : List Value)
   pub text : List ℕ
   pub parts : after ≡ before ++ text
   pub row : InARow p text vs
+
+-- what is appended is the plain spelling of the values
+pub record AppendsPlain (p : Physical) (before after : List ℕ) (vs : List Value) : Type 0 where
+  pub text : List ℕ
+  pub parts : after ≡ before ++ text
+  pub spelled : IsPlain p text vs
 
 -- The number of the values at these places, and of the bytes of their plain spelling, each up to the largest number. The places are among
 -- so many.

@@ -5,6 +5,7 @@ ghost use Rattle.columns_core.specs.View.{type_view};
 ghost use Rattle.columns_core.specs.Natives.{value_u32};
 ghost use Rattle.columns_slots.specs.Tree.{leaf_array};
 ghost use Rattle.columns_slots.specs.Slots.{type_of};
+ghost use Rattle.columns_slots.specs.Types.{is_boolean};
 ghost use Rattle.columns_array.specs.Boxed.{boxed};
 ghost use Rattle.pq_tree.specs.Views.{physical_view};
 ghost use Rattle.write_values.specs.Served.{is_small, is_wide, is_string, is_served};
@@ -13,11 +14,13 @@ ghost use Rattle.write_values.specs.Leaf.{IsLeafOf};
 use columns_array::ArrayBox;
 use columns_base::PhysicalType;
 use columns_core::{DataType, TimeUnit};
-use columns_leaf::{BinaryArray, PrimitiveArray, Utf8Array};
+use columns_leaf::{BinaryArray, BooleanArray, PrimitiveArray, Utf8Array};
 
 // A leaf array whose values are written, and how.
 #[derive(Clone, Copy, Drop)]
 pub enum Leaf<'a> {
+    // as truth values
+    Boolean(&'a BooleanArray),
     // as numbers of 32 bits
     Int8(&'a PrimitiveArray<i8>),
     Int16(&'a PrimitiveArray<i16>),
@@ -34,6 +37,15 @@ pub enum Leaf<'a> {
     LargeUtf8(&'a Utf8Array<i64>),
     Binary(&'a BinaryArray<i32>),
     LargeBinary(&'a BinaryArray<i64>),
+}
+
+fn is_truth(data_type: &DataType) -> bool
+    ensures { result ≡ is_boolean (base (type_view data_type.now)) }
+{
+    match data_type.base() {
+        DataType::Boolean => true,
+        _ => false,
+    }
 }
 
 fn is_small(data_type: &DataType) -> bool
@@ -73,6 +85,7 @@ pub fn is_served(data_type: &DataType, physical_type: PhysicalType) -> bool
     ensures { result ≡ is_served (base (type_view data_type.now)) (physical_view physical_type) }
 {
     match physical_type {
+        PhysicalType::Boolean => is_truth(data_type),
         PhysicalType::Int32 => is_small(data_type),
         PhysicalType::Int64 => is_wide(data_type),
         PhysicalType::ByteArray => is_string(data_type),
@@ -103,6 +116,10 @@ pub fn leaf_of(array: &ArrayBox, physical_type: PhysicalType) -> Option<Leaf<'_>
         return None;
     }
     match array {
+        ArrayBox::Boolean(a) => {
+            a.know();
+            Some(Leaf::Boolean(a))
+        }
         ArrayBox::Int8(a) => {
             a.know();
             Some(Leaf::Int8(a))
@@ -149,10 +166,6 @@ pub fn leaf_of(array: &ArrayBox, physical_type: PhysicalType) -> Option<Leaf<'_>
         }
         ArrayBox::UInt32(a) => uint32_leaf(a, physical_type),
         ArrayBox::Null(a) => {
-            a.know();
-            None
-        }
-        ArrayBox::Boolean(a) => {
             a.know();
             None
         }

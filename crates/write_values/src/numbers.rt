@@ -18,9 +18,10 @@ use std::marker::PhantomData;
 // A number of 32 or 64 bits, as columns have them (Parquet format, "Types": INT32 and INT64).
 pub trait StoredNumber: PlainNumber {
     ghost use Rattle.std.specs.Prelude.{◌≡◌, ◌≤◌, ◌+◌, ◌++◌, true, length, take};
-    ghost use Rattle.shredding.specs.Slot.{Value};
+    ghost use Rattle.shredding.specs.Slot.{Value, number};
     ghost use Rattle.pq_tree.specs.Views.{physical_view};
     ghost use Rattle.pq_files.specs.Layout.{plain_size};
+    ghost use Rattle.page_statistics.specs.Spelled.{bound_text};
     ghost use Rattle.write_values.specs.Numbers.{is_number};
 
     // Its bytes take their place, lowest first, and those before it stay.
@@ -34,6 +35,8 @@ pub trait StoredNumber: PlainNumber {
     ghost size_is: { (v : Value) → plain_size (physical_view Self.physical) v ≡ Self.byte_count };
 
     ghost few_bytes: { Self.byte_count ≤ 8 };
+
+    ghost text_is: { (x : Self) → Self.stored x ≡ bound_text (physical_view Self.physical) (number (Self.plain_number x)) };
 }
 
 impl StoredNumber for i32 {
@@ -45,6 +48,8 @@ impl StoredNumber for i32 {
     ghost size_is = { λ v. refl };
 
     ghost few_bytes = { lit≤ tt };
+
+    ghost text_is = { λ x. refl };
 
     fn put_le_bytes(&self, places: &mut [u8], at: usize) {
         places[at..at + 4].copy_from_slice(&self.to_le_bytes());
@@ -60,6 +65,8 @@ impl StoredNumber for i64 {
     ghost size_is = { λ v. refl };
 
     ghost few_bytes = { lit≤ tt };
+
+    ghost text_is = { λ x. refl };
 
     fn put_le_bytes(&self, places: &mut [u8], at: usize) {
         places[at..at + 8].copy_from_slice(&self.to_le_bytes());
@@ -243,7 +250,7 @@ fn push_picked<T: AlwaysStored<P>, P: StoredNumber>(
 // The numbers of an array, as a column of `P` stores them. They have an order, so they are no intervals.
 #[derive(Drop)]
 pub struct Numbers<'a, T: AlwaysStored<P>, P: StoredNumber> {
-    array: &'a PrimitiveArray<T>,
+    pub array: &'a PrimitiveArray<T>,
     stored: PhantomData<P>,
     ghost ordered: { has_order (leaf_type (base array.now.0)) ≡ true },
 }

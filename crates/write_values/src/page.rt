@@ -1,5 +1,5 @@
 //! Plain data pages.
-ghost use Rattle.std.specs.Prelude.{◌≡◌, ◌⊎◌, ◌↔◌, ◌<◌, ◌≤◌, ◌^◌, pos, true, false, All, length, map, IfOk, IfErr, IsTrue};
+ghost use Rattle.std.specs.Prelude.{option_map, ◌≡◌, ◌⊎◌, ◌↔◌, ◌<◌, ◌≤◌, ◌^◌, pos, true, false, All, length, map, IfOk, IfErr, IsTrue};
 ghost use Rattle.shredding.specs.Parts.{IsPath, path_way};
 ghost use Rattle.shredding.specs.Shred.{max_repetition, max_definition};
 ghost use Rattle.columns_base.specs.declared.error.Error.TheVariants.{Memory, Overflow, NotYetImplemented};
@@ -11,7 +11,7 @@ ghost use Rattle.columns_slots.specs.Slots.{tree_len, type_of};
 ghost use Rattle.levels.specs.Nested.{parts_of};
 ghost use Rattle.levels.specs.Ranges.{leaf_count_or};
 ghost use Rattle.pq_tree.specs.Reads.{ComesWhere};
-ghost use Rattle.pq_tree.specs.Views.{physical_view};
+ghost use Rattle.pq_tree.specs.Views.{physical_view, statistics_view};
 ghost use Rattle.pq_files.specs.Layout.{OutPage, plain_length};
 ghost use Rattle.pq_files.specs.Room.{room, max_size};
 ghost use Rattle.pq_files.specs.Stored.{AreStored};
@@ -23,6 +23,7 @@ ghost use Rattle.write_values.specs.Served.{is_served};
 ghost use Rattle.write_values.specs.Stored.{stored_at};
 
 use crate::leaf::{Leaf, leaf_of};
+use crate::statistics::leaf_statistics;
 use crate::values::{measure, push_values};
 use columns_array::ArrayBox;
 use columns_core::{Error, N, Result, V};
@@ -30,7 +31,8 @@ use level_sections::write_rep_and_def;
 use levels::{Nested, max_def_level, max_rep_level, num_values, slot_count};
 use pq_pages::DataPage;
 use pq_tree::{
-    DataPageHeader, DataPageHeaderV1, DataPageHeaderV2, Descriptor, PrimitiveType, Version,
+    DataPageHeader, DataPageHeaderV1, DataPageHeaderV2, Descriptor, PrimitiveType, Statistics,
+    Version,
 };
 use std::alloc::Global;
 
@@ -86,7 +88,7 @@ fn plain_body(
     let mut buffer = Vec::new(alloc);
     let (repetition, definition) = write_rep_and_def(version, nested, &mut buffer)?;
     buffer.reserve(plain)?;
-    let buffer = push_values(leaf, nested, buffer)?;
+    let buffer = push_values(alloc, leaf, nested, buffer)?;
     Ok(Body {
         buffer,
         repetition,
@@ -94,8 +96,13 @@ fn plain_body(
     })
 }
 
-// The header of a plain page without statistics.
-fn plain_header(version: Version, counts: Counts, body: &Body) -> DataPageHeader
+// The header of a plain page with these statistics.
+fn plain_header(
+    version: Version,
+    counts: Counts,
+    statistics: Option<Statistics>,
+    body: &Body,
+) -> DataPageHeader
     requires pairs { counts.pairs < 2 ^ 31 }
     requires nulls { counts.nulls < 2 ^ 31 }
     requires rows { counts.rows < 2 ^ 31 }
@@ -103,7 +110,7 @@ fn plain_header(version: Version, counts: Counts, body: &Body) -> DataPageHeader
     requires definition { body.now.definition < 2 ^ 31 }
     ensures values { stated_values result ≡ pos counts.pairs }
     ensures encoding { stated_encoding result ≡ pos 0 }
-    ensures is { (out : OutPage) → IsPlainOut out counts.pairs counts.nulls counts.rows → IsHeader version out body.now.repetition body.now.definition result }
+    ensures is { (out : OutPage) → IsPlainOut out (option_map statistics_view statistics) counts.pairs counts.nulls counts.rows → IsHeader version out body.now.repetition body.now.definition result }
 {
     match version {
         Version::V1 => DataPageHeader::V1(DataPageHeaderV1 {
@@ -111,7 +118,7 @@ fn plain_header(version: Version, counts: Counts, body: &Body) -> DataPageHeader
             encoding: 0,
             definition_level_encoding: Some(3),
             repetition_level_encoding: Some(3),
-            statistics: None,
+            statistics,
         }),
         Version::V2 => DataPageHeader::V2(DataPageHeaderV2 {
             num_values: counts.pairs as i32,
@@ -121,7 +128,7 @@ fn plain_header(version: Version, counts: Counts, body: &Body) -> DataPageHeader
             definition_levels_byte_length: body.definition as i32,
             repetition_levels_byte_length: body.repetition as i32,
             is_compressed: Some(false),
-            statistics: None,
+            statistics,
         }),
     }
 }
@@ -155,12 +162,13 @@ fn leaf_page(
     type_: PrimitiveType,
     nested: &[Nested],
     version: Version,
+    with_statistics: bool,
 ) -> Result<DataPage>
     requires well { IsPath (parts_of nested.now) }
     requires parts { length nested.now ≤ 128 }
     requires leaf { leaf_count_or 0 (parts_of nested.now) ≤ tree_len (leaf_tree leaf) }
     requires served { is_served (base (type_of (leaf_tree leaf))) (leaf_physical leaf) ≡ true }
-    ensures ok { IfOk result (IsPlainPage version (leaf_physical leaf.entry) (stored_at (leaf_tree leaf.entry) (leaf_physical leaf.entry)) type_ nested.now) }
+    ensures ok { IfOk result (IsPlainPage version with_statistics (leaf_tree leaf.entry) (leaf_physical leaf.entry) type_ nested.now) }
     ensures places { All (λ i. i < tree_len (leaf_tree leaf.entry)) (path_places (parts_of nested.now)) }
     ensures err { IfErr result (λ e. (e ≡ Memory) ⊎ ((e ≡ Overflow V3) × (max_size < column_room (leaf_physical leaf.entry) (stored_column (leaf_tree leaf.entry) (leaf_physical leaf.entry) nested.now)))) }
 {
@@ -170,21 +178,22 @@ fn leaf_page(
         return Err(Error::Overflow(V::V3));
     }
     let body = plain_body(alloc, leaf, nested, version, measured.plain as usize)?;
+    let statistics = leaf_statistics(alloc, leaf, nested, with_statistics)?;
     let rows = slot_count(nested);
     let counts = Counts {
         pairs: pairs as u32,
         nulls: (pairs - measured.values) as u32,
         rows: rows as u32,
     };
-    let header = plain_header(version, counts, &body);
+    let header = plain_header(version, counts, statistics, &body);
     let descriptor = descriptor_of(type_, nested);
     Ok(DataPage::new(header, body.buffer, descriptor, Some(rows)))
 }
 
 /// One plain data page of the values that a path reaches in its leaf array, in the version that is asked for (Parquet format, "Data Pages",
 /// "Nested Encoding"; Encodings, "Plain"). The page stands for the column of the slots of the path: its levels, and at each present value
-/// the one that the physical type stores for it, by the page table. What lies beneath nulls is not looked at. The path is well formed, and its nulls are those of
-/// its masks.
+/// the one that the physical type stores for it, by the page table. Its header has the statistics of these values exactly where they are wanted (parquet.thrift: `Statistics`). What lies
+/// beneath nulls is not looked at. The path is well formed, and its nulls are those of its masks.
 ///
 /// # Errors
 ///
@@ -197,11 +206,12 @@ pub fn plain_page(
     type_: PrimitiveType,
     nested: &[Nested],
     version: Version,
+    with_statistics: bool,
 ) -> Result<DataPage>
     requires well { IsPath (parts_of nested.now) }
     requires parts { length nested.now ≤ 128 }
     requires leaf { tree_len (boxed array.now) ≡ leaf_count_or 0 (parts_of nested.now) }
-    ensures ok { IfOk result (IsPlainPage version (physical_view type_.physical_type) (stored_at (boxed array.now) (physical_view type_.physical_type)) type_ nested.now) }
+    ensures ok { IfOk result (IsPlainPage version with_statistics (boxed array.now) (physical_view type_.physical_type) type_ nested.now) }
     ensures stored { is_served (base (type_of (boxed array.now))) (physical_view type_.physical_type) ≡ true → AreStored (leaf_type (type_of (boxed array.now))) (physical_view type_.physical_type) (value_column (boxed array.now) nested.now) (stored_column (boxed array.now) (physical_view type_.physical_type) nested.now) }
     ensures unserved { ComesWhere (NotYetImplemented N5) (is_served (base (type_of (boxed array.now))) (physical_view type_.physical_type) ≡ false) result }
     ensures too_large { ComesWhere (Overflow V3) ((is_served (base (type_of (boxed array.now))) (physical_view type_.physical_type) ≡ true) × (max_size < column_room (physical_view type_.physical_type) (stored_column (boxed array.now) (physical_view type_.physical_type) nested.now))) result }
@@ -209,7 +219,7 @@ pub fn plain_page(
 {
     array.know();
     match leaf_of(array, type_.physical_type) {
-        Some(leaf) => leaf_page(alloc, leaf, type_, nested, version),
+        Some(leaf) => leaf_page(alloc, leaf, type_, nested, version, with_statistics),
         None => Err(Error::NotYetImplemented(N::N5)),
     }
 }

@@ -7,7 +7,7 @@ ghost use Rattle.levels.specs.Ranges.{leaf_count_or};
 ghost use Rattle.pq_files.specs.Layout.{plain_length};
 ghost use Rattle.pq_files.specs.Room.{max_size};
 ghost use Rattle.write_places.specs.Places.{path_places};
-ghost use Rattle.write_values.specs.Rows.{AppendsRow};
+ghost use Rattle.write_values.specs.Rows.{AppendsPlain};
 
 use crate::row::LeafValues;
 use columns_core::Result;
@@ -61,7 +61,7 @@ pub fn push_row<L: LeafValues>(leaf: &L, nested: &[Nested], out: Vec<u8>) -> Res
     requires well { IsPath (parts_of nested.now) }
     requires leaf { leaf_count_or 0 (parts_of nested.now) ≤ L.count leaf.now }
     requires small { plain_length (L.physical leaf.now) (map (L.stored leaf.now) (path_places (parts_of nested.now))) ≤ max_size }
-    ensures ok { IfOk result (λ body. AppendsRow (L.physical leaf.now) out.items body.items (map (L.stored leaf.now) (path_places (parts_of nested.now)))) }
+    ensures ok { IfOk result (λ body. AppendsPlain (L.physical leaf.now) out.items body.items (map (L.stored leaf.now) (path_places (parts_of nested.now)))) }
     ensures err { IfErr result (λ e. e ≡ Memory) }
 {
     let mut plain = Plain { leaf, out };

@@ -29,7 +29,7 @@ fn push_string(out: &mut Vec<u8>, text: &[u8]) -> Result<()>
 
 // The bytes of a string.
 #[tactic(auto, using(columns_leaf::proofs::Texts::step_of_places))]
-fn string_at<'a, O: Offset>(offsets: &OffsetsBuffer<O>, all: &'a [u8], i: usize) -> &'a [u8]
+pub fn string_at<'a, O: Offset>(offsets: &OffsetsBuffer<O>, all: &'a [u8], i: usize) -> &'a [u8]
     requires places { IsPlaces offsets.now (length all.now) }
     requires within { i + 1 < length offsets.now }
     ensures is { bytes result.now ≡ at_place (pieces_values offsets.now all.entry.now) i }

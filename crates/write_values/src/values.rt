@@ -12,7 +12,7 @@ ghost use Rattle.pq_files.specs.Layout.{plain_length};
 ghost use Rattle.pq_files.specs.Room.{max_size};
 ghost use Rattle.write_places.specs.Places.{path_places};
 ghost use Rattle.write_values.specs.Leaf.{leaf_tree, leaf_physical};
-ghost use Rattle.write_values.specs.Rows.{AppendsRow, Measures};
+ghost use Rattle.write_values.specs.Rows.{AppendsPlain, Measures};
 ghost use Rattle.write_values.specs.Served.{is_served};
 ghost use Rattle.write_values.specs.Stored.{stored_at};
 
@@ -22,10 +22,12 @@ use crate::measured::Measured;
 use crate::numbers::Numbers;
 use crate::plain::push_row;
 use crate::strings::{Strings, Texts};
+use crate::truths::{measure_truths, push_truths};
 use columns_array::ArrayBox;
 use columns_base::PhysicalType;
 use columns_core::Result;
 use levels::Nested;
+use std::alloc::Global;
 
 // The values that a path reaches, and the bytes of their plain spelling.
 pub fn measure(leaf: Leaf<'_>, nested: &[Nested]) -> Measured
@@ -35,6 +37,7 @@ pub fn measure(leaf: Leaf<'_>, nested: &[Nested]) -> Measured
     ensures { Measures (leaf_physical leaf.entry) (tree_len (leaf_tree leaf.entry)) (stored_at (leaf_tree leaf.entry) (leaf_physical leaf.entry)) (path_places (parts_of nested.now)) result }
 {
     match leaf {
+        Leaf::Boolean(array) => measure_truths(array, nested),
         Leaf::Int8(a) => measure_row(&Numbers::<i8, i32>::new(a), nested),
         Leaf::Int16(a) => measure_row(&Numbers::<i16, i32>::new(a), nested),
         Leaf::Int32(a) => measure_row(&Numbers::<i32, i32>::new(a), nested),
@@ -52,15 +55,21 @@ pub fn measure(leaf: Leaf<'_>, nested: &[Nested]) -> Measured
 }
 
 // Appends the plain spelling of the values that a path reaches, which has at most 2^31 - 1 bytes.
-pub fn push_values(leaf: Leaf<'_>, nested: &[Nested], out: Vec<u8>) -> Result<Vec<u8>>
+pub fn push_values(
+    alloc: Global,
+    leaf: Leaf<'_>,
+    nested: &[Nested],
+    out: Vec<u8>,
+) -> Result<Vec<u8>>
     requires well { IsPath (parts_of nested.now) }
     requires leaf { leaf_count_or 0 (parts_of nested.now) ≤ tree_len (leaf_tree leaf) }
     requires served { is_served (base (type_of (leaf_tree leaf))) (leaf_physical leaf) ≡ true }
     requires small { plain_length (leaf_physical leaf) (map (stored_at (leaf_tree leaf) (leaf_physical leaf)) (path_places (parts_of nested.now))) ≤ max_size }
-    ensures ok { IfOk result (λ body. AppendsRow (leaf_physical leaf.entry) out.items body.items (map (stored_at (leaf_tree leaf.entry) (leaf_physical leaf.entry)) (path_places (parts_of nested.now)))) }
+    ensures ok { IfOk result (λ body. AppendsPlain (leaf_physical leaf.entry) out.items body.items (map (stored_at (leaf_tree leaf.entry) (leaf_physical leaf.entry)) (path_places (parts_of nested.now)))) }
     ensures err { IfErr result (λ e. e ≡ Memory) }
 {
     match leaf {
+        Leaf::Boolean(array) => push_truths(alloc, array, nested, out),
         Leaf::Int8(a) => push_row(&Numbers::<i8, i32>::new(a), nested, out),
         Leaf::Int16(a) => push_row(&Numbers::<i16, i32>::new(a), nested, out),
         Leaf::Int32(a) => push_row(&Numbers::<i32, i32>::new(a), nested, out),

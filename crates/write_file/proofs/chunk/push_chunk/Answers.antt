@@ -1,7 +1,8 @@
-use Rattle.std.proofs.Common.{◌≡◌, inl, inr, ◌+◌, ◌∙◌, [], ℕ, ℤ, List, length, map, pos, option_map, ap, refl, sym, subst, arith, None, Option, w64, w32, to_z, of_z, SFits, rules}
+use Rattle.std.proofs.Common.{◌≡◌, ◌≤◌, inl, inr, ◌+◌, ◌∙◌, [], ℕ, ℤ, List, length, map, pos, option_map, ap, refl, sym, subst, arith, None, Option, w64, w32, to_z, of_z, SFits, rules}
 use Rattle.std.proofs.lemmas.Int.{to_z-of_z}
 use Rattle.pq_metadata.specs.Footer.{ChunkStatistics}
 use Rattle.pq_files.specs.FooterRecord.{ColumnChunk}
+use Rattle.pq_files.specs.Room.{max_count}
 use Rattle.pq_files.specs.Packed.{ArePages, HasDictionary}
 use Rattle.pq_files.specs.Written.{Place, encodings_of, encoding_in, statistics_of, pairs_in}
 use Rattle.pq_tree.specs.Paths.{names_of}
@@ -33,7 +34,8 @@ shape start physical encodings path pairs size size' behind dictionary statistic
     }
 
 pub returns-clause-ok : goal.returns-clause-ok
-returns-clause-ok g c = λ version l k physical names gives some.
+returns-clause-ok g c = λ version l k physical names begins some.
+    let gives = g.P.ChunkPages.begun c.args.pages.now version l k begins in
     let p = c.in-Ok.ensures.ok version l k gives in
     let none = g.P.ChunkPages.no_entries c.args.pages.now version l k gives in
     let text = p.0 in
@@ -55,7 +57,9 @@ returns-clause-ok g c = λ version l k physical names gives some.
     let no_more : c.args.start ≡ c.args.start + 0 = omega arith in
     let behind : to_z w64 (of_z w64 c.stated-5.result) ≡ pos (c.args.start + 0) = to_z-of_z w64 c.stated-5.result fits_behind ∙ (c.stated-5.ensures ∙ ap (λ (n : ℕ). pos n) no_more) in
     let dictionary : ◌≡◌ {A = Option ℤ} None (option_map (λ (entries : List Value). pos c.args.start) k.entries) = ap (option_map (λ (entries : List Value). pos c.args.start)) (sym none) in
-    let statistics : option_map statistics_view c.in_ok-statistics.statistics ≡ option_map statistics_of k.statistics = c.in_ok-statistics.ensures.ok ∙ c.statistics.ensures version l k gives in (
+    let stated : SFits w64 (pos c.in-Ok.pushed.pairs) = subst (SFits w64) c.stated-2.ensures fits_pairs in
+    let counted : pairs_in k ≤ max_count = omega (arith, stated, p.3) in
+    let statistics : option_map statistics_view c.in_ok-statistics.statistics ≡ option_map statistics_of k.statistics = c.in_ok-statistics.ensures.ok ∙ c.statistics.ensures version l k begins counted in (
       text,
       w,
       p.1,
@@ -77,12 +81,13 @@ returns-clause-ok g c = λ version l k physical names gives some.
     )
 
 pub returns-in-Err-clause-refused : goal.returns-in-Err-clause-refused
-returns-in-Err-clause-refused g c = third (λ h. (h.0, λ version l k gives. from_place version l k c.args.start (h.1 version l k gives))) c.in-Err.ensures.refused
+returns-in-Err-clause-refused g c = third (λ h. (h.0, λ version l k begins. from_place version l k c.args.start (h.1 version l k (g.P.ChunkPages.begun c.args.pages.now version l k begins)))) c.in-Err.ensures.refused
 
 pub returns-in-Err-plus-clause-refused : goal.returns-in-Err-plus-clause-refused
 returns-in-Err-plus-clause-refused g c = inr (inr (inl (
   c.in-Err-plus.ensures.err.0,
-  λ version l k gives.
+  λ version l k begins.
+      let gives = g.P.ChunkPages.begun c.args.pages.now version l k begins in
       let p = c.in-Ok.ensures.ok version l k gives in
       whole_passes version l k c.args.start p.0 (g.P.ChunkPages.no_entries c.args.pages.now version l k gives) p.5 (omega (arith, c.in-Err-plus.ensures.err.1, c.get.ensures.is, p.2)),
 )))

@@ -33,7 +33,7 @@ columns-preserved g c =
       rest = rest_after c.columns.columns c.args.columns.now i c.push_chunk.new.pages v.rest;
       pushed = λ version ls cs metas gives.
           let old = v.pushed version ls cs metas gives in
-          let at = at_place g.P.ChunkPages.gives version ls cs c.args.columns.now i s gives b item in
+          let at = at_place g.P.ChunkPages.begins version ls cs c.args.columns.now i s gives b item in
           let kind : physical_view c.index-physical.result.now ≡ at.l.physical =
           ap physical_view c.index-physical.ensures ∙ (sym (get_or-map physical_view c.args.leaves.now.physicals.items i c.index-physical.result.now) ∙ (ap (λ (xs : List Physical). get_or xs i (physical_view c.index-physical.result.now)) metas.physicals ∙ at.physical _)) in
           let names : map string_bytes c.deref.result.now ≡ names_of at.l =
@@ -50,7 +50,7 @@ pub returns-clause-ok : goal.returns-clause-ok
 returns-clause-ok g c = λ version ls cs metas gives.
     let v = c.columns.invariant in
     let p = v.pushed version ls cs metas gives in
-    let n = give_lengths g.P.ChunkPages.gives version ls cs c.args.columns.now gives in
+    let n = give_lengths g.P.ChunkPages.begins version ls cs c.args.columns.now gives in
     let leaves : take c.columns.i ls ≡ ls = take_all c.columns.i ls (omega (arith, n.0, c.columns-test.false, v.even)) in
     let chunks : take c.columns.i cs ≡ cs = take_all c.columns.i cs (omega (arith, n.1, c.columns-test.false, v.even)) in
     let metas_are = map chunk_view c.columns.metas.items in (
@@ -78,7 +78,7 @@ returns-in-Err-clause-refused g c =
     one_refuses g.P.ChunkPages.refuses c.args.columns.now i _ _ _ _ b item (λ h. (
       h.0,
       λ version ls cs metas gives.
-          let at = at_place g.P.ChunkPages.gives version ls cs c.args.columns.now i s gives b item in
+          let at = at_place g.P.ChunkPages.begins version ls cs c.args.columns.now i s gives b item in
           column_passes version ls cs at.l at.c i c.args.start c.columns.end c.columns.pages (g.W.Sink.taken c.args.sink.now) (g.W.Sink.taken c.columns.sink) (map chunk_view c.columns.metas.items) (v.pushed version ls cs metas gives) at.leaves at.chunks (h.1 version at.l at.c at.gives_it),
     )) c.in-Err.ensures.refused
 

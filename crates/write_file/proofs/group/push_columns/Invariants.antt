@@ -16,7 +16,7 @@ invariant-columns g l = record {
   few : l.fn.start + l.pages ≤ l.end;
   most : l.end ≤ max_count;
   rest : drop l.i l.columns ≡ drop l.i l.fn.columns;
-  pushed : (version : Version) (ls : List Leaf) (cs : List OutChunk) → AreMetasOf ls l.leaves → AllGive g.P.ChunkPages.gives version ls cs l.fn.columns → Pushed version ls cs l.i l.fn.start l.end l.pages (g.W.Sink.taken l.fn.sink) (g.W.Sink.taken l.sink) (map chunk_view l.metas.items);
+  pushed : (version : Version) (ls : List Leaf) (cs : List OutChunk) → AreMetasOf ls l.leaves → AllGive g.P.ChunkPages.begins version ls cs l.fn.columns → Pushed version ls cs l.i l.fn.start l.end l.pages (g.W.Sink.taken l.fn.sink) (g.W.Sink.taken l.sink) (map chunk_view l.metas.items);
   later : g.W.Sink.faults l.fn.sink ≤ g.W.Sink.faults l.sink;
 }
 

@@ -15,4 +15,4 @@ page_of_rows-requires-clause-served c =
 
 pub returns-clause-ok : goal.returns-clause-ok
 returns-clause-ok c =
-    (c.in_ok-page.page, refl, plain, written_plain c.args.options (parts_of c.args.nested.now) c.args.encoding c.in_ok-check_written.ensures.ok.0, c.in_ok-page.ensures.ok)
+    (c.in_ok-page.page, refl, plain, written_plain (parts_of c.args.nested.now) c.args.encoding c.in_ok-check_written.ensures.ok.0, c.in_ok-page.ensures.ok)

@@ -9,7 +9,7 @@ returns-clause-ok c =
     let p = physical_view c.args.type_.physical_type in
     let nested = c.args.nested.now in
     let served = c.requires.served in
-    each_ok c.plain_page.result _ _ (λ page h. holds_rows a p nested c.know.ensures served c.args.options c.args.type_ page c.requires.options (c.plain_page.ensures.stored served) h) c.plain_page.ensures.ok
+    each_ok c.plain_page.result _ _ (λ page h. holds_rows a p nested c.know.ensures served c.args.options c.args.type_ page (c.plain_page.ensures.stored served) h) c.plain_page.ensures.ok
 
 pub returns-clause-too_large : goal.returns-clause-too_large
 returns-clause-too_large c =

@@ -1,15 +1,16 @@
-use Rattle.std.proofs.Common.{◌≡◌, ◌≤◌, ◌∙◌, length, ap, sym, subst, arith, refl, rules, inr, true≢false}
+use Rattle.std.proofs.Common.{option_map, ◌≡◌, ◌≤◌, ◌∙◌, length, ap, sym, subst, arith, refl, rules, inr, true≢false}
 use Rattle.columns_core.specs.Shapes.{base}
 use Rattle.columns_slots.specs.Slots.{tree_len, type_of}
 use Rattle.levels.specs.Nested.{parts_of, nested_column}
-use Rattle.pq_files.specs.Room.{room, max_size}
+use Rattle.nested_paths.specs.LeafNulls.{value_at}
+use Rattle.pq_tree.specs.Views.{statistics_view}
+use Rattle.pq_files.specs.Room.{room, max_count, max_size}
 use Rattle.pq_pages.specs.DataPages.{DataPageValue, is_named}
 use Rattle.write_places.specs.Places.{path_places}
 use Rattle.write_values.specs.Leaf.{leaf_tree, leaf_physical}
 use Rattle.write_values.specs.Pages.{IsPlainPage}
 use Rattle.write_values.specs.Stored.{stored_at}
 use Rattle.write_values.proofs.Made.{denotes, out_is, room_over, room_within, few_values, rows_few}
-use Rattle.write_values.proofs.ServedTypes.{served_in_a_row}
 use Rattle.write_values.proofs.page.leaf_page.Goals as goal
 
 pub returns-then-not-has_room-clause-err : goal.returns-then-not-has_room-clause-err
@@ -66,11 +67,16 @@ returns-clause-ok c =
     let few = few_values p stored nested in
     let pairs : c.num_values-pairs.result ≡ length (nested_column stored nested) = omega (arith, c.num_values-pairs.ensures stored, yes) in
     let count : c.measure-measured.result.values ≡ length (path_places (parts_of nested)) = omega (arith, c.measure-measured.ensures.values, few, fits) in
-    let out = out_is stored nested c.num_values-pairs.result c.measure-measured.result.values c.slot_count-rows.result c.requires.well pairs count c.slot_count-rows.ensures in
-    let row = served_in_a_row (base (type_of (leaf_tree leaf))) p c.requires.served in
-    subst (λ (x : DataPageValue). IsPlainPage c.args.version p stored c.args.type_ nested x) (sym c.new.ensures)
+    let a = leaf_tree leaf in
+    let st = c.in_ok-statistics.ensures.ok in
+    let most : length (nested_column (value_at a) nested) ≤ max_count = omega (arith, c.num_values-pairs.ensures (value_at a), yes) in
+    let out = out_is stored st.out (option_map statistics_view c.in_ok-statistics.statistics) nested c.num_values-pairs.result c.measure-measured.result.values c.slot_count-rows.result c.requires.well pairs count c.slot_count-rows.ensures (st.are most) in
+    subst (λ (x : DataPageValue). IsPlainPage c.args.version c.args.with_statistics a p c.args.type_ nested x) (sym c.new.ensures)
     (record {
-      denotes = denotes c.args.version p stored nested c.in_ok-body.body c.plain_header-header.result c.descriptor_of-descriptor.result row c.requires.well c.in_ok-body.ensures.ok (c.plain_header-header.ensures.is _ out) fits;
+      statistics = st.out;
+      has = st.has;
+      exact = st.exact;
+      denotes = denotes c.args.version p stored st.out nested c.in_ok-body.body c.plain_header-header.result c.descriptor_of-descriptor.result c.requires.well c.in_ok-body.ensures.ok (c.plain_header-header.ensures.is _ out) fits;
       within = fits;
       about = c.descriptor_of-descriptor.ensures.about;
       repeats = c.descriptor_of-descriptor.ensures.repeats;

@@ -9,7 +9,6 @@ use Rattle.pq_tree.specs.Views.{physical_view}
 use Rattle.write_places.specs.Places.{path_places}
 use Rattle.write_values.specs.Leaf.{leaf_physical}
 use Rattle.write_values.specs.Pages.{IsPlainPage}
-use Rattle.write_values.specs.Stored.{stored_at}
 use Rattle.write_values.proofs.ServedColumns.{column_stored}
 use Rattle.write_values.proofs.page.plain_page.Goals as goal
 
@@ -19,8 +18,8 @@ returns-in-Some-clause-ok c =
     let nested = c.args.nested.now in
     let l = c.in-Some.ensures in
     let q = leaf_physical c.in-Some.leaf in
-    subst (λ (r : Physical). IfOk c.leaf_page.result (IsPlainPage c.args.version r (stored_at a r) c.args.type_ nested)) l.physical
-    (subst (λ (b : ArrayTree). IfOk c.leaf_page.result (IsPlainPage c.args.version q (stored_at b q) c.args.type_ nested)) l.tree c.leaf_page.ensures.ok)
+    subst (λ (r : Physical). IfOk c.leaf_page.result (IsPlainPage c.args.version c.args.with_statistics a r c.args.type_ nested)) l.physical
+    (subst (λ (b : ArrayTree). IfOk c.leaf_page.result (IsPlainPage c.args.version c.args.with_statistics b q c.args.type_ nested)) l.tree c.leaf_page.ensures.ok)
 
 pub returns-in-Some-clause-stored : goal.returns-in-Some-clause-stored
 returns-in-Some-clause-stored c = λ served.

@@ -1,4 +1,4 @@
-use Rattle.std.proofs.Common.{◌≡◌, ◌+◌, ◌<◌, ◌^◌, ℕ, List, map, length, ap, arith}
+use Rattle.std.proofs.Common.{◌≡◌, ◌<◌, ◌^◌, ℕ, List, map, length, ap, arith}
 use Rattle.columns_slots.specs.Bytes.{pieces_values}
 use Rattle.pq_tree.specs.Physical.{byte_array}
 use Rattle.pq_files.specs.Layout.{plain_length}

@@ -1,7 +1,10 @@
 use Rattle.read_leaves.proofs.column.KindColumn.next_piece.Goals as goal
 
+pub returns-in-Boolean-clause-gives : goal.returns-in-Boolean-clause-gives
+returns-in-Boolean-clause-gives g c o pieces r = rw c.in-Boolean.is (c.next_of.ensures o pieces (rw c.in-Boolean.is at r))
+
 pub returns-in-Int8-clause-gives : goal.returns-in-Int8-clause-gives
-returns-in-Int8-clause-gives g c o pieces r = rw c.in-Int8.is (c.next_of.ensures o pieces (rw c.in-Int8.is at r))
+returns-in-Int8-clause-gives g c o pieces r = rw c.in-Int8.is (c.next_of-in-Int8.ensures o pieces (rw c.in-Int8.is at r))
 
 pub returns-in-Int16-clause-gives : goal.returns-in-Int16-clause-gives
 returns-in-Int16-clause-gives g c o pieces r = rw c.in-Int16.is (c.next_of-in-Int16.ensures o pieces (rw c.in-Int16.is at r))

@@ -13,4 +13,4 @@ returns-in-Err-clause-refused g c = λ before version groups k h gives rows.
 
 pub returns-then-not-are_so_many-clause-refused : goal.returns-then-not-are_so_many-clause-refused
 returns-then-not-are_so_many-clause-refused g c = λ before version groups k h gives rows.
-    absurd (false≢true (c.if-not-are_so_many.ensures.1 (metas_are (columns_of (schema_of (fields_in c.args.self.now))) c.args.self.now.body.leaves _ h.has.leaves (give_lengths g.P.ChunkPages.gives version _ k.chunks c.args.columns.now gives))))
+    absurd (false≢true (c.if-not-are_so_many.ensures.1 (metas_are (columns_of (schema_of (fields_in c.args.self.now))) c.args.self.now.body.leaves _ h.has.leaves (give_lengths g.P.ChunkPages.begins version _ k.chunks c.args.columns.now gives))))

@@ -1,0 +1,5 @@
+pub mod Exist
+pub mod Further
+pub mod Places
+pub mod Made
+pub mod Unique

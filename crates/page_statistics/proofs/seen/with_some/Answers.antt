@@ -1,0 +1,33 @@
+use Rattle.std.proofs.Common.{arith}
+use Rattle.write_places.specs.Places.{picked}
+use Rattle.write_places.proofs.Picked.{next_picked}
+use Rattle.page_statistics.proofs.Places.{partly_all, partly_more, one_less}
+use Rattle.page_statistics.proofs.seen.with_some.Goals as goal
+
+pub overflow_add-from : goal.overflow_add-from
+overflow_add-from g c =
+    let n = next_picked c.loop-left.left c.args.from c.args.count (omega (arith, c.loop-left-test.true)) c.requires.few c.loop-left.invariant.low in
+    omega (arith, n.within, c.requires.within, c.len-places.ensures, c.len-places.type_inv)
+
+pub with_place-requires-clause-place : goal.with_place-requires-clause-place
+with_place-requires-clause-place g c =
+    let n = next_picked c.loop-left.left c.args.from c.args.count (omega (arith, c.loop-left-test.true)) c.requires.few c.loop-left.invariant.low in
+    omega (arith, n.within, c.requires.within)
+
+pub loop-left-smaller : goal.loop-left-smaller
+loop-left-smaller g c =
+    let n = next_picked c.loop-left.left c.args.from c.args.count (omega (arith, c.loop-left-test.true)) c.requires.few c.loop-left.invariant.low in
+    omega (arith, one_less _ _ _ _ _ n)
+
+pub loop-left-preserved : goal.loop-left-preserved
+loop-left-preserved g c =
+    let n = next_picked c.loop-left.left c.args.from c.args.count (omega (arith, c.loop-left-test.true)) c.requires.few c.loop-left.invariant.low in
+    record {
+      low = n.low;
+      within = c.with_place.ensures.within;
+      partly = partly_more (g.L.OrderedLeaf.value c.args.leaf.now) c.args.extremes c.loop-left.now _ (picked c.args.bits c.args.from c.args.count) c.loop-left.left _ c.args.from c.args.count _ c.loop-left.invariant.partly n c.with_place.ensures.are;
+    }
+
+pub returns-clause-are : goal.returns-clause-are
+returns-clause-are g c =
+    partly_all (g.L.OrderedLeaf.value c.args.leaf.now) c.args.extremes c.loop-left.now (picked c.args.bits c.args.from c.args.count) c.loop-left.left c.args.from c.args.count c.loop-left.invariant.partly c.loop-left-test.false

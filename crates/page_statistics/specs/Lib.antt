@@ -1,0 +1,4 @@
+pub mod Extremes
+pub mod Laws
+pub mod Spelled
+pub mod Stated

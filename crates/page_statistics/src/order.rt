@@ -1,0 +1,48 @@
+//! The order of the values of a leaf array.
+use columns_core::Result;
+use std::alloc::Global;
+
+/// The values of a leaf array by place, in the order of their type (Parquet format, `ColumnOrder`: numbers as numbers, false before true,
+/// bytes without a sign): what differs from one leaf type to the next.
+pub trait OrderedLeaf: Drop {
+    ghost use Rattle.std.specs.Prelude.{◌≡◌, ◌<◌, ℕ, IsTrue, true, false, IfOk, IfErr};
+    ghost use Rattle.shredding.specs.Shape.{LeafType};
+    ghost use Rattle.shredding.specs.Slot.{Value};
+    ghost use Rattle.columns_base.specs.declared.error.Error.TheVariants.{Memory};
+    ghost use Rattle.pq_tree.specs.Physical.{Physical};
+    ghost use Rattle.pq_files.specs.Statistics.{IsUpTo};
+    ghost use Rattle.page_statistics.specs.Spelled.{IsSpelled};
+
+    // the number of places
+    ghost count: { Self → ℕ };
+
+    // the type of the values
+    ghost kind: { Self → LeafType };
+
+    // the physical type of the column
+    ghost physical: { Self → Physical };
+
+    // the value at each place
+    ghost value: { Self → ℕ → Value };
+
+    /// The number of places.
+    fn len(&self) -> usize
+        ensures { result ≡ count self.now };
+
+    /// Whether the value at one place is below that at another.
+    fn is_less(&self, i: usize, j: usize) -> bool
+        requires first { i < count self.now }
+        requires second { j < count self.now }
+        ensures less { IsTrue result → IsUpTo (value self.now i) (value self.now j) }
+        ensures other { result ≡ false → IsUpTo (value self.now j) (value self.now i) };
+
+    /// The value at a place as statistics state it: plain, without a length, and a truth value as a byte.
+    ///
+    /// # Errors
+    ///
+    /// `Memory`.
+    fn bound(&self, alloc: Global, i: usize) -> Result<Vec<u8>>
+        requires { i < count self.now }
+        ensures ok { IfOk result (λ s. IsSpelled (kind self.now) (physical self.now) s.items (value self.now i)) }
+        ensures err { IfErr result (λ e. e ≡ Memory) };
+}

@@ -1,0 +1,113 @@
+//! The places of the least and of the greatest value so far.
+ghost use Rattle.std.specs.Prelude.{◌≡◌, ◌+◌, ◌-◌, ◌^◌, ◌<◌, ◌≤◌, ◌++◌, ◌∷◌, [], ℕ, List, Some};
+ghost use Rattle.write_places.specs.Places.{range, picked};
+ghost use Rattle.page_statistics.specs.Extremes.{AreExtremes, AreWithin, IsGreatestAt, IsLeastAt};
+
+use crate::order::OrderedLeaf;
+
+// The places of a least and of a greatest value.
+#[derive(Clone, Copy, Drop)]
+pub struct Extremes {
+    pub least: usize,
+    pub greatest: usize,
+}
+
+// How many values were seen, and where the extremes are, if there was one.
+#[derive(Clone, Copy, Drop)]
+pub struct Seen {
+    pub values: usize,
+    pub extremes: Option<Extremes>,
+}
+
+// The place of the lesser of two values, the first where they are equal.
+fn lesser<L: OrderedLeaf>(leaf: &L, least: usize, place: usize) -> usize
+    requires least { least < L.count leaf.now }
+    requires place { place < L.count leaf.now }
+    ensures within { result < L.count leaf.now }
+    ensures is { (places : List ℕ) → IsLeastAt (L.value leaf.now) places least → IsLeastAt (L.value leaf.now) (places ++ place ∷ []) result }
+{
+    if leaf.is_less(place, least) {
+        place
+    } else {
+        least
+    }
+}
+
+// The place of the greater of two values, the first where they are equal.
+fn greater<L: OrderedLeaf>(leaf: &L, greatest: usize, place: usize) -> usize
+    requires greatest { greatest < L.count leaf.now }
+    requires place { place < L.count leaf.now }
+    ensures within { result < L.count leaf.now }
+    ensures is { (places : List ℕ) → IsGreatestAt (L.value leaf.now) places greatest → IsGreatestAt (L.value leaf.now) (places ++ place ∷ []) result }
+{
+    if leaf.is_less(greatest, place) {
+        place
+    } else {
+        greatest
+    }
+}
+
+// The extremes with one more place.
+fn with_place<L: OrderedLeaf>(leaf: &L, extremes: Option<Extremes>, place: usize) -> Extremes
+    requires before { AreWithin (L.count leaf.now) extremes }
+    requires place { place < L.count leaf.now }
+    ensures within { AreWithin (L.count leaf.now) (Some result) }
+    ensures are { (places : List ℕ) → AreExtremes (L.value leaf.now) places extremes → AreExtremes (L.value leaf.now) (places ++ place ∷ []) (Some result) }
+{
+    match extremes {
+        Some(extremes) => Extremes {
+            least: lesser(leaf, extremes.least, place),
+            greatest: greater(leaf, extremes.greatest, place),
+        },
+        None => Extremes {
+            least: place,
+            greatest: place,
+        },
+    }
+}
+
+// The extremes with the places from one on to another.
+pub fn with_stretch<L: OrderedLeaf>(
+    leaf: &L,
+    extremes: Option<Extremes>,
+    from: usize,
+    to: usize,
+) -> Option<Extremes>
+    requires before { AreWithin (L.count leaf.now) extremes }
+    requires ordered { from ≤ to }
+    requires within { to ≤ L.count leaf.now }
+    ensures within { AreWithin (L.count leaf.now) result }
+    ensures are { (places : List ℕ) → AreExtremes (L.value leaf.now) places extremes → AreExtremes (L.value leaf.now) (places ++ range from (to - from)) result }
+{
+    let mut now = extremes;
+    for place in from..to {
+        now = Some(with_place(leaf, now, place));
+    }
+    now
+}
+
+// The extremes with those of so many places from one on whose bits in the word are set.
+pub fn with_some<L: OrderedLeaf>(
+    leaf: &L,
+    extremes: Option<Extremes>,
+    from: usize,
+    bits: u64,
+    count: usize,
+) -> Option<Extremes>
+    requires before { AreWithin (L.count leaf.now) extremes }
+    requires few { count ≤ 64 }
+    requires low { bits < 2 ^ count }
+    requires within { from + count ≤ L.count leaf.now }
+    ensures within { AreWithin (L.count leaf.now) result }
+    ensures are { (places : List ℕ) → AreExtremes (L.value leaf.now) places extremes → AreExtremes (L.value leaf.now) (places ++ picked bits from count) result }
+{
+    let _places = leaf.len();
+    let mut left = bits;
+    let mut now = extremes;
+    while left != 0 {
+        let i = left.trailing_zeros() as usize;
+        now = Some(with_place(leaf, now, from + i));
+        left ^= 1 << i;
+    }
+    now
+}

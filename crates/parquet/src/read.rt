@@ -1,0 +1,17 @@
+//! A file's footer, the pages of its column chunks, and its columns as arrays (Parquet format, "Column chunks"; Dremel paper, "Record assembly").
+
+pub use assembly::{ArrayIter, column_iter_to_arrays};
+pub use pq_container::{
+    ColumnChunkMetaData, DataPageHeader, DataPageHeaderV1, DataPageHeaderV2, FileMetaData,
+    RowGroupMetaData, read_metadata,
+};
+pub use pq_io::{Failed, MemorySource, PlainSource, Source, StdSource, read_all};
+pub use pq_pages::{
+    DataPage, DictPage, Page, PageReader, Pages, VecPages, get_page_iterator, split_buffer,
+};
+pub use read_nested::{create_list, create_map};
+pub use read_state::{
+    InitNested, NestedBox, NestedOptional, NestedPrimitive, NestedState, NestedStruct,
+    NestedStructValid, NestedValid, init_nested,
+};
+pub use read_walk::{NestedDecoder, NestedPage, extend_levels};

@@ -1,0 +1,6 @@
+pub mod Copying
+pub mod Filling
+pub mod Fields
+pub mod Narrow
+pub mod Steps
+pub mod Whole

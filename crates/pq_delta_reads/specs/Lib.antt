@@ -1,0 +1,5 @@
+pub mod Decoding
+pub mod Read
+pub mod Reading
+pub mod Sections
+pub mod Waiting

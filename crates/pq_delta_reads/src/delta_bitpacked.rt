@@ -1,0 +1,3 @@
+//! Delta packing (Parquet format, Encodings, "Delta Encoding").
+
+pub use crate::decoder::Decoder;

@@ -1,0 +1,92 @@
+//! Sections of byte strings, spelled plain.
+
+ghost use Rattle.std.specs.Prelude.{◌≡◌, ◌⊎◌, ◌<◌, ◌^◌, ℕ, pos, length, OnOk, IfOk, IfErr, MatchOption};
+ghost use Rattle.std.specs.Int.{w32};
+ghost use Rattle.columns_base.specs.declared.error.Error.TheVariants.{Memory};
+ghost use Rattle.pq_tree.specs.Physical.{byte_array};
+ghost use Rattle.pq_files.specs.Delta.{AreDeltaLengths};
+ghost use Rattle.pq_runs.specs.Delta.{wrapped};
+ghost use Rattle.pq_runs.specs.Hybrid.{fault};
+ghost use Rattle.pq_runs.specs.Writing.{Extends};
+ghost use Rattle.pq_delta_reads.specs.Read.{IsBehind};
+ghost use Rattle.pq_delta_reads.specs.Sections.{TurnsPlain, SpellsNone, TakesString};
+
+use crate::decoder::Decoder;
+use columns_base::{Error, Result, S};
+use pq_numbers::push_u32_le;
+
+// The bytes behind so many lengths, whose last miniblock is whole.
+fn behind_lengths(section: &[u8], count: usize) -> Result<&[u8]>
+    ensures ok { IfOk result (λ behind. IsBehind count section.now behind.now) }
+    ensures err { IfErr result (λ e. (e ≡ fault) × SpellsNone AreDeltaLengths count section.now) }
+{
+    let mut decoder = Decoder::try_new(section)?;
+    if decoder.len() != count {
+        return Err(Error::OutOfSpec(S::S6));
+    }
+    while let Some(item) = decoder.next() {
+        if let Err(error) = item {
+            return Err(error);
+        }
+    }
+    match decoder.behind(section) {
+        Some(behind) => Ok(behind),
+        None => Err(Error::OutOfSpec(S::S6)),
+    }
+}
+
+// The length that a number of 32 bits is: none that is negative.
+fn length_of(value: i64) -> Option<usize>
+    ensures { MatchOption result ((n : ℕ) → wrapped w32 value ≡ pos n → ⊥) (λ n. (wrapped w32 value ≡ pos n) × (n < 2 ^ 31)) }
+{
+    let low = (value.cast_unsigned() % (1 << 32)) as u32;
+    if low < 1 << 31 {
+        Some(low as usize)
+    } else {
+        None
+    }
+}
+
+// Appends the string of so many bytes at the front, and gives the bytes behind it.
+fn push_string<'a>(out: &mut Vec<u8>, bytes: &'a [u8], size: usize) -> Result<&'a [u8]>
+    requires { size < 2 ^ 31 }
+    ensures ok { IfOk result (λ rest. TakesString size bytes.now rest.now out.old.items out.new.items) }
+    ensures err { IfErr result (λ e. (e ≡ Memory) ⊎ ((e ≡ fault) × (length bytes.now < size))) }
+    ensures kept { Extends out.old.items out.new.items }
+{
+    if bytes.len() < size {
+        return Err(Error::OutOfSpec(S::S6));
+    }
+    let (string, rest) = bytes.split_at(size);
+    push_u32_le(out, size as u32)?;
+    out.extend_from_slice(string)?;
+    Ok(rest)
+}
+
+/// Appends the plain spelling of the byte strings with which a section of delta lengths begins: four bytes with the length, lowest first, and the bytes
+/// of each (Parquet format, Encodings, "Delta-length byte array" and "Plain"). The lengths' last miniblock is whole, and what follows the strings is
+/// not looked at. The lengths are gone over twice, so that nothing but `out` takes memory.
+///
+/// # Errors
+///
+/// S6 exactly where the section begins with no list of `count` strings: also for a negative length, and one past the end. Or want of memory. `out`
+/// has what it had in front.
+pub fn push_plain_strings(section: &[u8], count: usize, out: &mut Vec<u8>) -> Result<()>
+    ensures ok { OnOk result (TurnsPlain AreDeltaLengths byte_array count section.now out.old.items out.new.items) }
+    ensures err { IfErr result (λ e. (e ≡ Memory) ⊎ ((e ≡ fault) × SpellsNone AreDeltaLengths count section.now)) }
+    ensures kept { Extends out.old.items out.new.items }
+{
+    let mut bytes = behind_lengths(section, count)?;
+    let mut decoder = Decoder::try_new(section)?;
+    while let Some(item) = decoder.next() {
+        let value = match item {
+            Ok(value) => value,
+            Err(error) => return Err(error),
+        };
+        let Some(size) = length_of(value) else {
+            return Err(Error::OutOfSpec(S::S6));
+        };
+        bytes = push_string(out, bytes, size)?;
+    }
+    Ok(())
+}

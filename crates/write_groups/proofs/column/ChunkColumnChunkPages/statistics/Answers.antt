@@ -1,0 +1,5 @@
+use Rattle.std.proofs.Common.{◌∙◌}
+use Rattle.write_groups.proofs.column.ChunkColumnChunkPages.statistics.Goals as goal
+
+pub returns : goal.returns
+returns c = λ version l k h few. c.statistics.ensures ∙ h.1 few

@@ -1,0 +1,132 @@
+-- The values of leaf arrays in order, and their texts as bounds.
+use Rattle.std.proofs.Common.{◌≡◌, ℕ, ◌<◌, ℤ, ◌≤ℤ◌, ◌<ℤ◌, Bool, true, false, true≢false, List, [], ◌∷◌, map, length, get_or, refl, sym, ap, subst, ◌∙◌, arith, cond}
+use Rattle.std.specs.Prelude.{All, IsUtf8}
+use Rattle.std.proofs.lemmas.List.{get_or-map}
+use Rattle.std.proofs.lemmas.Int.{by_lt_z, ints}
+use Rattle.shredding.specs.Shape.{LeafType, truths, text, binary}
+use Rattle.shredding.specs.Slot.{Value, truth, number, bytes}
+use Rattle.columns_core.specs.Shapes.{leaf_type}
+use Rattle.columns_core.specs.Tree.{TypeTree, t_boolean, t_int8, t_int16, t_int32, t_int64, t_uint8, t_uint16, t_uint32, t_uint64, t_date32, t_date64, t_time32, t_time64, t_timestamp, t_duration, t_utf8, t_large_utf8, t_binary, t_large_binary}
+use Rattle.columns_slots.specs.Bytes.{pieces, pieces_values}
+use Rattle.columns_slots.specs.Types.{is_binary, is_boolean, is_text}
+use Rattle.pq_tree.specs.Physical.{Physical, boolean, int32, int64, byte_array}
+use Rattle.pq_files.specs.Statistics.{IsImplied, IsUpTo, has_order}
+use Rattle.pq_files.specs.Stored.{IsStored}
+use Rattle.page_statistics.specs.Spelled.{IsSpelled, bound_text}
+use Rattle.write_values.specs.Numbers.{at_place}
+use Rattle.write_values.specs.Served.{is_small, is_wide, is_string, is_served}
+use Rattle.write_values.proofs.Picked.{number_here}
+
+pub below_is_up_to : (a b : ℤ) → a <ℤ b → a ≤ℤ b
+below_is_up_to a b h = omega (arith, ints, h)
+
+pub not_below : (a b : ℤ) → (a <ℤ b → ⊥) → b ≤ℤ a
+not_below a b h = by_lt_z a b (λ l. absurd (h l)) (λ k. k)
+
+-- numbers at places
+module _ {A : Type 0} (g : A → Value) (ordinal : A → ℤ) (is : (x : A) → g x ≡ number (ordinal x)) (xs : List A) where
+  pub numbers_up : (i j : ℕ) (x y : A) → i < length xs → j < length xs → x ≡ get_or xs i x → y ≡ get_or xs j y → ordinal x ≤ℤ ordinal y → IsUpTo (at_place (map g xs) i) (at_place (map g xs) j)
+  numbers_up i j x y l m e f h =
+      let u : number (ordinal x) ≡ at_place (map g xs) i = sym (is x) ∙ number_here g xs i x l e in
+      let v : number (ordinal y) ≡ at_place (map g xs) j = sym (is y) ∙ number_here g xs j y m f in
+      subst (λ (a : Value). IsUpTo a (at_place (map g xs) j)) u (subst (λ (b : Value). IsUpTo (number (ordinal x)) b) v h)
+
+-- the text of the number at a place
+pub number_spelled : {A : Type 0} (t : LeafType) (p : Physical) (g : A → Value) (xs : List A) (i : ℕ) (x : A) (z : ℤ) (s : List ℕ) → i < length xs → x ≡ get_or xs i x → IsStored t p (g x) (number z) → s ≡ bound_text p (number z) → IsSpelled t p s (at_place (map g xs) i)
+number_spelled t p g xs i x z s l e h is = subst (λ (v : Value). IsSpelled t p s v) (number_here g xs i x l e) (record { stored = number z; is_stored = h; is = is })
+
+-- ---- the types that are written have an order
+
+small_ordered : (t : TypeTree) → is_small t ≡ true → has_order (leaf_type t) ≡ true
+small_ordered t_int8 e = refl
+small_ordered t_int16 e = refl
+small_ordered t_int32 e = refl
+small_ordered t_uint8 e = refl
+small_ordered t_uint16 e = refl
+small_ordered t_uint32 e = refl
+small_ordered t_date32 e = refl
+small_ordered (t_time32 u) e = refl
+small_ordered t e = absurd (true≢false (sym e))
+
+wide_ordered : (t : TypeTree) → is_wide t ≡ true → has_order (leaf_type t) ≡ true
+wide_ordered t_uint32 e = refl
+wide_ordered t_int64 e = refl
+wide_ordered t_uint64 e = refl
+wide_ordered t_date64 e = refl
+wide_ordered (t_time64 u) e = refl
+wide_ordered (t_timestamp u z) e = refl
+wide_ordered (t_duration u) e = refl
+wide_ordered t e = absurd (true≢false (sym e))
+
+string_ordered : (t : TypeTree) → is_string t ≡ true → has_order (leaf_type t) ≡ true
+string_ordered t_utf8 e = refl
+string_ordered t_large_utf8 e = refl
+string_ordered t_binary e = refl
+string_ordered t_large_binary e = refl
+string_ordered t e = absurd (true≢false (sym e))
+
+truth_ordered : (t : TypeTree) → is_boolean t ≡ true → has_order (leaf_type t) ≡ true
+truth_ordered t_boolean e = refl
+truth_ordered t e = absurd (true≢false (sym e))
+
+pub served_ordered : (t : TypeTree) (p : Physical) → is_served t p ≡ true → has_order (leaf_type t) ≡ true
+served_ordered t boolean e = truth_ordered t e
+served_ordered t int32 e = small_ordered t e
+served_ordered t int64 e = wide_ordered t e
+served_ordered t byte_array e = string_ordered t e
+served_ordered t p e = absurd (true≢false (sym e))
+
+-- ---- texts, byte strings and truth values
+
+text_type : (large : Bool) (t : TypeTree) → is_text large t ≡ true → leaf_type t ≡ text
+text_type false t_utf8 e = refl
+text_type true t_large_utf8 e = refl
+text_type false t e = absurd (true≢false (sym e))
+text_type true t e = absurd (true≢false (sym e))
+
+binary_type : (large : Bool) (t : TypeTree) → is_binary large t ≡ true → leaf_type t ≡ binary
+binary_type false t_binary e = refl
+binary_type true t_large_binary e = refl
+binary_type false t e = absurd (true≢false (sym e))
+binary_type true t e = absurd (true≢false (sym e))
+
+truth_type : (t : TypeTree) → is_boolean t ≡ true → leaf_type t ≡ truths
+truth_type t_boolean e = refl
+truth_type t e = absurd (true≢false (sym e))
+
+pub text_spelled : (large : Bool) (t : TypeTree) (s b : List ℕ) (v : Value) → is_text large t ≡ true → bytes b ≡ v → IsUtf8 b → s ≡ b → IsSpelled (leaf_type t) byte_array s v
+text_spelled large t s b v e i u h =
+    subst (λ (w : Value). IsSpelled (leaf_type t) byte_array s w) i (subst (λ (l : LeafType). IsSpelled l byte_array s (bytes b)) (sym (text_type large t e)) (record { stored = bytes b; is_stored = (u, refl); is = h }))
+
+pub string_spelled : (large : Bool) (t : TypeTree) (s b : List ℕ) (v : Value) → is_binary large t ≡ true → bytes b ≡ v → s ≡ b → IsSpelled (leaf_type t) byte_array s v
+string_spelled large t s b v e i h =
+    subst (λ (w : Value). IsSpelled (leaf_type t) byte_array s w) i (subst (λ (l : LeafType). IsSpelled l byte_array s (bytes b)) (sym (binary_type large t e)) (record { stored = bytes b; is_stored = refl; is = h }))
+
+-- the texts of an array are texts at each place
+pub text_at : (os bs b : List ℕ) (i : ℕ) → All IsUtf8 (pieces os bs) → i < length (pieces os bs) → bytes b ≡ at_place (pieces_values os bs) i → IsUtf8 b
+text_at os bs b i all l e =
+    let same : bytes b ≡ bytes (get_or (pieces os bs) i []) = e ∙ get_or-map bytes (pieces os bs) i [] (truth false) l in
+    subst IsUtf8 (sym (ap bytes_in same)) (all i [] l)
+  where
+    bytes_in : Value → List ℕ
+    bytes_in (bytes s) = s
+    bytes_in v = []
+
+pub truth_spelled : (t : TypeTree) (bits : List Bool) (i : ℕ) (b : Bool) (s : List ℕ) → is_boolean t ≡ true → i < length bits → b ≡ get_or bits i false → s ≡ cond b 1 0 ∷ [] → IsSpelled (leaf_type t) boolean s (at_place (map truth bits) i)
+truth_spelled t bits i b s e l h k =
+    let here : truth b ≡ at_place (map truth bits) i = ap truth h ∙ sym (get_or-map truth bits i false (truth false) l) in
+    subst (λ (w : Value). IsSpelled (leaf_type t) boolean s w) here (subst (λ (y : LeafType). IsSpelled y boolean s (truth b)) (sym (truth_type t e)) (record { stored = truth b; is_stored = refl; is = k ∙ text b }))
+  where
+    text : (b : Bool) → cond b 1 0 ∷ [] ≡ bound_text boolean (truth b)
+    text true = refl
+    text false = refl
+
+pub truths_up : (bits : List Bool) (i j : ℕ) (b c : Bool) → i < length bits → j < length bits → b ≡ get_or bits i false → c ≡ get_or bits j false → IsImplied b c → IsUpTo (at_place (map truth bits) i) (at_place (map truth bits) j)
+truths_up bits i j b c l m e f h =
+    let u : truth b ≡ at_place (map truth bits) i = ap truth e ∙ sym (get_or-map truth bits i false (truth false) l) in
+    let v : truth c ≡ at_place (map truth bits) j = ap truth f ∙ sym (get_or-map truth bits j false (truth false) m) in
+    subst (λ (a : Value). IsUpTo a (at_place (map truth bits) j)) u (subst (λ (a : Value). IsUpTo (truth b) a) v h)
+
+pub implied_true : (b c : Bool) → c ≡ true → IsImplied b c
+implied_true false c e = tt
+implied_true true c e = e

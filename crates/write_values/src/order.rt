@@ -1,0 +1,175 @@
+//! The values of leaf arrays in order (Parquet format, `ColumnOrder`).
+ghost use Rattle.std.specs.Prelude.{◌≡◌, IsTrue, false};
+ghost use Rattle.shredding.specs.Slot.{bytes};
+ghost use Rattle.pq_files.specs.Statistics.{IsUpTo};
+
+use crate::numbers::{AlwaysStored, Numbers, StoredNumber};
+use crate::strings::{Strings, Texts, string_at};
+use columns_core::{Offset, Result};
+use columns_leaf::BooleanArray;
+use columns_native::OrderedNative;
+use page_statistics::OrderedLeaf;
+use std::alloc::Global;
+use std::cmp::Ordering;
+use write_statistics::ord_binary;
+
+impl<'a, T: AlwaysStored<P> + OrderedNative, P: StoredNumber> OrderedLeaf for Numbers<'a, T, P> {
+    ghost use Rattle.std.specs.Prelude.{map};
+    ghost use Rattle.columns_core.specs.Shapes.{base, leaf_type};
+    ghost use Rattle.columns_slots.specs.Tree.{leaf_array};
+    ghost use Rattle.columns_slots.specs.Slots.{tree_len};
+    ghost use Rattle.nested_paths.specs.LeafNulls.{value_at};
+    ghost use Rattle.pq_tree.specs.Views.{physical_view};
+
+    ghost count = { λ s. tree_len (leaf_array s.array.now.0 (map (T.value (base s.array.now.0)) s.array.now.1.0) s.array.now.1.1) };
+
+    ghost kind = { λ s. leaf_type (base s.array.now.0) };
+
+    ghost physical = { λ s. physical_view P.physical };
+
+    ghost value = { λ s. value_at (leaf_array s.array.now.0 (map (T.value (base s.array.now.0)) s.array.now.1.0) s.array.now.1.1) };
+
+    fn len(&self) -> usize {
+        self.array.len()
+    }
+
+    fn is_less(&self, i: usize, j: usize) -> bool {
+        self.array.know();
+        let values = self.array.values();
+        values[i].is_less(&values[j])
+    }
+
+    fn bound(&self, alloc: Global, i: usize) -> Result<Vec<u8>> {
+        self.array.know();
+        let stored: P = self.array.values()[i].to_stored();
+        let mut text = Vec::new(alloc);
+        stored.push_le_bytes(&mut text)?;
+        Ok(text)
+    }
+}
+
+// Whether a string goes before another.
+fn is_before(a: &[u8], b: &[u8]) -> bool
+    ensures less { IsTrue result → IsUpTo (bytes a.now) (bytes b.now) }
+    ensures other { result ≡ false → IsUpTo (bytes b.now) (bytes a.now) }
+{
+    match ord_binary(a, b) {
+        Ordering::Less => true,
+        Ordering::Equal => false,
+        Ordering::Greater => false,
+    }
+}
+
+impl<'a, O: Offset> OrderedLeaf for Texts<'a, O> {
+    ghost use Rattle.columns_core.specs.Shapes.{base, leaf_type};
+    ghost use Rattle.columns_slots.specs.Bytes.{pieces_values};
+    ghost use Rattle.columns_slots.specs.Tree.{leaf_array};
+    ghost use Rattle.columns_slots.specs.Slots.{tree_len};
+    ghost use Rattle.nested_paths.specs.LeafNulls.{value_at};
+    ghost use Rattle.pq_tree.specs.Physical.{byte_array};
+
+    ghost count = { λ s. tree_len (leaf_array s.array.now.0 (pieces_values s.array.now.1.0 s.array.now.1.1.0) s.array.now.1.1.1) };
+
+    ghost kind = { λ s. leaf_type (base s.array.now.0) };
+
+    ghost physical = { λ s. byte_array };
+
+    ghost value = { λ s. value_at (leaf_array s.array.now.0 (pieces_values s.array.now.1.0 s.array.now.1.1.0) s.array.now.1.1.1) };
+
+    fn len(&self) -> usize {
+        self.array.know();
+        self.array.len()
+    }
+
+    fn is_less(&self, i: usize, j: usize) -> bool {
+        self.array.know();
+        let (offsets, all) = (self.array.offsets(), self.array.values());
+        is_before(string_at(offsets, all, i), string_at(offsets, all, j))
+    }
+
+    fn bound(&self, alloc: Global, i: usize) -> Result<Vec<u8>> {
+        self.array.know();
+        let text = Vec::from_slice(
+            alloc,
+            string_at(self.array.offsets(), self.array.values(), i),
+        )?;
+        Ok(text)
+    }
+}
+
+impl<'a, O: Offset> OrderedLeaf for Strings<'a, O> {
+    ghost use Rattle.columns_core.specs.Shapes.{base, leaf_type};
+    ghost use Rattle.columns_slots.specs.Bytes.{pieces_values};
+    ghost use Rattle.columns_slots.specs.Tree.{leaf_array};
+    ghost use Rattle.columns_slots.specs.Slots.{tree_len};
+    ghost use Rattle.nested_paths.specs.LeafNulls.{value_at};
+    ghost use Rattle.pq_tree.specs.Physical.{byte_array};
+
+    ghost count = { λ s. tree_len (leaf_array s.array.now.0 (pieces_values s.array.now.1.0 s.array.now.1.1.0) s.array.now.1.1.1) };
+
+    ghost kind = { λ s. leaf_type (base s.array.now.0) };
+
+    ghost physical = { λ s. byte_array };
+
+    ghost value = { λ s. value_at (leaf_array s.array.now.0 (pieces_values s.array.now.1.0 s.array.now.1.1.0) s.array.now.1.1.1) };
+
+    fn len(&self) -> usize {
+        self.array.know();
+        self.array.len()
+    }
+
+    fn is_less(&self, i: usize, j: usize) -> bool {
+        self.array.know();
+        let (offsets, all) = (self.array.offsets(), self.array.values());
+        is_before(string_at(offsets, all, i), string_at(offsets, all, j))
+    }
+
+    fn bound(&self, alloc: Global, i: usize) -> Result<Vec<u8>> {
+        self.array.know();
+        let text = Vec::from_slice(
+            alloc,
+            string_at(self.array.offsets(), self.array.values(), i),
+        )?;
+        Ok(text)
+    }
+}
+
+// The truth values of an array: false goes before true.
+#[derive(Clone, Copy, Drop)]
+pub struct OrderedTruths<'a> {
+    pub array: &'a BooleanArray,
+}
+
+impl<'a> OrderedLeaf for OrderedTruths<'a> {
+    ghost use Rattle.std.specs.Prelude.{map};
+    ghost use Rattle.shredding.specs.Slot.{truth};
+    ghost use Rattle.columns_core.specs.Shapes.{base, leaf_type};
+    ghost use Rattle.columns_slots.specs.Tree.{leaf_array};
+    ghost use Rattle.columns_slots.specs.Slots.{tree_len};
+    ghost use Rattle.nested_paths.specs.LeafNulls.{value_at};
+    ghost use Rattle.pq_tree.specs.Physical.{boolean};
+
+    ghost count = { λ s. tree_len (leaf_array s.array.now.0 (map truth s.array.now.1.0) s.array.now.1.1) };
+
+    ghost kind = { λ s. leaf_type (base s.array.now.0) };
+
+    ghost physical = { λ s. boolean };
+
+    ghost value = { λ s. value_at (leaf_array s.array.now.0 (map truth s.array.now.1.0) s.array.now.1.1) };
+
+    fn len(&self) -> usize {
+        self.array.len()
+    }
+
+    fn is_less(&self, i: usize, j: usize) -> bool {
+        let values = self.array.values();
+        !values.get_bit(i) && values.get_bit(j)
+    }
+
+    fn bound(&self, alloc: Global, i: usize) -> Result<Vec<u8>> {
+        self.array.know();
+        let byte = u8::from(self.array.values().get_bit(i));
+        let text = vec![in alloc; byte]?;
+        Ok(text)
+    }
+}
