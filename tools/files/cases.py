@@ -272,6 +272,23 @@ def spelled():
     same("lists of texts by a dictionary", indexed(WORDS, ["b", "a"], *WORD_ROWS), "lists of texts")
     same("lists of texts by a dictionary, in pages of version 2", indexed(WORDS, ["a", "b"], *WORD_ROWS, second=True, cuts=[1, 2, 1]), "lists of texts")
     good(t, "indices of no bits", indexed(REQ, [7], 7, 7, 7), 1, 3, 1)
+
+    def deltas(nodes, kind, triples, count, text_, behind=b""):
+        section = bytes.fromhex(text_.replace(" ", "")) + behind
+        return one_page(nodes, count, [data_page(columns(nodes)[0], triples, encoding=kind, values=section)], count)
+
+    v = [leaf("v", REQUIRED, INT64)]
+    wide = "80010403 00 02 3f000000 feffffffffffff7f 0000000000000000"
+    same("numbers of 64 bits in deltas", deltas(v, 5, [(0, 0, n) for n in longs], 3, wide), "whole numbers of 64 bits")
+    v = [leaf("v", REQUIRED, BYTE_ARRAY, UTF8)]
+    words = [s.encode() for s in texts]
+    sizes = "80010406 00 05 04000000 94120000000000000000000000000000"
+    same("texts by their lengths", deltas(v, 6, [(0, 0, s) for s in words], 6, sizes, b"".join(words)), "texts")
+    v = [leaf("v", OPTIONAL, INT32)]
+    some = [(0, 1, 7), (0, 0, None), (0, 1, 5), (0, 1, 3), (0, 0, None)]
+    good(t, "numbers and nulls in deltas", deltas(v, 5, some, 5, "80010403 0e 03 00000000"), 1, 5, 1)
+    more = data_page_2(columns(v)[0], some, encoding=5, values=bytes.fromhex("800104030e0300000000"))
+    good(t, "numbers and nulls in deltas, in a page of version 2", one_page(v, 5, [more], 5), 1, 5, 1)
     same("levels in copies", first_page(how=copies))
     same("levels in copies and bits", first_page(how=mixed))
     def body(name, text_):
@@ -549,10 +566,11 @@ def paged():
     bad(t, "two dictionary pages", with_entries(REQ, 3, seven, [seven, sevens], 3), "S3")
     bad(t, "a dictionary page behind a page", with_entries(REQ, 6, seven, [sevens, seven, sevens], 6), "S3")
     delta = bytes.fromhex("80010403 0e 00 01000000 02000000".replace(" ", ""))
-    bad(t, "deltas", one_page(REQ, 3, [data_page(REQ_COLUMN, ints, encoding=5, values=delta)], 3), "N4")
+    bad(t, "numbers in lengths", one_page(REQ, 3, [data_page(REQ_COLUMN, ints, encoding=6, values=delta)], 3), "N4")
     words = [(0, 0, b"ab"), (0, 0, b"c")]
     lengths = bytes.fromhex("80010402 04 01 00000000".replace(" ", "")) + b"abc"
-    bad(t, "lengths in deltas", one_page(TEXT, 2, [data_page(TEXT_COLUMN, words, encoding=6, values=lengths)], 2), "N4")
+    bad(t, "texts in deltas", one_page(TEXT, 2, [data_page(TEXT_COLUMN, words, encoding=5, values=lengths)], 2), "N4")
+    bad(t, "deltas of numbers in lists", one_page(FIRST, 4, [data_page(COLUMN, FIRST_TRIPLES, encoding=5, values=delta)], 5), "N4")
     bad(t, "byte strings in deltas", one_page(TEXT, 2, [data_page(TEXT_COLUMN, words, encoding=7, values=b"")], 2), "N4")
     bad(t, "streams of bytes", one_page(REQ, 2, [data_page(REQ_COLUMN, ints[:2], encoding=9, values=b"\7\7\0\0\0\0\0\0")], 2), "N4")
     bad(t, "an encoding that is not known", flat_page(encoding=-1), "N4")
@@ -599,6 +617,10 @@ def leveled():
     body("a length that is cut", "01000000 61 010000", "S6", TEXT, [(0, 0, b"a"), (0, 0, b"")], 2)
     body("a text that is cut", "01000000 61 02000000 62", "S6", TEXT, [(0, 0, b"a"), (0, 0, b"")], 2)
     body("a text of a length past all", "ffffffff 61", "S6", TEXT, [(0, 0, b"a")], 1)
+    delta = bytes.fromhex("80010403 0e 00 01000000 02000000".replace(" ", ""))
+    sevens = [(0, 0, 7), (0, 0, 7), (0, 0, 8)]
+    bad(t, "deltas of fewer numbers than levels call for", one_page(REQ, 4, [data_page(REQ_COLUMN, [*sevens, (0, 0, 8)], encoding=5, values=delta)], 4), "S6")
+    bad(t, "deltas of more numbers than levels call for", one_page(REQ, 2, [data_page(REQ_COLUMN, sevens[:2], encoding=5, values=delta)], 2), "S6")
     past = data_page(REQ_COLUMN, [(0, 0, 7)] * 3, encoding=8, values=b"\x02\x06\x02")
     entries = dictionary_page(INT32, [7, 8])
     bad(t, "an index past the entries", with_entries(REQ, 3, entries, [past], 3), "S6")

@@ -6,3 +6,4 @@ pub mod Reasons
 pub mod Openings
 pub mod Given
 pub mod Opens
+mod Readers

@@ -18,7 +18,7 @@ use Rattle.schema_to_tree.specs.Faults.{first_of_two}
 use Rattle.shredding.specs.Along.{thin}
 use Rattle.shredding.specs.Shape.{HasNoEmptyStruct, HaveNoEmptyStruct, Way, at_leaf, in_list, in_struct}
 use Rattle.pq_headline.specs.Columns.{ArrowColumn, type_columns, field_columns, columns_from, leaf_column, beneath_list, beneath_struct}
-use Rattle.pq_headline.specs.Served.{is_served_type, is_served_field, are_served_fields}
+use Rattle.assembly.specs.Read.{reads_nodes, reads_nodes_of, reads_nodes_of_all}
 use Rattle.read_pieces.specs.Pieces.{type_leaves, leaf_types, all_leaf_types}
 use Rattle.assembly.specs.Paths.{Path, type_paths, field_paths, fields_paths, type_fault, field_fault, struct_fault, fields_fault}
 
@@ -135,10 +135,10 @@ mutual
 pub all_paths : (f : FieldTree) → ArePaths [] (field_columns f) (leaf_types f) (field_paths [] f)
 all_paths f = paths_behind [] f tt
 
--- ---- a served field without empty structs has no fault
+-- ---- a field that is read and without empty structs has no fault
 
 mutual
-  sound_of : (n : Bool) (t : TypeTree) → is_served_type t ≡ true → HasNoEmptyStruct (type_shape n t) → type_fault t ≡ None
+  sound_of : (n : Bool) (t : TypeTree) → reads_nodes t ≡ true → HasNoEmptyStruct (type_shape n t) → type_fault t ≡ None
   sound_of n (t_list item) s h = sound item s h
   sound_of n (t_large_list item) s h = sound item s h
   sound_of n (t_fixed_size_list item w) s h = absurd (true≢false (sym s))
@@ -151,10 +151,10 @@ mutual
   sound_of n (t_extension name inner m) s h = sound_of n inner s h
   sound_of n t s h = refl
 
-  pub sound : (f : FieldTree) → is_served_field f ≡ true → HasNoEmptyStruct (shape_of f) → field_fault f ≡ None
+  pub sound : (f : FieldTree) → reads_nodes_of f ≡ true → HasNoEmptyStruct (shape_of f) → field_fault f ≡ None
   sound (field name t n m) s h = sound_of n t s h
 
-  all_sound : (fs : FieldTrees) → are_served_fields fs ≡ true → HaveNoEmptyStruct (shapes_of fs) → fields_fault fs ≡ None
+  all_sound : (fs : FieldTrees) → reads_nodes_of_all fs ≡ true → HaveNoEmptyStruct (shapes_of fs) → fields_fault fs ≡ None
   all_sound no_fields s h = refl
   all_sound (more_fields f fs) s h = let a = and_parts _ _ s in ap (λ o. first_of_two o (fields_fault fs)) (sound f a.0 h.0) ∙ all_sound fs a.1 h.1
 

@@ -1,5 +1,5 @@
 -- Columns are opened one by one, the last one first.
-use Rattle.std.proofs.Common.{◌≡◌, ◌≢◌, ◌⊎◌, inl, inr, ◌+◌, ◌<◌, ◌≤◌, ℕ, zero, suc, Bool, true, false, Option, Some, List, [], ◌∷◌, ◌++◌, length, map, take, drop, get_or, reverse, refl, sym, ap, subst, ◌∙◌, arith, true≢false}
+use Rattle.std.proofs.Common.{◌≡◌, ◌≢◌, ◌⊎◌, inl, inr, ◌+◌, ◌<◌, ◌≤◌, ℕ, zero, suc, Option, Some, List, [], ◌∷◌, ◌++◌, length, map, take, drop, get_or, reverse, refl, sym, ap, subst, ◌∙◌, arith, true≢false}
 use Rattle.std.proofs.lemmas.List.{reverse-append, get_or-take, take-take, length-map}
 use Rattle.std.proofs.lemmas.List.Elements.{recursion_from_All, All-from_recursion}
 use Rattle.std.specs.Prelude.{All}
@@ -9,36 +9,31 @@ use Rattle.columns_base.specs.declared.error.A.TheVariants.{A8}
 use Rattle.columns_base.specs.declared.error.N.TheVariants.{N5}
 use Rattle.columns_core.specs.Measures.{field_nesting}
 use Rattle.columns_core.specs.Shapes.{base}
-use Rattle.columns_core.specs.Tree.{TypeTree, t_boolean, t_int8, t_int16, t_int32, t_int64, t_uint8, t_uint16, t_uint32, t_uint64, t_timestamp, t_date32, t_date64, t_time32, t_time64, t_duration, t_binary, t_large_binary, t_utf8, t_large_utf8, t_dictionary, FieldTree}
-use Rattle.columns_core.specs.declared.types.TimeUnit.TheVariants.{Second, Millisecond, Microsecond, Nanosecond}
+use Rattle.columns_core.specs.Tree.{TypeTree, FieldTree}
 use Rattle.pq_tree.specs.Physical.{Physical}
 use Rattle.pq_tree.specs.Tree.{Leaf}
 use Rattle.schema_fit.specs.declared.page_table.Asked.{Asked}
-use Rattle.schema_fit.specs.declared.page_table.Row.{Row}
-use Rattle.schema_fit.specs.PageTable.{row_of, allows}
 use Rattle.schema_map.specs.Rows.{asked_by}
-use Rattle.write_pages.specs.Fits.{is_written, row_at}
-use Rattle.write_pages.proofs.PageTable.{fits_served}
-use Rattle.write_values.specs.Served.{is_served}
 use Rattle.pq_pages.specs.Outcomes.{IsOfLevels}
-use Rattle.pq_headline.specs.Columns.{ArrowColumn, field_columns, ends_nullable, large_limit}
+use Rattle.pq_headline.specs.Columns.{ArrowColumn, field_columns, large_limit}
 use Rattle.pq_headline.specs.Openings.{Opening, IsAlike, AreAlike, HaveLevels, leaf_levels}
-use Rattle.pq_headline.specs.Served.{is_served_field}
+use Rattle.assembly.specs.Read.{IsRead, IsLeafRead}
 use Rattle.read_pieces.specs.Columns.{FailsAs}
 use Rattle.read_pieces.specs.Pieces.{leaf_types}
 use Rattle.assembly.specs.Giving.{IsOpened, Opens, RefusesOpening}
 use Rattle.assembly.specs.Lanes.{lane, lanes, lanes_of}
 use Rattle.assembly.specs.Paths.{Path, field_paths, field_fault}
 use Rattle.assembly.proofs.Openings.{IsPath, ArePaths, all_paths, sound, some-none, fault_is}
-use Rattle.assembly.proofs.Trees.{IsLimited, limited_columns, IsWrittenType, written_columns}
+use Rattle.assembly.proofs.Readers.{IsNestedSo, leaf_read, nested_columns}
+use Rattle.assembly.proofs.Trees.{IsLimited, limited_columns}
 use Rattle.std.proofs.Math.Seq.{get_or-append_seam, take-append_seam}
 use Rattle.columns_base.specs.declared.error.Error.{Error}
 use Rattle.pq_pages.specs.Outcomes.{Outcome}
 use Rattle.pq_tree.specs.declared.types.PrimitiveType.{PrimitiveType}
-use Rattle.read_leaves.specs.Leaf.{IsReadingLeaf, LeafReading}
+use Rattle.read_leaves.specs.Leaf.{IsReadingLeaf, LeafReading, is_read_along}
 use Rattle.assembly.specs.declared.paths.LeafPath.{LeafPath}
 use Rattle.assembly.specs.Lanes.{Lane, AreReading}
-use Rattle.assembly.specs.Opened.{IsOpen, AreOpen, IsNotServed, SomeIsNotServed, physical_in}
+use Rattle.assembly.specs.Opened.{IsOpen, AreOpen, IsNotRead, SomeIsNotRead, physical_in}
 use Rattle.assembly.specs.Paths.{path_view}
 
 -- the lane at a place
@@ -69,10 +64,10 @@ picked outcomes n rows (x ∷ xs) (a ∷ paths) (c ∷ cols) (u ∷ types) (suc 
 
 pub fault_at :
     (paths : List LeafPath) (types : List PrimitiveType) (k : ℕ) (path : LeafPath) (type : PrimitiveType) (e : Error)
-    → length paths ≡ length types → k < length types → path ≡ get_or paths k path → type ≡ get_or types k type → IsNotServed (path_view path) (physical_in type) e → SomeIsNotServed (map path_view paths) (map physical_in types) e
+    → length paths ≡ length types → k < length types → path ≡ get_or paths k path → type ≡ get_or types k type → IsNotRead (path_view path) (physical_in type) e → SomeIsNotRead (map path_view paths) (map physical_in types) e
 fault_at [] types k path type e l lt p t h = absurd (omega arith)
 fault_at (a ∷ paths) [] k path type e l lt p t h = absurd (omega arith)
-fault_at (a ∷ paths) (u ∷ types) zero path type e l lt p t h = inl (subst (λ y. IsNotServed (path_view y) (physical_in u) e) p (subst (λ y. IsNotServed (path_view path) (physical_in y) e) t h))
+fault_at (a ∷ paths) (u ∷ types) zero path type e l lt p t h = inl (subst (λ y. IsNotRead (path_view y) (physical_in u) e) p (subst (λ y. IsNotRead (path_view path) (physical_in y) e) t h))
 fault_at (a ∷ paths) (u ∷ types) (suc k) path type e l lt p t h = inr (fault_at paths types k path type e (omega arith) (omega arith) p t h)
 
 -- ---- the last of those that are left
@@ -197,71 +192,39 @@ opens_counts o f outcomes physicals k rows h =
     let c = counts (asked_by o.field) (field_columns o.field) (leaf_types o.field) o.leaves o.outcomes (field_paths [] o.field) (all_paths o.field) (subst (λ g. AreAlike g o.leaves) (sym h.field) h.alike).are h.levels in
     (ap (λ g. length (field_paths [] g)) (sym h.field) ∙ c.0 ∙ ap length h.outcomes_are, ap length (sym h.physicals_are) ∙ length-map o.leaves (λ l. l.physical) ∙ c.1 ∙ ap length h.outcomes_are)
 
-rows_same : (b : Bool) (t : TypeTree) → is_written t ≡ true → row_at t ≡ row_of (record { data_type = t; is_nullable = b })
-rows_same true (t_dictionary k t s) h = absurd (true≢false (sym h))
-rows_same true t h = refl
-rows_same false t_boolean h = refl
-rows_same false t_int8 h = refl
-rows_same false t_int16 h = refl
-rows_same false t_int32 h = refl
-rows_same false t_int64 h = refl
-rows_same false t_uint8 h = refl
-rows_same false t_uint16 h = refl
-rows_same false t_uint32 h = refl
-rows_same false t_uint64 h = refl
-rows_same false t_date32 h = refl
-rows_same false t_date64 h = refl
-rows_same false (t_time32 Second) h = refl
-rows_same false (t_time32 Millisecond) h = refl
-rows_same false (t_time64 Microsecond) h = refl
-rows_same false (t_time64 Nanosecond) h = refl
-rows_same false (t_timestamp u z) h = refl
-rows_same false (t_duration u) h = refl
-rows_same false t_utf8 h = refl
-rows_same false t_large_utf8 h = refl
-rows_same false t_binary h = refl
-rows_same false t_large_binary h = refl
-rows_same false t h = absurd (true≢false (sym h))
-
-row_is : (r q : Row) → Some r ≡ Some q → r ≡ q
-row_is r q e = cc
-
-leaf_served : (asked : Asked) (c : ArrowColumn) (l : Leaf) → IsAlike asked c l → is_written c.data_type ≡ true → is_served c.data_type l.physical ≡ true
-leaf_served asked c l a w =
-    fits_served c.data_type l.physical w (λ r e. subst (λ q. allows q.stored l.physical ≡ true) (sym (row_is r a.row (sym e ∙ rows_same (ends_nullable c.way) c.data_type w ∙ a.has_row))) a.stored)
-
-none_unserved :
+none_unread :
     (asked : Asked) (cs : List ArrowColumn) (types : List TypeTree) (ls : List Leaf) (ps : List Path) (e : Error)
-    → ArePaths [] cs types ps → AllZip (IsAlike asked) cs ls → Each IsWrittenType cs → SomeIsNotServed ps (map (λ l. l.physical) ls) e → ⊥
-none_unserved asked [] [] [] [] e h a w s = s
-none_unserved asked [] [] [] (p ∷ ps) e h a w s = h
-none_unserved asked [] [] (l ∷ ls) ps e h a w s = a
-none_unserved asked [] (t ∷ types) ls ps e h a w s = h
-none_unserved asked (c ∷ cs) [] ls ps e h a w s = h
-none_unserved asked (c ∷ cs) (t ∷ types) [] ps e h a w s = a
-none_unserved asked (c ∷ cs) (t ∷ types) (l ∷ ls) [] e h a w s = h
-none_unserved asked (c ∷ cs) (t ∷ types) (l ∷ ls) (p ∷ ps) e h a w (inl s) =
-    true≢false (sym (leaf_served asked c l a.0 w.0) ∙ ap (λ q. is_served q l.physical) (h.0.based ∙ ap base (sym h.0.type)) ∙ s.1)
-none_unserved asked (c ∷ cs) (t ∷ types) (l ∷ ls) (p ∷ ps) e h a w (inr s) = none_unserved asked cs types ls ps e h.1 a.1 w.1 s
+    → ArePaths [] cs types ps → AllZip (IsAlike asked) cs ls → AllZip IsLeafRead cs ls → Each (IsNestedSo asked) cs → SomeIsNotRead ps (map (λ l. l.physical) ls) e → ⊥
+none_unread asked [] [] [] [] e h a w n s = s
+none_unread asked [] [] [] (p ∷ ps) e h a w n s = h
+none_unread asked [] [] (l ∷ ls) ps e h a w n s = a
+none_unread asked [] (t ∷ types) ls ps e h a w n s = h
+none_unread asked (c ∷ cs) [] ls ps e h a w n s = h
+none_unread asked (c ∷ cs) (t ∷ types) [] ps e h a w n s = a
+none_unread asked (c ∷ cs) (t ∷ types) (l ∷ ls) [] e h a w n s = h
+none_unread asked (c ∷ cs) (t ∷ types) (l ∷ ls) (p ∷ ps) e h a w n (inl s) =
+    true≢false (sym (leaf_read asked c l t p a.0 w.0 n.0 h.0) ∙ ap (λ q. is_read_along p.0 q l.physical) (h.0.based ∙ ap base (sym h.0.type)) ∙ s.1)
+none_unread asked (c ∷ cs) (t ∷ types) (l ∷ ls) (p ∷ ps) e h a w n (inr s) = none_unread asked cs types ls ps e h.1 a.1 w.1 n.1 s
 
-pub all_served :
+pub all_read :
     (o : Opening) (f : FieldTree) (outcomes : List (List Outcome)) (physicals : List Physical) (k : Option ℕ) (rows : ℕ) (e : Error) → Opens o f outcomes physicals k rows
-    → SomeIsNotServed (field_paths [] f) physicals e → ⊥
-all_served o f outcomes physicals k rows e h s =
-    none_unserved (asked_by o.field) (field_columns o.field) (leaf_types o.field) o.leaves (field_paths [] o.field) e (all_paths o.field) (subst (λ g. AreAlike g o.leaves) (sym h.field) h.alike).are
-    (written_columns o.field (subst (λ g. is_served_field g ≡ true) (sym h.field) h.served))
-    (subst (λ g. SomeIsNotServed (field_paths [] g) (map (λ l. l.physical) o.leaves) e) (sym h.field) (subst (λ q. SomeIsNotServed (field_paths [] f) q e) (sym h.physicals_are) s))
+    → SomeIsNotRead (field_paths [] f) physicals e → ⊥
+all_read o f outcomes physicals k rows e h s =
+    let r = subst (λ g. IsRead g o.leaves) (sym h.field) h.read in
+    none_unread (asked_by o.field) (field_columns o.field) (leaf_types o.field) o.leaves (field_paths [] o.field) e (all_paths o.field) (subst (λ g. AreAlike g o.leaves) (sym h.field) h.alike).are
+    r.leaves (nested_columns o.field r.nodes)
+    (subst (λ g. SomeIsNotRead (field_paths [] g) (map (λ l. l.physical) o.leaves) e) (sym h.field) (subst (λ q. SomeIsNotRead (field_paths [] f) q e) (sym h.physicals_are) s))
 
-unserved_is : (ps : List Path) (qs : List Physical) (e : Error) → SomeIsNotServed ps qs e → e ≡ NotYetImplemented N5
-unserved_is [] qs e h = absurd h
-unserved_is (p ∷ ps) [] e h = absurd h
-unserved_is (p ∷ ps) (q ∷ qs) e (inl h) = h.0
-unserved_is (p ∷ ps) (q ∷ qs) e (inr h) = unserved_is ps qs e h
+unread_is : (ps : List Path) (qs : List Physical) (e : Error) → SomeIsNotRead ps qs e → e ≡ NotYetImplemented N5
+unread_is [] qs e h = absurd h
+unread_is (p ∷ ps) [] e h = absurd h
+unread_is (p ∷ ps) (q ∷ qs) e (inl h) = h.0
+unread_is (p ∷ ps) (q ∷ qs) e (inr h) = unread_is ps qs e h
 
-pub not_served :
-    (f : FieldTree) (outcomes : List (List Outcome)) (physicals : List Physical) (k : Option ℕ) (rows : ℕ) (e : Error) → (e ≡ Memory) ⊎ SomeIsNotServed (field_paths [] f) physicals e → RefusesOpening f outcomes physicals k rows e
-not_served f outcomes physicals k rows e (inl m) = inl m
-not_served f outcomes physicals k rows e (inr s) = inr (inr (inr (unserved_is (field_paths [] f) physicals e s), (λ o h. all_served o f outcomes physicals k rows e h s)))
+pub not_read :
+    (f : FieldTree) (outcomes : List (List Outcome)) (physicals : List Physical) (k : Option ℕ) (rows : ℕ) (e : Error) → (e ≡ Memory) ⊎ SomeIsNotRead (field_paths [] f) physicals e → RefusesOpening f outcomes physicals k rows e
+not_read f outcomes physicals k rows e (inl m) = inl m
+not_read f outcomes physicals k rows e (inr s) = inr (inr (inr (unread_is (field_paths [] f) physicals e s), (λ o h. all_read o f outcomes physicals k rows e h s)))
 
 pub not_as_many :
     (f : FieldTree) (outcomes : List (List Outcome)) (physicals : List Physical) (k : Option ℕ) (rows : ℕ)
@@ -272,7 +235,7 @@ pub not_sound :
     (f : FieldTree) (outcomes : List (List Outcome)) (physicals : List Physical) (k : Option ℕ) (rows : ℕ) (e : Error) → (e ≡ Memory) ⊎ (field_fault f ≡ Some e) → RefusesOpening f outcomes physicals k rows e
 not_sound f outcomes physicals k rows e (inl m) = inl m
 not_sound f outcomes physicals k rows e (inr s) =
-    inr (inr (fault_is f e s, (λ o h. some-none e (sym s ∙ sound f h.served h.alike.structs))))
+    inr (inr (fault_is f e s, (λ o h. some-none e (sym s ∙ sound f h.read.nodes h.alike.structs))))
 
 pub opened_giving :
     (o : Opening) (f : FieldTree) (outcomes : List (List Outcome)) (physicals : List Physical) (k : Option ℕ) (rows : ℕ) → Opens o f outcomes physicals k rows → k ≢ Some 0 → field_nesting f ≤ 128 → IsOpened o
@@ -281,7 +244,7 @@ opened_giving o f outcomes physicals k rows h some n =
       alike = subst (λ g. AreAlike g o.leaves) (sym h.field) h.alike;
       levels = h.levels;
       failing = h.failing;
-      served = subst (λ g. is_served_field g ≡ true) (sym h.field) h.served;
+      read = subst (λ g. IsRead g o.leaves) (sym h.field) h.read;
       shallow = subst (λ g. field_nesting g ≤ 128) (sym h.field) n;
       some = λ e. some (sym h.chunk_size_is ∙ e);
     }

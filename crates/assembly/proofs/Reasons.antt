@@ -17,7 +17,7 @@ use Rattle.columns_core.specs.Tree.{TypeTree}
 use Rattle.pq_files.specs.Chunk.{Chunk}
 use Rattle.pq_files.specs.Reasons.{AnyOf}
 use Rattle.pq_headline.specs.Columns.{ArrowColumn, field_columns}
-use Rattle.pq_headline.specs.FieldReasons.{IsOfRows, SomeFails, HasMisplaced, SomeN4, IsUnserved, SomeN8, SomeV1, Refuses, PassesLists, items_in}
+use Rattle.pq_headline.specs.FieldReasons.{IsOfRows, SomeFails, HasMisplaced, SomeN4, SomeN8, SomeV1, Refuses, PassesLists, items_in}
 use Rattle.pq_headline.specs.Openings.{Opening, HoldColumns, HasRows, piece_size}
 use Rattle.pq_pages.specs.Outcomes.{Outcome}
 use Rattle.pq_tree.specs.Tree.{Leaf}
@@ -35,7 +35,8 @@ use Rattle.shredding.specs.Slot.{Slot}
 use Rattle.assembly.specs.Giving.{IsOpened}
 use Rattle.assembly.specs.Lanes.{lanes, lanes_of, AnyRefused, AreNext}
 use Rattle.assembly.proofs.Items.{AreComplete, opened_complete}
-use Rattle.assembly.proofs.Trees.{ways_in, ways_are, no_fixed_list}
+use Rattle.assembly.proofs.Trees.{direct_field, no_fixed_list}
+use Rattle.pq_headline.proofs.Ways.{ways_in, ways_are}
 
 -- ---- the rows along each way
 
@@ -46,7 +47,7 @@ of_map P (c ∷ cs) h = (h.0, of_map P cs h.1)
 -- what holds of each way of the field holds of each column
 at_columns : (o : Opening) → IsOpened o → (P : Way → Type 0) → ((w : Way) → IsWayOf (shape_of o.field) w → P w) → Each (λ c. P c.way) (field_columns o.field)
 at_columns o h P g =
-    of_map P (field_columns o.field) (subst (Each P) (sym (ways_are o.field h.served)) (recursion_from_All P (ways (shape_of o.field)) ((ways_listed (shape_of o.field) P).1 g)))
+    of_map P (field_columns o.field) (subst (Each P) (sym (ways_are o.field (direct_field o.field h.read.nodes))) (recursion_from_All P (ways (shape_of o.field)) ((ways_listed (shape_of o.field) P).1 g)))
 
 abbrev AreAlong : List Slot → Way → Type 0
 AreAlong rows w = All (IsAlong w) rows
@@ -73,7 +74,7 @@ Found k n e cs ls others =
     (e ≡ Memory)
     ⊎ (((e ≡ OutOfSpec S3) ⊎ (e ≡ NotYetImplemented N4)) × SomeFails e others)
     ⊎ ((e ≡ OutOfSpec S3) × AnyOf HasMisplaced others)
-    ⊎ ((e ≡ NotYetImplemented N4) × (SomeN4 cs ls others ⊎ AnyOf (AnyOf IsUnserved) others))
+    ⊎ ((e ≡ NotYetImplemented N4) × SomeN4 cs ls others)
     ⊎ ((e ≡ NotYetImplemented N8) × SomeN8 ls others)
     ⊎ ((e ≡ Overflow V1) × SomeV1 k cs ls others)
     ⊎ (IsOfRows e × NoneHold n cs ls others)
@@ -84,7 +85,7 @@ here :
 here k n e c l os cs ls others (inl m) = inl m
 here k n e c l os cs ls others (inr (inl h)) = inr (inl (h.0, inl h.1))
 here k n e c l os cs ls others (inr (inr (inl h))) = inr (inr (inl (h.0, inl h.1)))
-here k n e c l os cs ls others (inr (inr (inr (inl h)))) = inr (inr (inr (inl (h.0, elim h.1 [ inl q ↦ inl (inl q) | inr q ↦ inr (inl q) ]))))
+here k n e c l os cs ls others (inr (inr (inr (inl h)))) = inr (inr (inr (inl (h.0, inl h.1))))
 here k n e c l os cs ls others (inr (inr (inr (inr (inl h))))) = inr (inr (inr (inr (inl (h.0, inl h.1)))))
 here k n e c l os cs ls others (inr (inr (inr (inr (inr (inl h)))))) = inr (inr (inr (inr (inr (inl (h.0, inl h.1))))))
 here k n e c l os cs ls others (inr (inr (inr (inr (inr (inr h)))))) = inr (inr (inr (inr (inr (inr (h.0, none))))))
@@ -99,7 +100,7 @@ there :
 there k n e c l os cs ls others (inl m) = inl m
 there k n e c l os cs ls others (inr (inl h)) = inr (inl (h.0, inr h.1))
 there k n e c l os cs ls others (inr (inr (inl h))) = inr (inr (inl (h.0, inr h.1)))
-there k n e c l os cs ls others (inr (inr (inr (inl h)))) = inr (inr (inr (inl (h.0, elim h.1 [ inl q ↦ inl (inr q) | inr q ↦ inr (inr q) ]))))
+there k n e c l os cs ls others (inr (inr (inr (inl h)))) = inr (inr (inr (inl (h.0, inr h.1))))
 there k n e c l os cs ls others (inr (inr (inr (inr (inl h))))) = inr (inr (inr (inr (inl (h.0, inr h.1)))))
 there k n e c l os cs ls others (inr (inr (inr (inr (inr (inl h)))))) = inr (inr (inr (inr (inr (inl (h.0, inr h.1))))))
 there k n e c l os cs ls others (inr (inr (inr (inr (inr (inr h)))))) = inr (inr (inr (inr (inr (inr (h.0, none))))))
@@ -237,4 +238,4 @@ not_joined o before table h next e (inr (inl d)) = inr (inr (inr (inr (inr (inr 
     of_s10 e q = inr (inr (inr (inr (inr q))))
 not_joined o before table h next e (inr (inr (inl p))) =
     inr (inr (inr (inr (inr (inl (inl (p.0, passes before o.rows o.chunk_size (field_columns o.field) (leaf_types o.field) o.leaves o.outcomes table (opened_complete o h) next p.1)))))))
-not_joined o before table h next e (inr (inr (inr n))) = absurd (no_fixed_list o.field h.served n.1)
+not_joined o before table h next e (inr (inr (inr n))) = absurd (no_fixed_list o.field h.read.nodes n.1)

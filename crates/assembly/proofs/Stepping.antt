@@ -2,9 +2,9 @@
 use Rattle.std.proofs.Common.{◌≡◌, inl, inr, ◌+◌, ◌-◌, ◌<◌, ℕ, zero, suc, List, [], ◌∷◌, ◌++◌, length, take, drop, get_or, slice_set, slice_index_or, Option, Some, None, Result, Ok, Err, sym, ap, subst, ◌∙◌, arith}
 use Rattle.std.proofs.lemmas.List.{map-append, append-nil, take_all}
 use Rattle.std.proofs.Math.ListN.{drop_of_length-le}
-use Rattle.std.specs.Prelude.{MatchResult}
+use Rattle.std.specs.Prelude.{MatchResult, IfErr}
 use Rattle.columns_base.specs.declared.error.Error.{Error}
-use Rattle.columns_base.specs.declared.error.Error.TheVariants.{OutOfSpec}
+use Rattle.columns_base.specs.declared.error.Error.TheVariants.{Memory, OutOfSpec}
 use Rattle.columns_base.specs.declared.error.S.TheVariants.{S9}
 use Rattle.columns_core.specs.Tree.{TypeTree}
 use Rattle.pq_files.specs.Reasons.{AnyOf}
@@ -195,3 +195,8 @@ late k rows xs rs tables old now (Ok p) e h lt is b g m =
     absurd (none-of xs (end_at 0 k rows rows xs rs tables old (λ x. ⊥) h lt is b (λ x pieces q u v. no_next x.opening (rows_of_all pieces) (g x.opening x.type pieces q).0 (omega (arith, u, v)) (g x.opening x.type pieces q).1)))
 late k rows xs rs tables old now (Err x) e h lt is b g m =
     inr (subst (λ q. AnyOf (λ y. RefusesPiece y.opening q) xs) (sym m) (end_at 0 k rows rows xs rs tables old (λ y. RefusesPiece y.opening x) h lt is b (λ y pieces q u v. g y.opening y.type pieces q)))
+
+-- for want of memory alone
+pub memory_refused : {A : Type 0} (r : Result A Error) (xs : List Lane) → IfErr r (λ e. e ≡ Memory) → IfErr r (AnyRefused xs)
+memory_refused (Ok a) xs h = tt
+memory_refused (Err e) xs h = inl h

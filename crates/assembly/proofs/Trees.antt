@@ -1,16 +1,16 @@
 -- Facts about the columns of a field, by its type.
-use Rattle.std.proofs.Common.{◌≡◌, inl, inr, ◌+◌, ◌<◌, ◌≤◌, ℕ, zero, suc, Bool, true, false, List, [], ◌∷◌, ◌++◌, length, map, refl, sym, ap, ◌∙◌, arith, true≢false}
-use Rattle.std.proofs.lemmas.Bool.{and_parts}
-use Rattle.std.proofs.lemmas.List.{length-append, length-map, map-append}
+use Rattle.std.proofs.Common.{◌≡◌, inl, inr, ◌+◌, ◌<◌, ◌≤◌, ℕ, zero, suc, Bool, true, false, List, [], ◌∷◌, length, map, refl, sym, ap, ◌∙◌, arith, true≢false}
+use Rattle.std.proofs.lemmas.Bool.{and_from, and_parts}
+use Rattle.std.proofs.lemmas.List.{length-append, length-map}
 use Rattle.std.specs.List.{AllByRecursion as Each}
 use Rattle.shredding.proofs.Levels.{Each-append}
-use Rattle.columns_core.specs.Shapes.{shape_of, shapes_of, type_shape}
-use Rattle.columns_core.specs.Tree.{TypeTree, t_list, t_fixed_size_list, t_large_list, t_struct, t_union, t_map, t_dictionary, t_extension, FieldTree, field, FieldTrees, no_fields, more_fields}
-use Rattle.shredding.specs.Shape.{HasNoEmptyStruct, Way, in_list, in_struct, one_on, ways, ways_of}
+use Rattle.columns_core.specs.Shapes.{shape_of, type_shape}
+use Rattle.columns_core.specs.Tree.{TypeTree, t_list, t_fixed_size_list, t_large_list, t_struct, t_map, t_dictionary, t_extension, FieldTree, field, FieldTrees, no_fields, more_fields}
+use Rattle.shredding.specs.Shape.{HasNoEmptyStruct}
 use Rattle.shredding.specs.Shred.{max_repetition}
 use Rattle.pq_headline.specs.Columns.{ArrowColumn, type_columns, field_columns, columns_from, beneath_list, beneath_struct, is_dictionary, small_limit, large_limit}
-use Rattle.pq_headline.specs.Served.{is_served_type, is_served_field, are_served_fields}
-use Rattle.write_pages.specs.Fits.{is_written}
+use Rattle.pq_headline.proofs.Ways.{is_direct, is_direct_field, are_direct_fields}
+use Rattle.assembly.specs.Read.{reads_nodes, reads_nodes_of, reads_nodes_of_all}
 use Rattle.read_nested.specs.Joined.{HasFixedList, HasFixedListIn, HaveFixedList}
 use Rattle.read_pieces.specs.Pieces.{type_leaves, leaf_types, all_leaf_types}
 
@@ -53,7 +53,7 @@ mutual
   pub some_column : (f : FieldTree) → HasNoEmptyStruct (shape_of f) → 0 < length (field_columns f)
   some_column (field name t n m) h = some_of n t h
 
--- ---- the columns of a served field have no dictionary
+-- ---- the columns of a field that is read have no dictionary
 
 abbrev pub IsPlainType : ArrowColumn → Type 0
 IsPlainType c = is_dictionary c.data_type ≡ false
@@ -67,7 +67,7 @@ beneath_structs n place [] h = tt
 beneath_structs n place (c ∷ cs) h = (h.0, beneath_structs n place cs h.1)
 
 mutual
-  plain_of : (n : Bool) (t : TypeTree) → is_served_type t ≡ true → Each IsPlainType (type_columns n t)
+  plain_of : (n : Bool) (t : TypeTree) → reads_nodes t ≡ true → Each IsPlainType (type_columns n t)
   plain_of n (t_list item) h = beneath_lists n small_limit (field_columns item) (plain_columns item h)
   plain_of n (t_large_list item) h = beneath_lists n large_limit (field_columns item) (plain_columns item h)
   plain_of n (t_fixed_size_list item w) h = absurd (true≢false (sym h))
@@ -77,72 +77,36 @@ mutual
   plain_of n (t_extension name inner m) h = plain_of n inner h
   plain_of n t h = (refl, tt)
 
-  pub plain_columns : (f : FieldTree) → is_served_field f ≡ true → Each IsPlainType (field_columns f)
+  pub plain_columns : (f : FieldTree) → reads_nodes_of f ≡ true → Each IsPlainType (field_columns f)
   plain_columns (field name t n m) h = plain_of n t h
 
-  plain_from : (n : Bool) (place : ℕ) (fs : FieldTrees) → are_served_fields fs ≡ true → Each IsPlainType (columns_from n place fs)
+  plain_from : (n : Bool) (place : ℕ) (fs : FieldTrees) → reads_nodes_of_all fs ≡ true → Each IsPlainType (columns_from n place fs)
   plain_from n place no_fields h = tt
   plain_from n place (more_fields f fs) h =
       let a = and_parts _ _ h in
       Each-append IsPlainType (map (beneath_struct n place) (field_columns f)) (columns_from n (suc place) fs) (beneath_structs n place (field_columns f) (plain_columns f a.0)) (plain_from n (suc place) fs a.1)
 
--- ---- the ways of the columns are those of the shape
-
-abbrev pub ways_in : List ArrowColumn → List Way
-ways_in cs = map (λ c. c.way) cs
-
-lists_ways : (n : Bool) (limit : ℕ) (cs : List ArrowColumn) → ways_in (map (beneath_list n limit) cs) ≡ map (in_list n) (ways_in cs)
-lists_ways n limit [] = refl
-lists_ways n limit (c ∷ cs) = ap (λ ws. in_list n c.way ∷ ws) (lists_ways n limit cs)
-
-abbrev placed : ℕ → ℕ × Way → ℕ × Way
-placed place p = (place + p.0, p.1)
-
-abbrev way_at : Bool → ℕ × Way → Way
-way_at n p = in_struct n p.0 p.1
-
-structs_ways : (n : Bool) (place : ℕ) (cs : List ArrowColumn) → ways_in (map (beneath_struct n place) cs) ≡ map (λ w. in_struct n place w) (ways_in cs)
-structs_ways n place [] = refl
-structs_ways n place (c ∷ cs) = ap (λ ws. in_struct n place c.way ∷ ws) (structs_ways n place cs)
-
-first_ways : (n : Bool) (place : ℕ) (ws : List Way) → map (λ w. in_struct n place w) ws ≡ map (λ p. way_at n (placed place p)) (map (λ w. (zero, w)) ws)
-first_ways n place [] = refl
-first_ways n place (w ∷ ws) =
-    let e : place ≡ place + zero = omega arith in ap (λ q. in_struct n q w ∷ map (λ v. in_struct n place v) ws) e ∙ ap (λ vs. in_struct n (place + zero) w ∷ vs) (first_ways n place ws)
-
-next_ways : (n : Bool) (place : ℕ) (ps : List (ℕ × Way)) → map (λ p. way_at n (placed (suc place) p)) ps ≡ map (λ p. way_at n (placed place p)) (map one_on ps)
-next_ways n place [] = refl
-next_ways n place (p ∷ ps) =
-    let e : suc place + p.0 ≡ place + suc p.0 = omega arith in
-    ap (λ q. in_struct n q p.1 ∷ map (λ r. way_at n (placed (suc place) r)) ps) e ∙ ap (λ vs. in_struct n (place + suc p.0) p.1 ∷ vs) (next_ways n place ps)
-
-from_zero : (n : Bool) (ps : List (ℕ × Way)) → map (λ p. way_at n (placed zero p)) ps ≡ map (λ p. in_struct n p.0 p.1) ps
-from_zero n [] = refl
-from_zero n (p ∷ ps) =
-    let e : zero + p.0 ≡ p.0 = omega arith in ap (λ q. in_struct n q p.1 ∷ map (λ r. way_at n (placed zero r)) ps) e ∙ ap (λ vs. in_struct n p.0 p.1 ∷ vs) (from_zero n ps)
+-- ---- no dictionary is in a field that is read
 
 mutual
-  ways_by : (n : Bool) (t : TypeTree) → is_served_type t ≡ true → ways_in (type_columns n t) ≡ ways (type_shape n t)
-  ways_by n (t_list item) h = lists_ways n small_limit (field_columns item) ∙ ap (map (in_list n)) (ways_are item h)
-  ways_by n (t_large_list item) h = lists_ways n large_limit (field_columns item) ∙ ap (map (in_list n)) (ways_are item h)
-  ways_by n (t_fixed_size_list item w) h = absurd (true≢false (sym h))
-  ways_by n (t_map entry s) h = lists_ways n small_limit (field_columns entry) ∙ ap (map (in_list n)) (ways_are entry h)
-  ways_by n (t_struct fs) h = ways_from n zero fs h ∙ from_zero n (ways_of (shapes_of fs))
-  ways_by n (t_dictionary k t s) h = absurd (true≢false (sym h))
-  ways_by n (t_extension name inner m) h = ways_by n inner h
-  ways_by n t h = refl
+  direct_type : (t : TypeTree) → reads_nodes t ≡ true → is_direct t ≡ true
+  direct_type (t_list item) h = direct_field item h
+  direct_type (t_large_list item) h = direct_field item h
+  direct_type (t_fixed_size_list item w) h = absurd (true≢false (sym h))
+  direct_type (t_map entry s) h = direct_field entry h
+  direct_type (t_struct fs) h = direct_fields fs h
+  direct_type (t_dictionary k t s) h = absurd (true≢false (sym h))
+  direct_type (t_extension name inner m) h = direct_type inner h
+  direct_type t h = refl
 
-  pub ways_are : (f : FieldTree) → is_served_field f ≡ true → ways_in (field_columns f) ≡ ways (shape_of f)
-  ways_are (field name t n m) h = ways_by n t h
+  pub direct_field : (f : FieldTree) → reads_nodes_of f ≡ true → is_direct_field f ≡ true
+  direct_field (field name t n m) h = direct_type t h
 
-  ways_from : (n : Bool) (place : ℕ) (fs : FieldTrees) → are_served_fields fs ≡ true → ways_in (columns_from n place fs) ≡ map (λ p. way_at n (placed place p)) (ways_of (shapes_of fs))
-  ways_from n place no_fields h = refl
-  ways_from n place (more_fields f fs) h =
+  direct_fields : (fs : FieldTrees) → reads_nodes_of_all fs ≡ true → are_direct_fields fs ≡ true
+  direct_fields no_fields h = refl
+  direct_fields (more_fields f fs) h =
       let a = and_parts _ _ h in
-      map-append (λ c. c.way) (map (beneath_struct n place) (field_columns f)) (columns_from n (suc place) fs)
-      ∙ ap (λ ws. ws ++ ways_in (columns_from n (suc place) fs)) (structs_ways n place (field_columns f) ∙ ap (map (λ w. in_struct n place w)) (ways_are f a.0) ∙ first_ways n place (ways (shape_of f)))
-      ∙ ap (λ ws. map (λ p. way_at n (placed place p)) (map (λ w. (zero, w)) (ways (shape_of f))) ++ ws) (ways_from n (suc place) fs a.1 ∙ next_ways n place (ways_of (shapes_of fs)))
-      ∙ sym (map-append (λ p. way_at n (placed place p)) (map (λ w. (zero, w)) (ways (shape_of f))) (map one_on (ways_of (shapes_of fs))))
+      and_from _ _ (direct_field f a.0) (direct_fields fs a.1)
 
 -- ---- each list of a column has its limit, of at most 64 bits
 
@@ -176,10 +140,10 @@ mutual
   limited_from n place (more_fields f fs) =
       Each-append IsLimited (map (beneath_struct n place) (field_columns f)) (columns_from n (suc place) fs) (limited_structs n place (field_columns f) (limited_columns f)) (limited_from n (suc place) fs)
 
--- ---- a served field has no list of fixed size
+-- ---- a field that is read has no list of fixed size
 
 mutual
-  no_fixed : (t : TypeTree) → is_served_type t ≡ true → HasFixedList t → ⊥
+  no_fixed : (t : TypeTree) → reads_nodes t ≡ true → HasFixedList t → ⊥
   no_fixed (t_list item) s h = no_fixed_list item s h
   no_fixed (t_large_list item) s h = no_fixed_list item s h
   no_fixed (t_fixed_size_list item w) s h = absurd (true≢false (sym s))
@@ -188,44 +152,10 @@ mutual
   no_fixed (t_extension name inner m) s h = no_fixed inner s h
   no_fixed t s h = h
 
-  pub no_fixed_list : (f : FieldTree) → is_served_field f ≡ true → HasFixedListIn f → ⊥
+  pub no_fixed_list : (f : FieldTree) → reads_nodes_of f ≡ true → HasFixedListIn f → ⊥
   no_fixed_list (field name t n m) s h = no_fixed t s h
 
-  no_fixed_lists : (fs : FieldTrees) → are_served_fields fs ≡ true → HaveFixedList fs → ⊥
+  no_fixed_lists : (fs : FieldTrees) → reads_nodes_of_all fs ≡ true → HaveFixedList fs → ⊥
   no_fixed_lists no_fields s h = h
   no_fixed_lists (more_fields f fs) s (inl h) = no_fixed_list f (and_parts _ _ s).0 h
   no_fixed_lists (more_fields f fs) s (inr h) = no_fixed_lists fs (and_parts _ _ s).1 h
-
--- ---- the columns of a served field are of types that pages have
-
-abbrev pub IsWrittenType : ArrowColumn → Type 0
-IsWrittenType c = is_written c.data_type ≡ true
-
-written_lists : (n : Bool) (limit : ℕ) (cs : List ArrowColumn) → Each IsWrittenType cs → Each IsWrittenType (map (beneath_list n limit) cs)
-written_lists n limit [] h = tt
-written_lists n limit (c ∷ cs) h = (h.0, written_lists n limit cs h.1)
-
-written_structs : (n : Bool) (place : ℕ) (cs : List ArrowColumn) → Each IsWrittenType cs → Each IsWrittenType (map (beneath_struct n place) cs)
-written_structs n place [] h = tt
-written_structs n place (c ∷ cs) h = (h.0, written_structs n place cs h.1)
-
-mutual
-  written_of : (n : Bool) (t : TypeTree) → is_served_type t ≡ true → Each IsWrittenType (type_columns n t)
-  written_of n (t_list item) h = written_lists n small_limit (field_columns item) (written_columns item h)
-  written_of n (t_large_list item) h = written_lists n large_limit (field_columns item) (written_columns item h)
-  written_of n (t_fixed_size_list item w) h = absurd (true≢false (sym h))
-  written_of n (t_map entry s) h = written_lists n small_limit (field_columns entry) (written_columns entry h)
-  written_of n (t_struct fs) h = written_from n zero fs h
-  written_of n (t_union fs ids sparse) h = absurd (true≢false (sym h))
-  written_of n (t_dictionary k t s) h = absurd (true≢false (sym h))
-  written_of n (t_extension name inner m) h = written_of n inner h
-  written_of n t h = (h, tt)
-
-  pub written_columns : (f : FieldTree) → is_served_field f ≡ true → Each IsWrittenType (field_columns f)
-  written_columns (field name t n m) h = written_of n t h
-
-  written_from : (n : Bool) (place : ℕ) (fs : FieldTrees) → are_served_fields fs ≡ true → Each IsWrittenType (columns_from n place fs)
-  written_from n place no_fields h = tt
-  written_from n place (more_fields f fs) h =
-      let a = and_parts _ _ h in
-      Each-append IsWrittenType (map (beneath_struct n place) (field_columns f)) (columns_from n (suc place) fs) (written_structs n place (field_columns f) (written_columns f a.0)) (written_from n (suc place) fs a.1)

@@ -125,5 +125,5 @@ assembled o tables arrays h made count whole =
       count = count;
       chunks = held.chunks;
       columns = held.hold;
-      entries = All-from_recursion (λ a. AreAllEntries (field_columns o.field) o.leaves (map column_in held.chunks) (entries_in a)) arrays (entries_all o.field o.leaves (map column_in held.chunks) tables arrays made (all_none (flat_map slots arrays) (field_columns o.field) o.leaves o.outcomes held.chunks held.hold (plain_columns o.field h.served)));
+      entries = All-from_recursion (λ a. AreAllEntries (field_columns o.field) o.leaves (map column_in held.chunks) (entries_in a)) arrays (entries_all o.field o.leaves (map column_in held.chunks) tables arrays made (all_none (flat_map slots arrays) (field_columns o.field) o.leaves o.outcomes held.chunks held.hold (plain_columns o.field h.read.nodes)));
     }

@@ -1,5 +1,5 @@
 -- The state of an iterator over the arrays of a field, and what a call of it says.
-use Rattle.std.specs.Prelude.{◌≡◌, ◌≢◌, ◌⊎◌, ◌+◌, ◌≤◌, ◌++◌, ◌∷◌, [], ℕ, List, length, map, flat_map, true, All, Option, Some, None, Result, Ok, Err}
+use Rattle.std.specs.Prelude.{◌≡◌, ◌≢◌, ◌⊎◌, ◌+◌, ◌≤◌, ◌++◌, ◌∷◌, [], ℕ, List, length, map, flat_map, All, Option, Some, None, Result, Ok, Err}
 use Rattle.std.specs.List.{AllZip}
 use Rattle.columns_array.specs.Boxed.{boxed}
 use Rattle.columns_array.specs.declared.arrays.ArrayBox.{ArrayBox}
@@ -15,18 +15,18 @@ use Rattle.pq_pages.specs.Outcomes.{Outcome}
 use Rattle.pq_tree.specs.Physical.{Physical}
 use Rattle.pq_headline.specs.FieldReasons.{Refuses}
 use Rattle.pq_headline.specs.Openings.{Opening, IsItem, Assembled, AreAlike, HaveLevels}
-use Rattle.pq_headline.specs.Served.{is_served_field}
+use Rattle.assembly.specs.Read.{IsRead}
 use Rattle.read_nested.specs.Joined.{IsArrayOf}
 use Rattle.read_leaves.specs.Leaf.{LeafReading}
 use Rattle.read_pieces.specs.Columns.{FailsAs}
 use Rattle.assembly.specs.Lanes.{Tables, AreReading, lanes_of}
 
--- The field as it was opened goes with its leaves and sources, and is served.
+-- The field as it was opened goes with its leaves and sources, and is read.
 pub record IsOpened (o : Opening) : Type 0 where
   pub alike : AreAlike o.field o.leaves
   pub levels : HaveLevels o.leaves o.outcomes
   pub failing : All (All FailsAs) o.outcomes
-  pub served : is_served_field o.field ≡ true
+  pub read : IsRead o.field o.leaves
   pub shallow : field_nesting o.field ≤ 128
   pub some : o.chunk_size ≢ Some 0
 
@@ -55,13 +55,13 @@ pub record Opens (o : Opening) (f : FieldTree) (outcomes : List (List Outcome)) 
   pub alike : AreAlike f o.leaves
   pub levels : HaveLevels o.leaves o.outcomes
   pub failing : All (All FailsAs) o.outcomes
-  pub served : is_served_field f ≡ true
+  pub read : IsRead f o.leaves
   pub physicals_are : map (λ l. l.physical) o.leaves ≡ physicals
   pub outcomes_are : o.outcomes ≡ outcomes
   pub chunk_size_is : o.chunk_size ≡ chunk_size
   pub rows_are : o.rows ≡ rows
 
--- Why a field is not opened: a chunk size of no rows, or it goes with no such columns or is not served.
+-- Why a field is not opened: a chunk size of no rows, or it goes with no such columns or is not read.
 abbrev pub RefusesOpening : FieldTree → List (List Outcome) → List Physical → Option ℕ → ℕ → Error → Type 0
 RefusesOpening f outcomes physicals chunk_size rows e =
     (e ≡ Memory)

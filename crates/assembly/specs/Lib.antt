@@ -3,3 +3,4 @@ pub mod Lanes
 pub mod FieldCode
 pub mod Giving
 pub mod Opened
+pub mod Read

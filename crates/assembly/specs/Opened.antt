@@ -8,10 +8,9 @@ use Rattle.pq_pages.specs.Outcomes.{Outcome}
 use Rattle.pq_tree.specs.Physical.{Physical}
 use Rattle.pq_tree.specs.Views.{physical_view}
 use Rattle.pq_tree.specs.declared.types.PrimitiveType.{PrimitiveType}
-use Rattle.read_leaves.specs.Leaf.{IsLeafOpening}
+use Rattle.read_leaves.specs.Leaf.{IsLeafOpening, is_read_along}
 use Rattle.read_state.specs.Initial.{IsWay}
 use Rattle.shredding.specs.Along.{thin}
-use Rattle.write_values.specs.Served.{is_served}
 use Rattle.assembly.specs.Lanes.{Lane}
 use Rattle.assembly.specs.Paths.{Path}
 
@@ -34,11 +33,11 @@ AreOpen n rows [] [] [] [] = Unit {0}
 AreOpen n rows (x ∷ xs) (path ∷ paths) (os ∷ others) (p ∷ ps) = IsOpen n rows x path os p × AreOpen n rows xs paths others ps
 AreOpen n rows _ _ _ _ = ⊥
 
--- the values of a leaf are not read under its physical type
-abbrev pub IsNotServed : Path → Physical → Error → Type 0
-IsNotServed path p e = (e ≡ NotYetImplemented N5) × (is_served (base path.1) p ≡ false)
+-- the values of a leaf are not read under its physical type, or not at the end of its way
+abbrev pub IsNotRead : Path → Physical → Error → Type 0
+IsNotRead path p e = (e ≡ NotYetImplemented N5) × (is_read_along path.0 (base path.1) p ≡ false)
 
 -- those of one of them are not
-abbrev pub SomeIsNotServed : List Path → List Physical → Error → Type 0
-SomeIsNotServed (path ∷ paths) (p ∷ ps) e = IsNotServed path p e ⊎ SomeIsNotServed paths ps e
-SomeIsNotServed _ _ e = ⊥
+abbrev pub SomeIsNotRead : List Path → List Physical → Error → Type 0
+SomeIsNotRead (path ∷ paths) (p ∷ ps) e = IsNotRead path p e ⊎ SomeIsNotRead paths ps e
+SomeIsNotRead _ _ e = ⊥

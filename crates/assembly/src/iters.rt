@@ -39,7 +39,8 @@ impl<I: Pages + Drop> ArrayIter<I> {
     ///
     /// - An error of a source of pages (S3, N4).
     /// - `OutOfSpec(S4)`, S5, S6, S7, S9, S10: the pages hold no rows of the field.
-    /// - `NotYetImplemented(N4)`: a page of another encoding than PLAIN and those of a dictionary. N8: a page that goes on with a row of the page before it.
+    /// - `NotYetImplemented(N4)`: a page in an encoding that its physical type has not, or of deltas in a field that nests. N8: a page that goes on with
+    ///   a row of the page before it.
     /// - `Overflow(V1)`: more items or bytes than offsets count.
     /// - `Memory`.
     ///

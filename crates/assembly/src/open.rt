@@ -7,7 +7,7 @@ ghost use Rattle.pq_tree.specs.Views.{physical_view};
 ghost use Rattle.pq_headline.specs.Openings.{Opening};
 ghost use Rattle.assembly.specs.Giving.{IsGiving, Opens, RefusesOpening};
 ghost use Rattle.assembly.specs.Lanes.{Lane, AreReading};
-ghost use Rattle.assembly.specs.Opened.{IsOpen, AreOpen, IsNotServed, SomeIsNotServed, physical_in};
+ghost use Rattle.assembly.specs.Opened.{IsOpen, AreOpen, IsNotRead, SomeIsNotRead, physical_in};
 ghost use Rattle.read_leaves.specs.Leaf.{IsReadingLeaf};
 ghost use Rattle.assembly.specs.Paths.{path_view};
 
@@ -30,7 +30,7 @@ fn open_column<I: Pages + Drop>(
     num_rows: usize,
 ) -> Result<LeafColumn<I>>
     ensures ok { (x : Lane) → IsOpen chunk_size num_rows x (path_view path.now) (I.outcomes pages) (physical_view physical_type) → IfOk result (IsReadingLeaf x.opening x.type []) }
-    ensures err { IfErr result (λ e. (e ≡ Error.Memory) ⊎ IsNotServed (path_view path.now) (physical_view physical_type) e) }
+    ensures err { IfErr result (λ e. (e ≡ Error.Memory) ⊎ IsNotRead (path_view path.now) (physical_view physical_type) e) }
 {
     let data_type = path.data_type.clone(alloc)?;
     let nested = Vec::from_slice(alloc, &path.nested)?;
@@ -60,7 +60,7 @@ fn open_columns<I: Pages + Drop>(
     requires columns { length paths.now ≡ length columns.items }
     requires types { length types.now ≡ length columns.items }
     ensures ok { (xs : List Lane) → AreOpen chunk_size num_rows xs (map path_view paths.now) (map I.outcomes columns.items) (map physical_in types.now) → IfOk result (λ readers. AreReading 0 xs readers.items []) }
-    ensures err { IfErr result (λ e. (e ≡ Error.Memory) ⊎ SomeIsNotServed (map path_view paths.now) (map physical_in types.now) e) }
+    ensures err { IfErr result (λ e. (e ≡ Error.Memory) ⊎ SomeIsNotRead (map path_view paths.now) (map physical_in types.now) e) }
 {
     let mut readers = Vec::with_capacity(alloc, columns.len())?;
     'columns: while let Some(pages) = columns.pop() {
@@ -81,7 +81,8 @@ fn open_columns<I: Pages + Drop>(
 ///
 /// - `InvalidArgumentError(A1)`: a chunk size of no rows.
 /// - `InvalidArgumentError(A8)`: columns, types and the field's leaves differ in number, or a struct has no field.
-/// - `NotYetImplemented(N5)`: a leaf's type is not read, or not under its physical type; a list of fixed size or a union.
+/// - `NotYetImplemented(N5)`: a leaf's type is not read, not under its physical type, not beneath lists and structs (decimals and intervals), or not
+///   where it may not be null (nulls alone); a list of fixed size or a union.
 /// - `Memory`.
 pub fn column_iter_to_arrays<I: Pages + Drop>(
     alloc: Global,

@@ -1,7 +1,12 @@
-//! Measures how fast the levels of a path are given and written, on two paths of so many level pairs: one whose levels repeat (lists of
-//! four present items) and one whose levels alternate (lists of two items, the second a null). The number of pairs is the first word,
-//! a thousand without one. Counts and sizes go to standard output, and times, which differ from run to run, to standard error.
+//! Measures how fast the levels of a path are given and written, on three paths of so many level pairs: one whose levels repeat (lists of
+//! four present items), one whose levels alternate (lists of two items, the second a null), and one without lists whose nulls come as by
+//! chance. The number of pairs is the first word, a thousand without one. A second word picks what is measured: `iterators` or `sections`,
+//! both without one. A third picks the path: `repeats`, `alternates` or `flat`, all three without one. A fourth is how often the sections are
+//! written, so that what one more time costs can be told from all the rest.
+//! Counts and sizes go to standard output, and times, which differ from run to run, to standard error.
 #![tactic(auto)]
+
+ghost use Rattle.std.specs.Prelude.{◌<◌};
 
 use anyhow::Result;
 use columns_core::{MutableBitmap, Offsets};
@@ -12,19 +17,31 @@ use std::alloc::Global;
 use std::env;
 use std::time::Instant;
 
-/// Whether each level differs from the one before it.
+/// What the levels of a path are like.
 #[derive(Clone, Copy, Drop)]
 enum Kind {
+    /// Lists of four present items.
     Repeats,
+    /// Lists of two items, the second a null.
     Alternates,
+    /// No lists, and a null at every other place as by chance.
+    Flat,
+}
+
+/// What is measured.
+#[derive(Clone, Copy, Drop)]
+struct Asked {
+    pairs: usize,
+    iterators: bool,
+    sections: bool,
+    kind: Option<Kind>,
+    times: usize,
 }
 
 // A path of a list over an optional leaf, with about so many level pairs.
-fn path_of(alloc: Global, kind: Kind, pairs: usize) -> Result<Vec<Nested>> {
-    let items = match kind {
-        Kind::Repeats => 4,
-        Kind::Alternates => 2,
-    };
+fn lists_of(alloc: Global, items: usize, pairs: usize) -> Result<Vec<Nested>>
+    requires { 0 < items }
+{
     let mut offsets = Offsets::<i32>::with_capacity(alloc, 0)?;
     let mut mask = MutableBitmap::with_capacity(alloc, 0)?;
     for _ in 0..pairs / items {
@@ -32,16 +49,36 @@ fn path_of(alloc: Global, kind: Kind, pairs: usize) -> Result<Vec<Nested>> {
     }
     let count = pairs / items * items;
     for i in 0..count {
-        let value = match kind {
-            Kind::Repeats => true,
-            Kind::Alternates => i % 2 == 0,
-        };
-        mask.push(value)?;
+        mask.push(items > 2 || i % 2 == 0)?;
     }
     let mut path = Vec::new(alloc);
     path.push(Nested::List(ListNested::new(offsets.into_buffer()?, None, true)))?;
     path.push(Nested::Primitive(Some(mask.into_bitmap()?), true, count))?;
     Ok(path)
+}
+
+// A path of an optional leaf alone.
+fn flat_of(alloc: Global, pairs: usize) -> Result<Vec<Nested>> {
+    let mut mask = MutableBitmap::with_capacity(alloc, 0)?;
+    let mut state: u64 = 1;
+    for _ in 0..pairs {
+        state = state
+            .wrapping_mul(6_364_136_223_846_793_005)
+            .wrapping_add(1_442_695_040_888_963_407);
+        mask.push(state >> 63 == 1)?;
+    }
+    let mut path = Vec::new(alloc);
+    path.push(Nested::Primitive(Some(mask.into_bitmap()?), true, pairs))?;
+    Ok(path)
+}
+
+// A path with about so many level pairs.
+fn path_of(alloc: Global, kind: Kind, pairs: usize) -> Result<Vec<Nested>> {
+    match kind {
+        Kind::Repeats => lists_of(alloc, 4, pairs),
+        Kind::Alternates => lists_of(alloc, 2, pairs),
+        Kind::Flat => flat_of(alloc, pairs),
+    }
 }
 
 // Both iterators over a path.
@@ -71,8 +108,8 @@ fn iterate(rt: &HostRuntime, path: &[Nested]) -> Result<()> {
     Ok(())
 }
 
-// Both sections of a path.
-fn write(rt: &HostRuntime, path: &[Nested]) -> Result<()> {
+// Both sections of a path, so many times.
+fn write(rt: &HostRuntime, path: &[Nested], times: usize) -> Result<()> {
     if !is_well_formed(path) {
         return Ok(());
     }
@@ -81,36 +118,85 @@ fn write(rt: &HostRuntime, path: &[Nested]) -> Result<()> {
     }
     let pairs = num_values(path);
     let mut out = Vec::new(rt.alloc());
+    let mut sizes = (0, 0);
     let start = Instant::now(rt)?;
-    let (repetition, definition) = write_rep_and_def(Version::V2, path, &mut out)?;
+    for _ in 0..times {
+        out.clear();
+        sizes = write_rep_and_def(Version::V2, path, &mut out)?;
+    }
     let time = start.elapsed(rt)?.as_micros();
+    let (repetition, definition) = sizes;
     println!(rt; "  sections: {pairs} pairs, {repetition} and {definition} bytes")?;
     eprintln!(rt; "  sections: {time} us")?;
     Ok(())
 }
 
-// The number of pairs: the first word, or a thousand.
-fn asked(rt: &HostRuntime) -> Result<usize> {
-    let mut args = env::args(rt)?;
-    args.next();
-    match args.next() {
-        Some(word) => Ok(word.as_str().parse::<usize>()?),
-        None => Ok(1000),
+// The path that a word names.
+fn kind_of(word: &str) -> Option<Kind> {
+    match word {
+        "repeats" => Some(Kind::Repeats),
+        "alternates" => Some(Kind::Alternates),
+        "flat" => Some(Kind::Flat),
+        _ => None,
     }
 }
 
-fn main(rt: HostRuntime) -> Result<()> {
-    let pairs = asked(&rt)?;
-    for kind in [Kind::Repeats, Kind::Alternates] {
-        let name = match kind {
-            Kind::Repeats => "levels that repeat",
-            Kind::Alternates => "levels that alternate",
-        };
-        println!(&rt; "{name}")?;
-        eprintln!(&rt; "{name}")?;
-        let path = path_of(rt.alloc(), kind, pairs)?;
-        iterate(&rt, &path)?;
-        write(&rt, &path)?;
+// The words: the number of pairs, a thousand without one, what is measured, of which path, and how often.
+fn read_words(rt: &HostRuntime) -> Result<Asked> {
+    let mut args = env::args(rt)?;
+    args.next();
+    let pairs = match args.next() {
+        Some(word) => word.as_str().parse::<usize>()?,
+        None => 1000,
+    };
+    let (iterators, sections) = match args.next() {
+        Some(word) => (word.as_str() == "iterators", word.as_str() == "sections"),
+        None => (true, true),
+    };
+    let kind = match args.next() {
+        Some(word) => kind_of(word.as_str()),
+        None => None,
+    };
+    let times = match args.next() {
+        Some(word) => word.as_str().parse::<usize>()?,
+        None => 1,
+    };
+    Ok(Asked {
+        pairs,
+        iterators,
+        sections,
+        kind,
+        times,
+    })
+}
+
+// What is asked for, of one kind of path.
+fn measure(rt: &HostRuntime, asked: Asked, kind: Kind) -> Result<()> {
+    let name = match kind {
+        Kind::Repeats => "levels that repeat",
+        Kind::Alternates => "levels that alternate",
+        Kind::Flat => "levels without lists",
+    };
+    println!(rt; "{name}")?;
+    eprintln!(rt; "{name}")?;
+    let path = path_of(rt.alloc(), kind, asked.pairs)?;
+    if asked.iterators {
+        iterate(rt, &path)?;
+    }
+    if asked.sections {
+        write(rt, &path, asked.times)?;
     }
     Ok(())
+}
+
+fn main(rt: HostRuntime) -> Result<()> {
+    let asked = read_words(&rt)?;
+    match asked.kind {
+        Some(kind) => measure(&rt, asked, kind),
+        None => {
+            measure(&rt, asked, Kind::Repeats)?;
+            measure(&rt, asked, Kind::Alternates)?;
+            measure(&rt, asked, Kind::Flat)
+        }
+    }
 }

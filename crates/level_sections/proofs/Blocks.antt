@@ -14,6 +14,7 @@ use Rattle.levels.specs.Stretch.{level_of, like_pairs}
 use Rattle.levels.specs.declared.walk.Level.{Level}
 use Rattle.levels.specs.declared.walk.Level.TheVariants.{Repetition, Definition}
 use Rattle.levels.proofs.Stretches.{first_and_others}
+use Rattle.pq_runs.specs.Words.{bit_numbers}
 use Rattle.level_sections.specs.declared.walk.Above.{Above}
 use Rattle.level_sections.specs.Walk.{walked}
 use Rattle.level_sections.specs.Blocks.{part_optional, part_present, flat_level, levels_from, Reaches}
@@ -131,6 +132,32 @@ from-split level place count to within =
     let a : to - place ≡ count + (to - (place + count)) = omega (arith, within) in
     rw a (from-add level place count (to - (place + count)))
 
+pub bits-from : (level : ℕ → ℕ) (low word p place count : ℕ) → ((i : ℕ) → i < count → level (place + i) ≡ low + bit_at word (p + i)) → bit_numbers low word p count ≡ levels_from level place count
+unfolding levels_from bit_numbers
+bits-from level low word p place zero each = refl
+bits-from level low word p place (suc count) each =
+    let here : place + 0 ≡ place = omega arith in
+    let bit : p + 0 ≡ p = omega arith in
+    let first : low + bit_at word p ≡ level place = ap (λ k. low + bit_at word k) (sym bit) ∙ (sym (each 0 (omega arith)) ∙ ap level here) in
+    ap (λ y. y ∷ bit_numbers low word (p + 1) count) first ∙ ap (λ ys. level place ∷ ys) (bits-from level low word (p + 1) (place + 1) count (λ i h. ap level (omega arith) ∙ (each (suc i) (omega (arith, h)) ∙ ap (λ k. low + bit_at word k) (omega arith))))
+
+one_more_or : (low x : ℕ) → x < 2 → cond (x == 1) (low + 1) low ≡ low + x
+one_more_or low zero h = omega arith
+one_more_or low (suc zero) h = refl
+one_more_or low (suc (suc x)) h = absurd (omega (arith, h))
+
+-- levels of which a word tells all, since the parts beneath add nothing
+pub bits-mixed : (parts rest : List Part) (def low word place count : ℕ) → ((i : ℕ) → i < count → flat_level parts def (place + i) ≡ cond (bit_at word i == 1) (flat_level rest (low + 1) (place + i)) low) → ((d i : ℕ) → flat_level rest d i ≡ d) → bit_numbers low word 0 count ≡ levels_from (flat_level parts def) place count
+bits-mixed parts rest def low word place count each none =
+    bits-from (flat_level parts def) low word 0 place count (λ i h. each i h ∙ (ap (λ n. cond (bit_at word i == 1) n low) (none (low + 1) (place + i)) ∙ (one_more_or low (bit_at word i) (bit_at-lt word i) ∙ ap (λ k. low + bit_at word k) (omega arith))))
+
+-- the first slots are alike
+pub from-run : (level : ℕ → ℕ) (value from end to : ℕ) → from ≤ end → end ≤ to → ((i : ℕ) → from ≤ i → i < end → level i ≡ value) → replicate (end - from) value ++ levels_from level end (to - end) ≡ levels_from level from (to - from)
+from-run level value from end to le within each =
+    let e : from + (end - from) ≡ end = omega (arith, le) in
+    let even = from-even level value from (end - from) (λ i h. each (from + i) (omega arith) (omega (arith, h))) in
+    ap (λ ys. ys ++ levels_from level end (to - end)) even ∙ (ap (λ p. levels_from level from (end - from) ++ levels_from level p (to - p)) (sym e) ∙ sym (from-split level from (end - from) to (omega (arith, le, within))))
+
 -- ---- blocks
 
 pub reaches-less : (to to' : ℕ) (parts : List Part) → to' ≤ to → Reaches to parts → Reaches to' parts
@@ -170,7 +197,7 @@ up-bit : (b : Bool) (d : ℕ) → up b d ≡ d + bit b
 up-bit true d = omega arith
 up-bit false d = omega arith
 
-flat-pairs : (parts : List Part) → FitTogether parts → max_repetition (path_way parts) ≡ 0 → (def depth rep i : ℕ) → slot_pairs parts def depth rep i ≡ one_pair rep (flat_level parts def i)
+pub flat-pairs : (parts : List Part) → FitTogether parts → max_repetition (path_way parts) ≡ 0 → (def depth rep i : ℕ) → slot_pairs parts def depth rep i ≡ one_pair rep (flat_level parts def i)
 unfolding slot_pairs flat_level
 flat-pairs [] h e def depth rep i = refl
 flat-pairs (leaf_part is_optional mask count ∷ []) h e def depth rep i = cond_pair (is_present is_optional mask i) rep (def + bit is_optional) def

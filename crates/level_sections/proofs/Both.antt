@@ -1,5 +1,5 @@
 -- Both sections of a column.
-use Rattle.std.proofs.Common.{◌≡◌, ℕ, Bool, Option, [], ◌∷◌, ◌+◌, ◌-◌, ◌*◌, ◌<◌, ◌≤◌, ◌^◌, List, ◌++◌, length, map, min, refl, sym, ap, subst, ◌∙◌, arith, append_assoc}
+use Rattle.std.proofs.Common.{◌≡◌, ℕ, Bool, Option, [], ◌∷◌, ◌+◌, ◌*◌, ◌<◌, ◌≤◌, ◌^◌, List, ◌++◌, length, map, refl, sym, ap, subst, ◌∙◌, arith, append_assoc}
 use Rattle.std.proofs.lemmas.List.{length-map}
 use Rattle.std.proofs.Math.Nat.{mul-le-mul_right}
 use Rattle.shredding.specs.Slot.{Value}
@@ -20,11 +20,11 @@ use Rattle.level_sections.proofs.Within.{width-most, width-repetition}
 times : (w m n : ℕ) → w ≤ m → w * n ≤ m * n
 times w m n h = grind (arith, mul-le-mul_right)
 
-in_room : (w v a b n : ℕ) → w ≤ 7 → v ≤ 8 → 504 * a ≤ (63 * w + 1) * n + 441 * w + 2520 → 504 * b ≤ (63 * v + 1) * n + 441 * v + 2520 → a + b ≤ level_room n
-in_room w v a b n hw hv ha hb =
+in_few : (w v a b n : ℕ) → w ≤ 7 → v ≤ 8 → 504 * a ≤ (63 * w + 1) * n + 441 * w + 2520 → 504 * b ≤ (63 * v + 1) * n + 441 * v + 2520 → a + b ≤ 2 * n + 24
+in_few w v a b n hw hv ha hb =
     let x : (63 * w + 1) * n ≤ 442 * n = times (63 * w + 1) 442 n (omega (arith, hw)) in
     let y : (63 * v + 1) * n ≤ 505 * n = times (63 * v + 1) 505 n (omega (arith, hv)) in
-    omega (arith, x, y, ha, hb)
+    omega (arith, x, y, ha, hb, hw, hv)
 
 pub sections_of : (values : ℕ → Value) (version : Version) (nested : List Nested) (before after : List ℕ) (r d : ℕ) → IsPath (parts_of nested) → length nested ≤ 128 → AppendsBoth version (parts_of nested) before after r d → AppendsSections version (path_way (parts_of nested)) (nested_column values nested) before after (r, d)
 sections_of values version nested before after r d well few both =
@@ -37,6 +37,7 @@ sections_of values version nested before after r d well few both =
     let nb : length (map (level_of Definition) (path_pairs parts)) ≡ length (nested_column values nested) = length-map (path_pairs parts) (level_of Definition) ∙ sym n in
     let la = ap (λ (k : ℕ). (63 * a.holds.are.width + 1) * k) na in
     let lb = ap (λ (k : ℕ). (63 * b.holds.are.width + 1) * k) nb in
+    let few_bytes : length a.text + length b.text ≤ 2 * length (nested_column values nested) + 24 = in_few a.holds.are.width b.holds.are.width (length a.text) (length b.text) (length (nested_column values nested)) (width-repetition parts a.holds.are.width well short a.holds.are.is_width) (width-most Definition parts b.holds.are.width well short b.holds.are.is_width) (omega (arith, a.tight, la)) (omega (arith, b.tight, lb)) in
     record {
       repetition = a.text;
       definition = b.text;
@@ -44,7 +45,8 @@ sections_of values version nested before after r d well few both =
       repetitions = subst (λ (levels : List ℕ). HoldsLevels version (greatest Repetition parts) a.text levels) (repetitions-column values nested (path_pairs parts) refl) a.holds;
       definitions = subst (λ (levels : List ℕ). HoldsLevels version (greatest Definition parts) b.text levels) (definitions-column values nested (path_pairs parts) refl) b.holds;
       sizes_are = ap (λ (k : ℕ). (k, d)) a.size_is ∙ ap (λ (k : ℕ). (length a.text, k)) b.size_is;
-      room = in_room a.holds.are.width b.holds.are.width (length a.text) (length b.text) (length (nested_column values nested)) (width-repetition parts a.holds.are.width well short a.holds.are.is_width) (width-most Definition parts b.holds.are.width well short b.holds.are.is_width) (omega (arith, a.tight, la)) (omega (arith, b.tight, lb));
+      tight = few_bytes;
+      room = omega (arith, few_bytes);
     }
 
 -- a definition section alone
@@ -53,7 +55,7 @@ levels_of values version nested before after d well few b =
     let parts = parts_of nested in
     let short : length parts ≤ 128 = rw (length-map nested part_of) few in
     let e = definitions-column values nested (path_pairs parts) refl in
-    let both = in_room 0 b.holds.are.width 0 (length b.text) (length (map (level_of Definition) (path_pairs parts))) (omega arith) (width-most Definition parts b.holds.are.width well short b.holds.are.is_width) (omega arith) b.tight in
+    let both = in_few 0 b.holds.are.width 0 (length b.text) (length (map (level_of Definition) (path_pairs parts))) (omega arith) (width-most Definition parts b.holds.are.width well short b.holds.are.is_width) (omega arith) b.tight in
     let room : length b.text ≤ level_room (length (map (level_of Definition) (path_pairs parts))) = omega (arith, both) in
     record {
       text = b.text;
@@ -62,8 +64,8 @@ levels_of values version nested before after d well few b =
       room = subst (λ (levels : List ℕ). length b.text ≤ level_room (length levels)) e room;
     }
 
-pub few_pairs : (values : ℕ → Value) (nested : List Nested) (count : ℕ) → count ≡ min (length (nested_column values nested)) (2 ^ 64 - 1) → count ≤ 1073740799 → length (path_pairs (parts_of nested)) < 2 ^ 30
-few_pairs values nested count e h = omega (arith, e, h, length-column values nested)
+pub few_pairs : (values : ℕ → Value) (nested : List Nested) → length (nested_column values nested) ≤ 1073740799 → length (path_pairs (parts_of nested)) < 2 ^ 30
+few_pairs values nested h = omega (arith, h, length-column values nested)
 
 -- a leaf alone
 pub flat_path : (is_optional : Bool) (mask : Option (List Bool)) (count : ℕ) → MaskFits mask count → IsPath (leaf_part is_optional mask count ∷ [])

@@ -1,4 +1,6 @@
 pub mod Blocks
+pub mod Repeats
+pub mod Told
 pub mod Walked
 pub mod Within
 pub mod Texts

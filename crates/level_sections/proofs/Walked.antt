@@ -10,7 +10,7 @@ use Rattle.levels.specs.declared.walk.Level.{Level}
 use Rattle.levels.specs.declared.walk.Level.TheVariants.{Repetition, Definition}
 use Rattle.level_sections.specs.declared.walk.Above.{Above}
 use Rattle.levels.specs.Stretch.{level_of}
-use Rattle.level_sections.specs.Walk.{walked}
+use Rattle.level_sections.specs.Walk.{walked, Goes}
 
 map-replicate : (f : ℕ × ℕ → ℕ) (n : ℕ) (p : ℕ × ℕ) → map f (replicate n p) ≡ replicate n (f p)
 map-replicate f zero p = refl
@@ -46,12 +46,6 @@ walked-step level parts here next place end to er ed ek some within =
     ap (map (level_of level)) (run-split (slot_pairs parts here.def here.depth) here.rep here.depth place end to some within)
     ∙ (map-append (level_of level) (run (slot_pairs parts here.def here.depth) here.rep here.depth place (end - place)) (run (slot_pairs parts here.def here.depth) here.depth here.depth end (to - end))
     ∙ ap (λ xs. walked level parts here place (end - place) ++ xs) (rw (er, ed, ek) refl))
-
--- what a walk has added, and what it has left to add
-pub record Goes (start out : List ℕ) (w : Waiting) (left whole : List ℕ) : Type 0 where
-  pub done : List ℕ
-  pub all : done ++ left ≡ whole
-  pub keeps : Keeps start out w done
 
 pub goes_begin : (start out : List ℕ) (w : Waiting) (xs left left' : List ℕ) → left ≡ left' → Keeps start out w xs → Goes start out w left (xs ++ left')
 goes_begin start out w xs left left' e k = record { done = xs; all = ap (λ (t : List ℕ). xs ++ t) e; keeps = k }

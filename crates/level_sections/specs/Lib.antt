@@ -1,4 +1,5 @@
 pub mod Blocks
+pub mod Lists
 pub mod Sections
 pub mod Walk
 pub use Rattle.pq_runs.specs.Stretches

@@ -35,7 +35,8 @@ pub record AppendsLevels (version : Version) (max : ℕ) (before after levels : 
   pub holds : HoldsLevels version max text levels
   pub room : length text ≤ level_room (length levels)
 
--- What is appended is the section of repetition levels and that of definition levels of a column, of these lengths, within their room.
+-- What is appended is the section of repetition levels and that of definition levels of a column, of these lengths, within their room: in no
+-- more than two bytes a pair and 24.
 pub record AppendsSections (version : Version) (w : Way) (ts : List Triple) (before after : List ℕ) (sizes : ℕ × ℕ) : Type 0 where
   pub repetition : List ℕ
   pub definition : List ℕ
@@ -43,6 +44,7 @@ pub record AppendsSections (version : Version) (w : Way) (ts : List Triple) (bef
   pub repetitions : HoldsLevels version (max_repetition w) repetition (map (λ t. t.repetition) ts)
   pub definitions : HoldsLevels version (max_definition w) definition (map (λ t. t.definition) ts)
   pub sizes_are : sizes ≡ (length repetition, length definition)
+  pub tight : length repetition + length definition ≤ 2 * length ts + 24
   pub room : length repetition + length definition ≤ level_room (length ts)
 
 -- one section in little more than its levels' bits

@@ -1,12 +1,15 @@
 -- The levels that a walk over a path writes.
-use Rattle.std.specs.Prelude.{ℕ, ◌+◌, ◌*◌, ◌^◌, ◌<◌, ◌≤◌, List, map}
-use Rattle.shredding.specs.Parts.{Part, path_way}
+use Rattle.std.specs.Prelude.{◌≡◌, ℕ, ◌+◌, ◌*◌, ◌^◌, ◌<◌, ◌≤◌, List, ◌∷◌, ◌++◌, map}
+use Rattle.shredding.specs.Parts.{Part, list_part, path_way}
 use Rattle.shredding.specs.Shred.{max_repetition, max_definition}
 use Rattle.levels.specs.Levels.{run, slot_pairs}
 use Rattle.levels.specs.Stretch.{level_of}
 use Rattle.levels.specs.declared.walk.Level.{Level}
 use Rattle.levels.specs.declared.walk.Level.TheVariants.{Repetition, Definition}
+use Rattle.pq_runs.specs.Writing.{Keeps, Waiting}
 use Rattle.level_sections.specs.declared.walk.Above.{Above}
+use Rattle.level_sections.specs.declared.walk.Shape.{Shape}
+use Rattle.level_sections.specs.declared.walk.Shape.TheVariants.{Flat, Lists, LargeLists, Stretches}
 
 -- the greatest level of a path
 abbrev pub greatest : Level → List Part → ℕ
@@ -27,3 +30,23 @@ pub record IsLow (above : Above) (count : ℕ) : Type 0 where
 abbrev pub Holds : Level → Above → ℕ → ℕ → ℕ → Type 0
 Holds Repetition above lists levels width = above.depth + lists < 2 ^ width
 Holds Definition above lists levels width = above.def + levels < 2 ^ width
+
+-- what a walk has told a writer, and what it has left to tell
+pub record Goes (start out : List ℕ) (w : Waiting) (left whole : List ℕ) : Type 0 where
+  pub done : List ℕ
+  pub all : done ++ left ≡ whole
+  pub keeps : Keeps start out w done
+
+-- the path is a list over one without lists, whose repetition levels are asked for
+pub record IsListAbove (level : Level) (parts : List Part) (list : Part) : Type 0 where
+  pub is_repetition : level ≡ Repetition
+  pub rest : List Part
+  pub whole : parts ≡ list ∷ rest
+  pub flat : max_repetition (path_way rest) ≡ 0
+
+-- how a path is told: all slots at once, lists at once, or stretch by stretch
+abbrev pub IsShape : Level → List Part → Shape → Type 0
+IsShape level parts Flat = max_repetition (path_way parts) ≡ 0
+IsShape level parts (Lists list) = IsListAbove level parts (list_part list.now.is_optional list.now.validity list.now.offsets)
+IsShape level parts (LargeLists list) = IsListAbove level parts (list_part list.now.is_optional list.now.validity list.now.offsets)
+IsShape level parts Stretches = Unit {0}

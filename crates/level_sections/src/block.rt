@@ -1,11 +1,13 @@
 //! Definition levels of a path without lists, 64 slots at once.
-ghost use Rattle.std.specs.Prelude.{◌≡◌, ℕ, ◌+◌, ◌-◌, ◌^◌, ◌<◌, ◌≤◌, ◌==◌, ◌++◌, List, Bool, cond, length, slice_index, OnOk};
+ghost use Rattle.std.specs.Prelude.{◌≡◌, ℕ, ◌+◌, ◌-◌, ◌^◌, ◌<◌, ◌≤◌, ◌==◌, ◌++◌, List, Bool, cond, length, slice_index, Option, OnOk, IsTrue, true};
 ghost use Rattle.std.specs.Int.{bit_at};
-ghost use Rattle.shredding.specs.Parts.{Part};
+ghost use Rattle.shredding.specs.Parts.{Part, MaskFits, is_present};
+ghost use Rattle.levels.specs.Levels.{bit};
 ghost use Rattle.levels.specs.Nested.{part_of, parts_of};
 ghost use Rattle.pq_runs.specs.Writing.{Extends, Keeps};
 ghost use Rattle.level_sections.specs.Blocks.{part_optional, part_present, flat_level, levels_from, PartReaches, Reaches, IsFront};
 
+use columns_core::Bitmap;
 use levels::{Nested, full_word, present_word};
 use pq_runs::RunWriter;
 use std::alloc::AllocError;
@@ -103,6 +105,32 @@ fn add_parts(levels: &mut [u32], parts: &[Nested], word: u64, place: usize, coun
     }
 }
 
+// Whether a part is optional.
+fn is_optional(part: &Nested) -> bool
+    ensures { result ≡ part_optional (part_of part.now) }
+{
+    match part {
+        Nested::Primitive(_, is_optional, _) => *is_optional,
+        Nested::List(list) => list.is_optional,
+        Nested::LargeList(list) => list.is_optional,
+        Nested::Struct(_, is_optional, _) => *is_optional,
+    }
+}
+
+// Whether parts add nothing to a level, since all of them are required.
+fn are_required(parts: &[Nested]) -> bool
+    ensures { IsTrue result → (def i : ℕ) → flat_level (parts_of parts.now) def i ≡ def }
+{
+    let mut rest = parts;
+    while let Some((part, beneath)) = rest.split_first() {
+        if is_optional(part) {
+            return false;
+        }
+        rest = beneath;
+    }
+    true
+}
+
 // The levels of up to 64 slots.
 fn push_block(
     out: &mut Vec<u8>,
@@ -124,6 +152,9 @@ fn push_block(
     match front_at(parts, def, place, count) {
         Front::Even(level) => writer.push(out, level, count),
         Front::Mixed(rest, level, word) => {
+            if are_required(rest) {
+                return writer.push_bits(out, level, word, count);
+            }
             let mut levels = [level; 64];
             add_bits(&mut levels, true, word);
             add_parts(&mut levels, rest, word, place, count);
@@ -132,8 +163,8 @@ fn push_block(
     }
 }
 
-// The definition levels of the slots from one place to another.
-pub fn push_flat(
+// The definition levels of the slots from one place to another, 64 at once.
+fn push_blocks(
     out: &mut Vec<u8>,
     writer: &mut RunWriter,
     parts: &[Nested],
@@ -156,4 +187,87 @@ pub fn push_flat(
         place += count;
     }
     Ok(())
+}
+
+// Where slots of a leaf end that are there, from a place on.
+fn there_end(
+    is_optional: bool,
+    mask: &Option<Bitmap>,
+    slots: usize,
+    from: usize,
+    to: usize,
+) -> usize
+    requires fits { MaskFits mask.now slots }
+    requires ordered { from ≤ to }
+    requires within { to ≤ slots }
+    ensures after { from ≤ result }
+    ensures within { result ≤ to }
+    ensures there { (i : ℕ) → from ≤ i → i < result → is_present is_optional mask.now i ≡ true }
+{
+    if !is_optional {
+        return to;
+    }
+    match mask {
+        None => to,
+        Some(mask) => mask.run_end(from, to, true),
+    }
+}
+
+// What an optional part adds to a level.
+fn step_of(is_optional: bool) -> u32
+    ensures value { result ≡ bit is_optional }
+    ensures most { result ≤ 1 }
+{
+    if is_optional { 1 } else { 0 }
+}
+
+// The level of the first slots, and where those end that have it: a leaf alone is looked at to its first null. Else there are none.
+fn first_run(parts: &[Nested], def: u32, from: usize, to: usize) -> (u32, usize)
+    requires reaches { Reaches to (parts_of parts.now) }
+    requires low { def + length parts.now ≤ 256 }
+    requires ordered { from ≤ to }
+    ensures after { from ≤ result.1 }
+    ensures within { result.1 ≤ to }
+    ensures even { (i : ℕ) → from ≤ i → i < result.1 → flat_level (parts_of parts.now) def i ≡ result.0 }
+{
+    let Some((part, rest)) = parts.split_first() else {
+        return (def, from);
+    };
+    if rest.len() > 0 {
+        return (def, from);
+    }
+    match part {
+        Nested::Primitive(mask, is_optional, slots) => (
+            def + step_of(*is_optional),
+            there_end(*is_optional, mask, *slots, from, to),
+        ),
+        Nested::Struct(..) => (def, from),
+        Nested::List(_) => (def, from),
+        Nested::LargeList(_) => (def, from),
+    }
+}
+
+// The definition levels of the slots from one place to another.
+pub fn push_flat(
+    out: &mut Vec<u8>,
+    writer: &mut RunWriter,
+    parts: &[Nested],
+    def: u32,
+    from: usize,
+    to: usize,
+) -> Result<(), AllocError>
+    requires reaches { Reaches to (parts_of parts.now) }
+    requires low { def + length parts.now ≤ 256 }
+    requires ordered { from ≤ to }
+    requires holds { (i : ℕ) → flat_level (parts_of parts.now) def i < 2 ^ writer.old.width }
+    ensures width { writer.new.width ≡ writer.old.width }
+    ensures added { OnOk result ((start xs : List ℕ) → Keeps start out.old.items writer.old xs → Keeps start out.new.items writer.new (xs ++ levels_from (flat_level (parts_of parts.now) def) from (to - from))) }
+    ensures kept { Extends out.old.items out.new.items }
+{
+    let (level, end) = first_run(parts, def, from, to);
+    if from == end {
+        return push_blocks(out, writer, parts, def, from, to);
+    }
+    writer.push(out, level, end - from)?;
+    push_blocks(out, writer, parts, def, end, to)
 }

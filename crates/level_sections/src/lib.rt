@@ -3,6 +3,7 @@
 
 mod block;
 mod flat;
+mod lists;
 mod prefix;
 mod section;
 mod sections;

@@ -1,5 +1,5 @@
 //! The level sections of a page.
-ghost use Rattle.std.specs.Prelude.{◌≡◌, ◌⊎◌, ◌↔◌, ℕ, ◌+◌, ◌-◌, ◌*◌, ◌^◌, ◌<◌, ◌≤◌, ◌∷◌, [], length, map, IfOk, OnOk, IfErr, Err};
+ghost use Rattle.std.specs.Prelude.{◌≡◌, ◌⊎◌, ◌↔◌, ℕ, ◌+◌, ◌-◌, ◌*◌, ◌^◌, ◌<◌, ◌≤◌, ◌∷◌, [], length, map, IfOk, OnOk, IfErr, Err, IsTrue, false};
 ghost use Rattle.shredding.specs.Slot.{Value};
 ghost use Rattle.shredding.specs.Parts.{IsPath, path_way};
 ghost use Rattle.levels.specs.Nested.{parts_of, nested_column};
@@ -12,12 +12,24 @@ ghost use Rattle.level_sections.specs.Walk.{greatest};
 
 use crate::section::push_section;
 use columns_core::{Error, Result, V};
-use levels::{Level, Nested, num_values};
+use levels::{Level, Nested, most_values, num_values};
 use pq_tree::Version;
 use std::alloc::AllocError;
 
 // With more pairs the level sections could pass the 32-bit sizes of a page's header: 2,048 bytes and two a pair.
 pub const MOST_PAIRS: usize = 1_073_740_799;
+
+// Whether a path has more level pairs than that. They are counted only where what its lists span does not show that they are fewer.
+fn are_too_many(nested: &[Nested]) -> bool
+    requires { IsPath (parts_of nested.now) }
+    ensures many { (values : ℕ → Value) → IsTrue result → 1073740799 < length (nested_column values nested.now) }
+    ensures few { (values : ℕ → Value) → result ≡ false → length (nested_column values nested.now) ≤ 1073740799 }
+{
+    if most_values(nested) <= MOST_PAIRS {
+        return false;
+    }
+    num_values(nested) > MOST_PAIRS
+}
 
 // Appends both sections, and gives their lengths.
 fn push_both(
@@ -58,7 +70,7 @@ pub fn write_rep_and_def(
     ensures too_large { (values : ℕ → Value) → (result ≡ Err (Error.Overflow V.V3)) ↔ (max_size < level_room (length (nested_column values nested.now))) }
     ensures err { IfErr result (λ e. ((e ≡ Error.Memory) ⊎ (e ≡ Error.Overflow V.V3)) × (buffer.new.items ≡ buffer.old.items)) }
 {
-    if num_values(nested) > MOST_PAIRS {
+    if are_too_many(nested) {
         return Err(Error::Overflow(V::V3));
     }
     let before = buffer.len();

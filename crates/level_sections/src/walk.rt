@@ -5,10 +5,11 @@ ghost use Rattle.shredding.specs.Shred.{max_repetition, max_definition};
 ghost use Rattle.levels.specs.Nested.{parts_of};
 ghost use Rattle.pq_runs.specs.Writing.{Extends, Keeps};
 ghost use Rattle.levels.specs.Stretch.{level_of, like_pairs};
-ghost use Rattle.level_sections.specs.Walk.{walked, IsLow, Holds};
+ghost use Rattle.level_sections.specs.Walk.{walked, IsLow, Holds, IsShape};
 
 use crate::block::push_flat;
-use levels::{Level, Nested, Stretch, max_rep_level, stretch_at};
+use crate::lists::walk_lists;
+use levels::{Level, ListNested, Nested, Stretch, max_rep_level, stretch_at};
 use pq_runs::RunWriter;
 use std::alloc::AllocError;
 
@@ -18,6 +19,42 @@ pub struct Above {
     pub rep: u32,
     pub def: u32,
     pub depth: u32,
+}
+
+// How the levels of a path are told.
+#[derive(Clone, Copy, Drop)]
+pub enum Shape<'a> {
+    // all slots at once: there is no list
+    Flat,
+    // the repetition levels of lists above a path without lists
+    Lists(&'a ListNested<i32>),
+    LargeLists(&'a ListNested<i64>),
+    // stretch by stretch
+    Stretches,
+}
+
+// How the levels of a path are told.
+fn shape_of(level: Level, parts: &[Nested]) -> Shape<'_>
+    ensures { IsShape level (parts_of parts.now) result }
+{
+    if max_rep_level(parts) == 0 {
+        return Shape::Flat;
+    }
+    if level == Level::Definition {
+        return Shape::Stretches;
+    }
+    let Some((part, rest)) = parts.split_first() else {
+        return Shape::Stretches;
+    };
+    if max_rep_level(rest) > 0 {
+        return Shape::Stretches;
+    }
+    match part {
+        Nested::List(list) => Shape::Lists(list),
+        Nested::LargeList(list) => Shape::LargeLists(list),
+        Nested::Primitive(..) => Shape::Stretches,
+        Nested::Struct(..) => Shape::Stretches,
+    }
 }
 
 // So many pairs of one definition level.
@@ -125,6 +162,35 @@ fn step(
     }
 }
 
+// The levels of the slots from one place to another, stretch by stretch.
+#[cycle(walk)]
+fn walk_stretches(
+    out: &mut Vec<u8>,
+    writer: &mut RunWriter,
+    level: Level,
+    parts: &[Nested],
+    above: Above,
+    from: usize,
+    to: usize,
+) -> Result<(), AllocError>
+    requires well { IsPath (parts_of parts.now) }
+    requires ordered { from ≤ to }
+    requires within { to ≤ slot_count (parts_of parts.now) }
+    requires low { IsLow above (length parts.now) }
+    requires holds { Holds level above (max_repetition (path_way (parts_of parts.now))) (max_definition (path_way (parts_of parts.now))) writer.old.width }
+    ensures width { writer.new.width ≡ writer.old.width }
+    ensures added { OnOk result ((start xs : List ℕ) → Keeps start out.old.items writer.old xs → Keeps start out.new.items writer.new (xs ++ walked level (parts_of parts.now) above from (to - from))) }
+    ensures kept { Extends out.old.items out.new.items }
+{
+    let mut place = from;
+    let mut here = above;
+    while place < to {
+        place = step(out, writer, level, parts, here, place, to)?;
+        here.rep = here.depth;
+    }
+    Ok(())
+}
+
 // The levels of the slots from one place to another.
 #[cycle(walk)]
 pub fn walk(
@@ -145,14 +211,10 @@ pub fn walk(
     ensures added { OnOk result ((start xs : List ℕ) → Keeps start out.old.items writer.old xs → Keeps start out.new.items writer.new (xs ++ walked level (parts_of parts.now) above from (to - from))) }
     ensures kept { Extends out.old.items out.new.items }
 {
-    if max_rep_level(parts) == 0 {
-        return walk_flat(out, writer, level, parts, above, from, to);
+    match shape_of(level, parts) {
+        Shape::Flat => walk_flat(out, writer, level, parts, above, from, to),
+        Shape::Lists(list) => walk_lists(out, writer, list, above, from, to),
+        Shape::LargeLists(list) => walk_lists(out, writer, list, above, from, to),
+        Shape::Stretches => walk_stretches(out, writer, level, parts, above, from, to),
     }
-    let mut place = from;
-    let mut here = above;
-    while place < to {
-        place = step(out, writer, level, parts, here, place, to)?;
-        here.rep = here.depth;
-    }
-    Ok(())
 }

@@ -7,3 +7,5 @@ pub mod Columns
 pub mod Stacks
 pub mod Stretches
 pub mod Flat
+pub mod Bounds
+pub mod ItemEnds

@@ -70,7 +70,7 @@ total-step size i to sum pairs new all max below h p n =
     let more = total-more size i (to - i) (to - (i + 1)) (omega arith) in
     omega (arith, more)
 
-total-add : (size : ℕ → ℕ) (place m n : ℕ) → total size place (m + n) ≡ total size place m + total size (place + m) n
+pub total-add : (size : ℕ → ℕ) (place m n : ℕ) → total size place (m + n) ≡ total size place m + total size (place + m) n
 unfolding total
 total-add size place zero n =
     let a : 0 + n ≡ n = omega arith in

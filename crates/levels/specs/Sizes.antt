@@ -1,5 +1,6 @@
 -- The numbers of level pairs.
 use Rattle.std.specs.Prelude.{ℕ, zero, suc, ◌+◌, Bool, Option, cond, max, List, [], ◌∷◌}
+use Rattle.columns_core.specs.Rising.{IsRising}
 use Rattle.shredding.specs.Parts.{Part, leaf_part, list_part, struct_part, is_present, item_start, item_count}
 
 -- the sum of the sizes of count places
@@ -23,3 +24,14 @@ slot_size (struct_part is_optional mask count ∷ parts) i = cond (is_present is
 -- the number of level pairs of list i above a path without lists
 abbrev pub list_size : Bool → Option (List Bool) → List ℕ → ℕ → ℕ
 list_size is_optional mask offsets i = cond (is_present is_optional mask i) (max (item_count offsets i) 1) 1
+
+-- a list's offsets rise
+abbrev pub RisesIn : Part → Type 0
+RisesIn (leaf_part is_optional mask count) = Unit {0}
+RisesIn (list_part is_optional mask offsets) = IsRising offsets
+RisesIn (struct_part is_optional mask count) = Unit {0}
+
+-- the offsets of all lists rise
+abbrev pub AreRising : List Part → Type 0
+AreRising [] = Unit {0}
+AreRising (part ∷ parts) = RisesIn part × AreRising parts

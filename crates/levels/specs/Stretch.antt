@@ -58,3 +58,7 @@ AreAlike at there place end = (i : ℕ) → place ≤ i → i < end → at i ≡
 -- the lists from place on are all present and have items
 abbrev pub AreFull : Bool → Option (List Bool) → List ℕ → ℕ → ℕ → Type 0
 AreFull is_optional mask offsets place end = (i : ℕ) → place ≤ i → i < end → (is_present is_optional mask i ≡ true) × (item_start offsets i < item_start offsets (i + 1))
+
+-- the lists from place on have items
+abbrev pub HaveItems : List ℕ → ℕ → ℕ → Type 0
+HaveItems offsets place end = (i : ℕ) → place ≤ i → i < end → item_start offsets i < item_start offsets (i + 1)

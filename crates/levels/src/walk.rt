@@ -5,6 +5,7 @@ ghost use Rattle.levels.specs.Nested.{parts_of};
 ghost use Rattle.levels.specs.Stretch.{AreAlike, AreFull, IsStretch};
 
 use crate::here::{bit, is_present, item_range};
+use crate::items::items_end;
 use crate::nested::{ListNested, Nested};
 use columns_core::{Bitmap, Offset};
 
@@ -77,18 +78,8 @@ fn full_end<O: Offset>(list: &ListNested<O>, place: usize, to: usize) -> usize
     ensures full { AreFull list.now.is_optional list.now.validity list.now.offsets place result }
 {
     let lists = list.offsets.len_proxy();
-    let mut end = place + 1;
-    while end < to {
-        let (first, last) = item_range(&list.offsets, end);
-        if first == last {
-            break;
-        }
-        if !is_present(list.is_optional, &list.validity, lists, end) {
-            break;
-        }
-        end += 1;
-    }
-    end
+    let (_, end) = alike(list.is_optional, &list.validity, lists, place, to);
+    items_end(&list.offsets, place + 1, end)
 }
 
 // The stretch at a place of lists with items. The items of lists side by side lie side by side, so their definition levels are taken at

@@ -1,5 +1,5 @@
 -- Statistics made of what is seen.
-use Rattle.std.proofs.Common.{◌≤◌, ℤ, ◌^◌, ◌≡◌, ℕ, suc, ◌+◌, pos, cond, true, List, [], ◌∷◌, map, length, Option, Some, None, is_none, option_map, refl, ap, ◌∙◌, arith}
+use Rattle.std.proofs.Common.{◌≤◌, ℤ, ◌^◌, ◌≡◌, ℕ, suc, ◌+◌, pos, cond, true, false, List, [], ◌∷◌, map, length, Option, Some, None, is_none, option_map, refl, ap, ◌∙◌, arith}
 use Rattle.std.specs.Prelude.{MatchOption, Contains, count_by, Vec}
 use Rattle.std.specs.Global.{Global}
 use Rattle.std.proofs.lemmas.List.{length-map, get_or-map}
@@ -99,3 +99,14 @@ stated t p value nested e low high nulls order k x h =
       has = record { null_count = refl; bounds = rw (order, vs) m.has };
       exact = rw vs m.exact;
     }
+
+-- of values without an order
+pub unordered_stated : (t : LeafType) (p : Physical) (value : ℕ → Value) (nested : List Nested) (nulls : Option ℤ) → has_order t ≡ false
+    → (length (nested_column value nested) ≤ max_count → nulls ≡ Some (pos (count_by (λ x. is_none x.value) (nested_column value nested))))
+    → AreStated true t p (nested_column value nested) (Some (record { null_count = nulls; max_value = None; min_value = None }))
+unordered_stated t p value nested nulls order k = record {
+  out = Some (record { null_count = count_by (λ y. is_none y.value) (nested_column value nested); bounds = None });
+  are = λ few. rw (k few) refl;
+  has = record { null_count = refl; bounds = rw order tt };
+  exact = tt;
+}

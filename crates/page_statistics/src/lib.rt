@@ -9,4 +9,4 @@ mod taker;
 
 pub use laws::{statistics_are_unique, statistics_exist};
 pub use order::OrderedLeaf;
-pub use statistics::column_statistics;
+pub use statistics::{column_statistics, unordered_statistics};

@@ -1,10 +1,14 @@
 //! The statistics of a column.
-ghost use Rattle.std.specs.Prelude.{pos, MatchOption, ◌≡◌, ◌≤◌, ◌<◌, ◌^◌, length, option_map, true, IfOk, IfErr};
+ghost use Rattle.std.specs.Prelude.{pos, ℕ, MatchOption, ◌≡◌, ◌-◌, min, false, ◌≤◌, ◌<◌, ◌^◌, length, option_map, true, IfOk, IfErr};
 ghost use Rattle.shredding.specs.Parts.{IsPath};
+ghost use Rattle.shredding.specs.Shape.{LeafType};
+ghost use Rattle.shredding.specs.Slot.{Value};
 ghost use Rattle.columns_base.specs.declared.error.Error.TheVariants.{Memory};
 ghost use Rattle.levels.specs.Nested.{parts_of, nested_column};
 ghost use Rattle.levels.specs.Ranges.{leaf_count_or};
+ghost use Rattle.pq_tree.specs.Physical.{Physical};
 ghost use Rattle.pq_tree.specs.Views.{statistics_view};
+ghost use Rattle.write_places.specs.Places.{path_places};
 ghost use Rattle.pq_files.specs.Statistics.{has_order};
 ghost use Rattle.page_statistics.specs.Extremes.{AreWithin};
 ghost use Rattle.page_statistics.specs.Stated.{AreStated, AreTextsOf};
@@ -85,4 +89,20 @@ pub fn column_statistics<L: OrderedLeaf>(
         max_value: texts.greatest,
         min_value: texts.least,
     })
+}
+
+/// The statistics of the column of a path whose values have no order, as intervals: how many of its pairs have no value, and no bounds (Parquet
+/// format, parquet.thrift: `Statistics`, `ColumnOrder`). The path is well formed, and reaches so many values, up to the largest number. A
+/// count past 2^63 - 1 is not stated.
+pub fn unordered_statistics(nested: &[Nested], values: usize) -> Statistics
+    requires well { IsPath (parts_of nested.now) }
+    requires values { values ≡ min (length (path_places (parts_of nested.now))) (2 ^ 64 - 1) }
+    ensures { (t : LeafType) (p : Physical) (value : ℕ → Value) → has_order t ≡ false → AreStated true t p (nested_column value nested.now) (Some (statistics_view result)) }
+{
+    let nulls = num_values(nested) - values;
+    Statistics {
+        null_count: stated_count(nulls),
+        max_value: None,
+        min_value: None,
+    }
 }

@@ -1,6 +1,14 @@
 //! A file's footer, the pages of its column chunks, and its columns as arrays (Parquet format, "Column chunks"; Dremel paper, "Record assembly").
 
 pub use assembly::{ArrayIter, column_iter_to_arrays};
+pub use page_validity::{
+    FilteredOptionalPageValidity, OptionalPageValidity, PageValidity, Zip, get_selected_rows,
+    not_implemented,
+};
+pub use pq_bitmaps::{
+    FilteredHybridEncoded, FilteredHybridRleDecoderIter, HybridDecoderBitmapIter, HybridEncoded,
+    Interval,
+};
 pub use pq_container::{
     ColumnChunkMetaData, DataPageHeader, DataPageHeaderV1, DataPageHeaderV2, FileMetaData,
     RowGroupMetaData, read_metadata,
@@ -9,6 +17,7 @@ pub use pq_io::{Failed, MemorySource, PlainSource, Source, StdSource, read_all};
 pub use pq_pages::{
     DataPage, DictPage, Page, PageReader, Pages, VecPages, get_page_iterator, split_buffer,
 };
+pub use pq_runs::hybrid_rle;
 pub use read_nested::{create_list, create_map};
 pub use read_state::{
     InitNested, NestedBox, NestedOptional, NestedPrimitive, NestedState, NestedStruct,

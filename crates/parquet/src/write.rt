@@ -10,9 +10,11 @@ pub use levels::{
 };
 pub use nested_paths::{to_leaves, to_nested, to_parquet_leaves};
 pub use nested_slice::slice_parquet_array;
+pub use page_parts::{ExactSizedIter, build_plain_page};
 pub use pq_io::{MemorySink, PlainSink, Sink, SinkFault, StdSink, push_all};
 pub use pq_pages::write_page_header;
-pub use pq_tree::{CompressionOptions, Encoding, Statistics, Version};
+pub use pq_tree::{CompressionOptions, Encoding, ParquetStatistics, Statistics, Version};
+pub use row_groups::RowGroupIterator;
 pub use write_groups::{FileWriter, RowGroupIter, row_group_iter};
 pub use write_pages::{PageIter, WriteOptions, array_to_columns, array_to_page, array_to_pages};
 pub use write_statistics::{build_statistics, ord_binary};

@@ -10,3 +10,5 @@ pub mod Passed
 pub mod Refused
 pub mod Settling
 pub mod Plain
+mod PassedSchema
+pub mod Ways

@@ -33,7 +33,7 @@ as_many law f ls r s a = sym (zipped _ (field_columns f) ls a.are) ∙ own law f
 
 -- ---- no dictionaries
 
-abbrev NoKeys : List ArrowColumn → Type 0
+abbrev pub NoKeys : List ArrowColumn → Type 0
 NoKeys [] = Unit {0}
 NoKeys (c ∷ cs) = (is_dictionary c.data_type ≡ false) × NoKeys cs
 
@@ -50,7 +50,7 @@ both [] ds h k = k
 both (c ∷ cs) ds h k = (h.0, both cs ds h.1 k)
 
 mutual
-  type_keys : (b : Bool) (t : TypeTree) → is_served_type t ≡ true → NoKeys (type_columns b t)
+  pub type_keys : (b : Bool) (t : TypeTree) → is_served_type t ≡ true → NoKeys (type_columns b t)
   type_keys b (t_list f) s = under_list b small_limit (field_columns f) (field_keys f s)
   type_keys b (t_large_list f) s = under_list b large_limit (field_columns f) (field_keys f s)
   type_keys b (t_map f sorted) s = under_list b small_limit (field_columns f) (field_keys f s)

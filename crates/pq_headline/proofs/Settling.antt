@@ -124,10 +124,12 @@ pub settled :
     → AreWritten fs → HaveRows fs → are_served_fields fs ≡ true → SchemaFits fs f
 settled fs f some agree w rows s = record {
   some = some;
+  agree = agree;
   alike =
       fitting_all_alike fs f.schema.fields (filled_fields fs w.structs s)
       (all_fit fs (trees_with_columns f.schema.fields) (subst (λ (k : List FieldTree). AllZip (λ g t. agrees_with g t ≡ true) k (trees_with_columns f.schema.fields)) (all_have fs w.structs s) agree) rows);
   written = w;
+  rows = rows;
   held = can_be fs w.structs s rows;
   served = s;
 }

@@ -188,13 +188,6 @@ SomeV2 _ _ = ⊥
 abbrev pub HasTooMany : Error → Opening → Type 0
 HasTooMany e o = ((e ≡ Overflow V1) × SomeV1 o.chunk_size (field_columns o.field) o.leaves o.outcomes) ⊎ ((e ≡ Overflow V2) × SomeV2 (field_columns o.field) o.outcomes)
 
--- ---- what is not read yet
-
--- data pages of deltas
-abbrev pub IsUnserved : Outcome → Type 0
-IsUnserved (gives_page p levels) = HasEncoding p.header delta ⊎ HasEncoding p.header delta_length
-IsUnserved o = ⊥
-
 -- ---- all of them
 
 -- Want of memory is free. Of the others each comes only so.
@@ -203,7 +196,7 @@ Refuses o e =
     (e ≡ Memory)
     ⊎ (((e ≡ OutOfSpec S3) ⊎ (e ≡ NotYetImplemented N4)) × SomeFails e o.outcomes)
     ⊎ ((e ≡ OutOfSpec S3) × AnyOf HasMisplaced o.outcomes)
-    ⊎ ((e ≡ NotYetImplemented N4) × (SomeN4 (field_columns o.field) o.leaves o.outcomes ⊎ AnyOf (AnyOf IsUnserved) o.outcomes))
+    ⊎ ((e ≡ NotYetImplemented N4) × SomeN4 (field_columns o.field) o.leaves o.outcomes)
     ⊎ ((e ≡ NotYetImplemented N8) × SomeN8 o.leaves o.outcomes)
     ⊎ HasTooMany e o
     ⊎ (IsOfRows e × (¬ HasRows o))

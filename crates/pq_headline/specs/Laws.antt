@@ -16,6 +16,7 @@ use Rattle.pq_files.specs.Page.{plain}
 use Rattle.pq_files.specs.Reasons.{S1, S2, N1, N2, N3, N7}
 use Rattle.pq_files.specs.Room.{max_size, footer_room, planned_footer}
 use Rattle.schema_fit.specs.Fits.{agrees_with, fits_to}
+use Rattle.schema_key.specs.declared.infer.KeyRule.{KeyRule}
 use Rattle.schema_to_tree.specs.Conditions.{AreWritten}
 use Rattle.schema_map.specs.Rows.{HasRows as FieldHasRows}
 use Rattle.schema_to_tree.specs.Table.{schema_of, tree_of}
@@ -30,7 +31,7 @@ use Rattle.pq_headline.specs.Output.{all_chosen}
 use Rattle.pq_headline.specs.Rewrites.{Asked, Codec, Counts, HasFooterAt, InfersSchema, Converts, Rewrites, keys_out}
 use Rattle.pq_headline.specs.Rows.{Seen}
 use Rattle.pq_headline.specs.Served.{are_served_fields}
-use Rattle.pq_headline.specs.Stages.{AreAllAlike, HaveRows, Passes3, Passes6, Refuses, SchemaFits, Valid, fields_with_columns, list_fields, trees_with_columns}
+use Rattle.pq_headline.specs.Stages.{AreAllAlike, HaveRows, Passes3, Passes6, Refuses, RefusesSchema6, SchemaFits, Valid, fields_with_columns, list_fields, trees_with_columns}
 use Rattle.pq_headline.specs.Written.{HasRead, IsRefusedAt, IsWrittenAs}
 
 -- ---- cutting
@@ -91,10 +92,11 @@ pub record WithoutGroups : Type 0 where
   pub alone :
       (codec : Codec) (asked : Asked) (input output : List ℕ) (counts : Counts) (shown : List (List Seen)) (r : Rewrites codec asked input output counts shown) → r.footer.groups ≡ [] → (r.outs ≡ []) × (counts ≡ no_counts) × (shown ≡ [])
 
--- What passed the third stage is not refused at it, nor is what passed the fifth.
+-- What passed the third stage is not refused at it, nor is what passed the fifth or the sixth.
 pub record PassedIsNotRefused : Type 0 where
   pub third : (bytes : List ℕ) (place : ℕ) (f : Footer) → Passes3 bytes place f → (¬ S1 bytes) × (¬ N2 bytes) × (¬ N7 bytes)
   pub fifth : (place : ℕ) (f : Footer) → All (GroupIsPlaced place (columns_of f.schema)) f.groups → (¬ S2 place f) × (¬ N1 f) × (¬ N3 f)
+  pub sixth : (codec : Codec) (rule : KeyRule) (f : Footer) (s : SchemaTree) (e : Error) → InfersSchema codec rule f s → SchemaFits s.fields f → ¬ RefusesSchema6 codec rule f e
 
 -- what is refused is not valid
 abbrev pub RefusedIsNotValid : Type 0

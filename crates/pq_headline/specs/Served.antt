@@ -1,5 +1,5 @@
--- The types of fields that are served: of the types that pages may have, fixed byte strings, decimals, intervals, nulls alone,
--- dictionaries and lists of fixed size are neither read nor written yet.
+-- The types of fields that are served, which are both read and written: of the types that pages may have, fixed byte strings, decimals,
+-- intervals, nulls alone, dictionaries and lists of fixed size are not served yet.
 use Rattle.std.specs.Prelude.{Bool, true, false, ◌&&◌}
 use Rattle.columns_core.specs.Tree.{TypeTree, t_list, t_fixed_size_list, t_large_list, t_struct, t_union, t_map, t_dictionary, t_extension, FieldTree, field, FieldTrees, no_fields, more_fields}
 use Rattle.write_pages.specs.Fits.{is_written}

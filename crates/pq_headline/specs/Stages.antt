@@ -56,14 +56,6 @@ abbrev pub AreAllAlike : FieldTrees → List Leaf → Type 0
 AreAllAlike no_fields ls = ls ≡ []
 AreAllAlike (more_fields f fs) ls = (mine : List Leaf) × (others : List Leaf) × (ls ≡ mine ++ others) × AreAlike f mine × AreAllAlike fs others
 
--- No condition of the stage holds of the schema.
-pub record SchemaFits (fs : FieldTrees) (f : Footer) : Type 0 where
-  pub some : fs ≢ no_fields
-  pub alike : AreAllAlike fs (columns_of f.schema)
-  pub written : AreWritten fs
-  pub held : CanBeWritten fs
-  pub served : are_served_fields fs ≡ true
-
 abbrev pub list_fields : FieldTrees → List FieldTree
 list_fields no_fields = []
 list_fields (more_fields f fs) = f ∷ list_fields fs
@@ -89,6 +81,16 @@ Misfits fs ts =
 abbrev pub HaveRows : FieldTrees → Type 0
 HaveRows no_fields = Unit {0}
 HaveRows (more_fields f fs) = FieldHasRows f × HaveRows fs
+
+-- No condition of the stage holds of the schema.
+pub record SchemaFits (fs : FieldTrees) (f : Footer) : Type 0 where
+  pub some : fs ≢ no_fields
+  pub agree : AllZip (λ g t. agrees_with g t ≡ true) (fields_with_columns fs) (trees_with_columns f.schema.fields)
+  pub alike : AreAllAlike fs (columns_of f.schema)
+  pub written : AreWritten fs
+  pub rows : HaveRows fs
+  pub held : CanBeWritten fs
+  pub served : are_served_fields fs ≡ true
 
 -- a text under the key counts
 abbrev pub HasKey : KeyRule → Footer → Type 0

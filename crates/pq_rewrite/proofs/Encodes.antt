@@ -1,5 +1,5 @@
 -- A piece that is written.
-use Rattle.std.proofs.Common.{◌≡◌, ◌≢◌, ◌⊎◌, inl, inr, false, List, [], ◌∷◌, ◌++◌, length, map, Option, Some, None, Result, Ok, Err, Vec, refl, sym, ap, subst, ◌∙◌, arith, append_assoc}
+use Rattle.std.proofs.Common.{◌≡◌, ◌≢◌, ◌⊎◌, inl, inr, List, [], ◌∷◌, ◌++◌, length, map, Option, Some, None, Result, Ok, Err, Vec, refl, sym, ap, subst, ◌∙◌, arith, append_assoc}
 use Rattle.std.specs.Global.{Global}
 use Rattle.std.specs.Prelude.{IfErr, OnOk}
 use Rattle.columns_base.specs.declared.error.Error.{Error}
@@ -10,8 +10,8 @@ use Rattle.columns_core.specs.Tree.{FieldTrees}
 use Rattle.columns_core.specs.View.{SchemaTree, schema_view}
 use Rattle.columns_slots.specs.Slots.{AreTyped, first_len}
 use Rattle.columns_slots.specs.Tree.{ArrayTrees}
-use Rattle.pq_tree.specs.Tree.{Schema, Trees, no_trees, tree, columns_of}
-use Rattle.pq_tree.specs.TreeViews.{trees_view, schema_view as tree_schema}
+use Rattle.pq_tree.specs.Tree.{Schema, columns_of}
+use Rattle.pq_tree.specs.TreeViews.{trees_view}
 use Rattle.pq_tree.specs.declared.types.Encoding.{Encoding as RustEncoding}
 use Rattle.pq_tree.specs.declared.types.ParquetType.{ParquetType}
 use Rattle.pq_files.specs.Layout.{OutGroup}
@@ -24,7 +24,8 @@ use Rattle.pq_headline.specs.Output.{IsLaidGroup, PieceIsTooLarge, all_chosen}
 use Rattle.pq_headline.specs.Rewrites.{Asked}
 use Rattle.pq_headline.specs.Written.{IsRefusedAt, IsWrittenAs, PassesCounts, RefusesChunk}
 use Rattle.pq_headline.proofs.Written.{zip_more}
-use Rattle.typed_groups.specs.Suiting.{AreAllSound, ArePlain as ListsArePlain, IsSuiting, IsTaken, LargePagesAreLarge, PlainGroupsAreWritten, Suits}
+use Rattle.typed_groups.specs.Suiting.{AreAllSound, IsSuiting, IsTaken, LargePagesAreLarge, GroupsAreWritten, Suits}
+use Rattle.write_groups.specs.Laid.{AreChosen}
 use Rattle.write_counts.specs.Passing.{GroupPasses}
 use Rattle.write_groups.specs.Columns.{AreGroupColumns, AreSoMany, RefusesFields}
 use Rattle.write_groups.specs.Laid.{style_of}
@@ -33,18 +34,12 @@ use Rattle.write_groups.specs.declared.group.RowGroupIter.{RowGroupIter}
 use Rattle.write_groups.specs.declared.writer.FileWriter.{FileWriter}
 use Rattle.write_pages.specs.declared.options.WriteOptions.{WriteOptions}
 use Rattle.pq_rewrite.specs.Groups.{HoldsChunks, IsOutput, write_options, taken_by}
-use Rattle.pq_rewrite.specs.Plans.{ArePlain, lists_of}
+use Rattle.pq_rewrite.specs.Plans.{lists_of}
 use Rattle.pq_rewrite.specs.Ready.{IsReady, IsPieceOf, PutsGroup, asked_of, fields_in}
 use Rattle.pq_rewrite.specs.declared.job.Job.{Job}
 use Rattle.pq_rewrite.specs.declared.output.Output.{Output}
 
 -- ---- a piece that is made a group of columns
-
-plain_lists : (ts : Trees) (ess : List (Vec RustEncoding Global)) → ArePlain ts ess → ListsArePlain ts (map (λ es. es.items) ess)
-plain_lists no_trees [] h = tt
-plain_lists no_trees (es ∷ ess) h = absurd h
-plain_lists (tree t ts) [] h = absurd h
-plain_lists (tree t ts) (es ∷ ess) h = (h.0, plain_lists ts ess h.1)
 
 same_trees : (job : Job) → IsReady job → trees_view job.plan.now.tree.fields ≡ (schema_of (fields_in job)).fields
 same_trees job r = ap (λ (s : Schema). s.fields) r.tree
@@ -52,7 +47,7 @@ same_trees job r = ap (λ (s : Schema). s.fields) r.tree
 pub suits :
     (job : Job) (piece : ArrayTrees) (o : WriteOptions) (encodings : Vec (Vec RustEncoding Global) Global) (trees : List ParquetType)
     → IsReady job → IsPieceOf job piece → AreAllSound piece → lists_of encodings ≡ lists_of job.plan.now.encodings → trees_view trees ≡ trees_view job.plan.now.tree.fields → o ≡ write_options (asked_of job)
-    → Suits (fields_in job) o piece (trees_view trees) (map (λ es. es.items) encodings.items)
+    → Suits job.options.now.delta (fields_in job) o piece (trees_view trees) (map (λ es. es.items) encodings.items)
 suits job piece o encodings trees r p s ee et eo = record {
   sound = s;
   typed = p.typed;
@@ -63,8 +58,8 @@ suits job piece o encodings trees r p s ee et eo = record {
   held = r.fits.held;
   served = r.fits.served;
   encodings =
-      subst (λ ess. ListsArePlain (trees_view trees) ess) (sym ee)
-      (subst (λ ts. ListsArePlain ts (lists_of job.plan.now.encodings)) (sym et) (plain_lists (tree_schema job.plan.now.tree).fields job.plan.now.encodings.items r.encodings));
+      subst (λ ess. AreChosen job.options.now.delta (fields_in job) (trees_view trees) ess) (sym ee)
+      (subst (λ ts. AreChosen job.options.now.delta (fields_in job) ts (lists_of job.plan.now.encodings)) (sym et) r.encodings);
 }
 
 -- nothing but want of memory stands against its columns
@@ -78,7 +73,7 @@ not_refused o piece encodings trees e h (inr (inr r)) = absurd (h.none e r)
 pub record IsMadeOf (job : Job) (piece : ArrayTrees) (g : RowGroupIter) : Type 0 where
   pub chunk : g.chunk ≡ piece
   pub options : g.options ≡ write_options (asked_of job)
-  pub suiting : IsSuiting (fields_in job) g
+  pub suiting : IsSuiting job.options.now.delta (fields_in job) g
   pub columns : HasColumns g
 
 pub made_of :
@@ -118,21 +113,19 @@ takes job piece groups g old m w h = record {
 }
 
 at_style : (job : Job) (g : RowGroupIter) (cs : ArrayTrees) (out : OutGroup) → IsReady job → g.options ≡ write_options (asked_of job) → g.chunk ≡ cs
-    → IsLaidGroup (style_of g.options) (rows_of g.chunk) (schema_columns (fields_in job)) (columns_of (schema_of (fields_in job))) (all_chosen false (schema_columns (fields_in job)) (columns_of (schema_of (fields_in job)))) (all_entries g.chunk) out → IsWrittenAs (asked_of job) (fields_in job) cs out
+    → IsLaidGroup (style_of g.options) (rows_of g.chunk) (schema_columns (fields_in job)) (columns_of (schema_of (fields_in job))) (all_chosen job.options.now.delta (schema_columns (fields_in job)) (columns_of (schema_of (fields_in job)))) (all_entries g.chunk) out → IsWrittenAs (asked_of job) (fields_in job) cs out
 at_style job g cs out r o e h =
-    let styled : IsLaidGroup (asked_of job).style (rows_of g.chunk) (schema_columns (fields_in job)) (columns_of (schema_of (fields_in job))) (all_chosen false (schema_columns (fields_in job)) (columns_of (schema_of (fields_in job)))) (all_entries g.chunk) out =
-    subst (λ (w : WriteOptions). IsLaidGroup (style_of w) (rows_of g.chunk) (schema_columns (fields_in job)) (columns_of (schema_of (fields_in job))) (all_chosen false (schema_columns (fields_in job)) (columns_of (schema_of (fields_in job)))) (all_entries g.chunk) out) o h in
-    let chosen : IsLaidGroup (asked_of job).style (rows_of g.chunk) (schema_columns (fields_in job)) (columns_of (schema_of (fields_in job))) (all_chosen job.options.now.delta (schema_columns (fields_in job)) (columns_of (schema_of (fields_in job)))) (all_entries g.chunk) out =
-    subst (λ b. IsLaidGroup (asked_of job).style (rows_of g.chunk) (schema_columns (fields_in job)) (columns_of (schema_of (fields_in job))) (all_chosen b (schema_columns (fields_in job)) (columns_of (schema_of (fields_in job)))) (all_entries g.chunk) out) (sym r.options.delta) styled in
-    subst (λ (k : ArrayTrees). IsWrittenAs (asked_of job) (fields_in job) k out) e chosen
+    let styled : IsLaidGroup (asked_of job).style (rows_of g.chunk) (schema_columns (fields_in job)) (columns_of (schema_of (fields_in job))) (all_chosen job.options.now.delta (schema_columns (fields_in job)) (columns_of (schema_of (fields_in job)))) (all_entries g.chunk) out =
+    subst (λ (w : WriteOptions). IsLaidGroup (style_of w) (rows_of g.chunk) (schema_columns (fields_in job)) (columns_of (schema_of (fields_in job))) (all_chosen job.options.now.delta (schema_columns (fields_in job)) (columns_of (schema_of (fields_in job)))) (all_entries g.chunk) out) o h in
+    subst (λ (k : ArrayTrees). IsWrittenAs (asked_of job) (fields_in job) k out) e styled
 
 -- the group that its columns give is one that the piece is written as
-written_as : (job : Job) (piece : ArrayTrees) (g : RowGroupIter) (old : FileWriter PlainSink) (out : OutGroup) → PlainGroupsAreWritten → IsReady job → IsMadeOf job piece g → IsWriterOf job old → IsGroupOf (writer_fields old) g out → IsWrittenAs (asked_of job) (fields_in job) piece out
-written_as job piece g old out law r m w h = at_style job g piece out r m.options m.chunk (law (fields_in job) g out m.suiting m.columns (subst (λ fs. IsGroupOf fs g out) (same_fields job old w) h))
+written_as : (job : Job) (piece : ArrayTrees) (g : RowGroupIter) (old : FileWriter PlainSink) (out : OutGroup) → GroupsAreWritten → IsReady job → IsMadeOf job piece g → IsWriterOf job old → IsGroupOf (writer_fields old) g out → IsWrittenAs (asked_of job) (fields_in job) piece out
+written_as job piece g old out law r m w h = at_style job g piece out r m.options m.chunk (law job.options.now.delta (fields_in job) g out m.suiting m.columns (subst (λ fs. IsGroupOf fs g out) (same_fields job old w) h))
 
 pub put_ok :
     (job : Job) (piece : ArrayTrees) (groups : List OutGroup) (g : RowGroupIter) (old now : FileWriter PlainSink) (r : Result (Unit {0}) Error)
-    → PlainGroupsAreWritten → IsReady job → IsPieceOf job piece → IsMadeOf job piece g → IsWriterOf job old → OnOk r (Adds taken_by (Some []) groups g old now) → OnOk r (PutsGroup job piece groups now)
+    → GroupsAreWritten → IsReady job → IsPieceOf job piece → IsMadeOf job piece g → IsWriterOf job old → OnOk r (Adds taken_by (Some []) groups g old now) → OnOk r (PutsGroup job piece groups now)
 put_ok job piece groups g old now (Err e) law ready p m w h = tt
 put_ok job piece groups g old now (Ok u) law ready p m w (inl h) = absurd (omega (arith, p.some, h.0, ap first_len m.chunk))
 put_ok job piece groups g old now (Ok u) law ready p m w (inr h) = record { out = h.0; written = written_as job piece g old h.0 law ready m w h.1; writes = h.2 }
@@ -141,7 +134,7 @@ never_rose : Rose 0 0 → ⊥
 never_rose h = absurd (omega (arith, h))
 
 -- the counts of a writer are those of the chunk
-counts_are : (job : Job) (piece : ArrayTrees) (groups : List OutGroup) (g : RowGroupIter) (old : FileWriter PlainSink) → PlainGroupsAreWritten → IsReady job → IsMadeOf job piece g → IsWriterOf job old
+counts_are : (job : Job) (piece : ArrayTrees) (groups : List OutGroup) (g : RowGroupIter) (old : FileWriter PlainSink) → GroupsAreWritten → IsReady job → IsMadeOf job piece g → IsWriterOf job old
     → (out : OutGroup) × IsGroupOf (writer_fields old) g out × GroupPasses old.options.version (columns_of (schema_of (writer_fields old))) groups out → PassesCounts (asked_of job) (fields_in job) groups piece
 counts_are job piece groups g old law r m w h = (
   h.0,
@@ -158,7 +151,7 @@ too_large job piece groups g e m (inr h) =
 
 pub put_err :
     (job : Job) (piece : ArrayTrees) (groups : List OutGroup) (g : RowGroupIter) (old now : FileWriter PlainSink) (r : Result (Unit {0}) Error)
-    → PlainGroupsAreWritten → LargePagesAreLarge → IsReady job → IsMadeOf job piece g → IsWriterOf job old → IsWriting taken_by (Some []) old groups
+    → GroupsAreWritten → LargePagesAreLarge → IsReady job → IsMadeOf job piece g → IsWriterOf job old → IsWriting taken_by (Some []) old groups
     → IfErr r (λ e. ((e ≡ InvalidArgumentError A8) × (¬ Takes old g)) ⊎ Refuses (λ _. 0) groups g old now e)
     → IfErr r (λ e. (e ≡ Memory) ⊎ RefusesChunk (asked_of job) (fields_in job) groups piece e)
 put_err job piece groups g old now (Ok u) law large ready m w i h = tt
@@ -169,7 +162,7 @@ put_err job piece groups g old now (Err e) law large ready m w i h = by h
     by (inr (inl k)) = inl k
     by (inr (inr (inl f))) = absurd (never_rose f.1)
     by (inr (inr (inr (inl v)))) = inr (inr (v.0, inr (counts_are job piece groups g old law ready m w (v.1, v.2, v.3))))
-    by (inr (inr (inr (inr s)))) = too_large job piece groups g e m (large (fields_in job) g e m.suiting m.columns s)
+    by (inr (inr (inr (inr s)))) = too_large job piece groups g e m (large job.options.now.delta (fields_in job) g e m.suiting m.columns s)
 
 -- ---- the output
 

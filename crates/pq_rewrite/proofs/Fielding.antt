@@ -14,6 +14,7 @@ use Rattle.pq_headline.specs.Served.{is_served_field}
 use Rattle.assembly.specs.Giving.{FieldReading, IsGiving, Opens, RefusesOpening}
 use Rattle.pq_rewrite.specs.Opening.{IsFieldOf, OpensColumns}
 use Rattle.pq_rewrite.specs.declared.job.Job.{Job}
+use Rattle.pq_rewrite.proofs.WrittenRead.{written_read}
 
 opening : Job → FieldTree → ℕ → List Leaf → List (List Outcome) → Opening
 opening job f rows ls outcomes = record { field = f; leaves = ls; outcomes = outcomes; rows = rows; chunk_size = job.options.now.chunk_size }
@@ -26,7 +27,7 @@ opens job f g rows ls chunks outcomes types e h k = record {
   alike = subst (λ q. AreAlike q ls) (sym e) h.alike;
   levels = k.levels;
   failing = k.failing;
-  served = subst (λ q. is_served_field q ≡ true) (sym e) h.served;
+  read = written_read g ls (subst (λ q. is_served_field q ≡ true) (sym e) h.served) (subst (λ q. AreAlike q ls) (sym e) h.alike);
   physicals_are = k.physicals;
   outcomes_are = refl;
   chunk_size_is = refl;

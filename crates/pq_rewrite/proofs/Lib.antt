@@ -18,3 +18,4 @@ pub mod Fielding
 pub mod Numbers
 pub mod Runs
 pub mod Grouping
+pub mod WrittenRead

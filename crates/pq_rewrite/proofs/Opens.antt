@@ -3,7 +3,7 @@ use Rattle.std.proofs.Common.{◌≡◌, ◌⊎◌, inl, inr, ◌+◌, ◌<◌, 
 use Rattle.std.specs.Global.{Global}
 use Rattle.std.specs.List.{AllZip}
 use Rattle.std.specs.Prelude.{IfSome}
-use Rattle.std.proofs.lemmas.List.{map-append, length-map, take_all}
+use Rattle.std.proofs.lemmas.List.{map-append, take_all}
 use Rattle.std.proofs.lemmas.List.Elements.{All-append, All-from_recursion}
 use Rattle.std.proofs.lemmas.Bool.{and_parts}
 use Rattle.std.proofs.lemmas.Int.{ints}
@@ -15,12 +15,11 @@ use Rattle.columns_core.specs.Tree.{FieldTree, FieldTrees, more_fields}
 use Rattle.pq_metadata.specs.Footer.{ChunkMeta}
 use Rattle.pq_tree.specs.Columns.{Column, column_of}
 use Rattle.pq_tree.specs.Described.{AreDescribed, descriptor_view, column_view}
-use Rattle.pq_tree.specs.Tree.{Leaf, leaves}
+use Rattle.pq_tree.specs.Tree.{Leaf}
 use Rattle.pq_tree.specs.Views.{chunk_view, physical_view, natural_part}
 use Rattle.pq_tree.specs.declared.types.ColumnChunkMetaData.{ColumnChunkMetaData}
 use Rattle.pq_tree.specs.declared.types.Descriptor.{Descriptor}
 use Rattle.pq_tree.specs.declared.types.Encoding.{Encoding}
-use Rattle.pq_tree.specs.declared.types.Encoding.TheVariants.{Plain}
 use Rattle.pq_tree.specs.declared.types.PrimitiveType.{PrimitiveType}
 use Rattle.pq_files.specs.Reasons.{IsNegative, LiesOutside}
 use Rattle.pq_numbers.specs.Texts.{IsAt}
@@ -28,7 +27,6 @@ use Rattle.pq_pages.specs.Opened.{OpensChunk, RefusesChunk}
 use Rattle.pq_pages.specs.Outcomes.{Levels, Outcome, gives_page, gives_dictionary, fails, levels_in, HasLevels}
 use Rattle.pq_pages.specs.ReadsChunk.{ReadsChunk}
 use Rattle.pq_pages.specs.Sources.{Source}
-use Rattle.schema_to_tree.specs.Table.{tree_of}
 use Rattle.pq_headline.specs.Laws.{LeavesAreAsMany}
 use Rattle.pq_headline.specs.Lists.{AllZip3}
 use Rattle.pq_headline.specs.Opened.{ChunkIsPlaced, OpensField, Reads, AreOpened}
@@ -204,12 +202,12 @@ same_more rows n [] o h r c = (r, c, tt)
 same_more rows n (a ∷ os) o h r c = (h.0, h.1, same_more rows n os o h.2 r c)
 
 module _ (bytes : List ℕ) (place rows : ℕ) (n : Option ℕ) (fs : FieldTrees) (ls : List Leaf) (ms : List ChunkMeta) where
-  pub next_is : (f : FieldTree) (gs : FieldTrees) (others : List Leaf) (chunks : List ColumnChunkMetaData) (es : Vec Encoding Global) (plain : List (Vec Encoding Global)) (its : List FieldReading)
-      → LeavesAreAsMany → (a : AtField bytes place rows n fs ls ms (more_fields f gs) others chunks (es ∷ plain) its) → Next place f chunks a.alike.0 (length es.items)
-  next_is f gs others chunks es plain its law a =
+  pub next_is : (f : FieldTree) (gs : FieldTrees) (others : List Leaf) (chunks : List ColumnChunkMetaData) (es : Vec Encoding Global) (encodings : List (Vec Encoding Global)) (its : List FieldReading)
+      → LeavesAreAsMany → (a : AtField bytes place rows n fs ls ms (more_fields f gs) others chunks (es ∷ encodings) its) → Next place f chunks a.alike.0 (length es.items)
+  next_is f gs others chunks es encodings its law a =
       let ss = and_parts (is_served_field f) (are_served_fields gs) a.served in
       let many : length es.items ≡ length a.alike.0 =
-      ap length a.plain_are.0 ∙ length-map (leaves (tree_of f)) (λ (l : Leaf). Plain) ∙ sym (law f a.alike.0 a.held.0 a.held.1 a.alike.3) in
+      a.encodings_are.0 ∙ sym (law f a.alike.0 a.held.0 a.held.1 a.alike.3) in
       let z = split_zip place chunks a.alike.0 a.alike.1 (subst (λ (k : List Leaf). AllZip (IsChunkOf place) chunks k) a.alike.2 a.chunks_are) in
       let long : length chunks ≡ length a.alike.0 + length a.alike.1 = counted place chunks others a.chunks_are ∙ ap length a.alike.2 ∙ length-append a.alike.0 a.alike.1 in
       record {
@@ -218,11 +216,11 @@ module _ (bytes : List ℕ) (place rows : ℕ) (n : Option ℕ) (fs : FieldTrees
         within = omega (arith, many, long);
       }
 
-  pub field_on : (f : FieldTree) (gs : FieldTrees) (others : List Leaf) (chunks : List ColumnChunkMetaData) (es : Vec Encoding Global) (plain : List (Vec Encoding Global)) (its : List FieldReading) (it : FieldReading) (o : Opening)
-      → (a : AtField bytes place rows n fs ls ms (more_fields f gs) others chunks (es ∷ plain) its) → (length es.items ≡ length a.alike.0)
+  pub field_on : (f : FieldTree) (gs : FieldTrees) (others : List Leaf) (chunks : List ColumnChunkMetaData) (es : Vec Encoding Global) (encodings : List (Vec Encoding Global)) (its : List FieldReading) (it : FieldReading) (o : Opening)
+      → (a : AtField bytes place rows n fs ls ms (more_fields f gs) others chunks (es ∷ encodings) its) → (length es.items ≡ length a.alike.0)
       → OpensField bytes place rows n f a.alike.0 (map chunk_view (take (length es.items) chunks)) o → IsGiving o [] it
-      → AtField bytes place rows n fs ls ms gs (drop (length es.items) others) (drop (length es.items) chunks) plain (its ++ it ∷ [])
-  field_on f gs others chunks es plain its it o a many op g =
+      → AtField bytes place rows n fs ls ms gs (drop (length es.items) others) (drop (length es.items) chunks) encodings (its ++ it ∷ [])
+  field_on f gs others chunks es encodings its it o a many op g =
       let ss = and_parts (is_served_field f) (are_served_fields gs) a.served in
       let k : ℕ = length es.items in
       let rest : drop k others ≡ a.alike.1 = ap (λ q. drop q others) many ∙ ap (drop (length a.alike.0)) a.alike.2 ∙ drop_front a.alike.0 a.alike.1 in
@@ -248,7 +246,7 @@ module _ (bytes : List ℕ) (place rows : ℕ) (n : Option ℕ) (fs : FieldTrees
         held = a.held.2;
         served = ss.1;
         nesting = omega (arith, a.nesting);
-        plain_are = a.plain_are.1;
+        encodings_are = a.encodings_are.1;
       }
     where
       drop_front : (xs ys : List Leaf) → drop (length xs) (xs ++ ys) ≡ ys

@@ -1,18 +1,20 @@
 -- Plans.
-use Rattle.std.proofs.Common.{◌≡◌, ◌≢◌, inl, inr, ◌+◌, ◌<◌, ◌≤◌, ◌++◌, ℕ, zero, suc, List, [], ◌∷◌, length, map, drop, get_or, true, false, Option, Some, None, Vec, Result, Ok, Err, refl, sym, ap, subst, ◌∙◌, arith, true≢false}
-use Rattle.std.specs.Prelude.{OnOk}
+use Rattle.std.proofs.Common.{◌≡◌, ◌≢◌, inl, inr, ◌+◌, ◌<◌, ◌≤◌, ◌++◌, ℕ, zero, suc, List, [], ◌∷◌, length, map, drop, get_or, Bool, true, false, Option, Some, None, Vec, Result, Ok, Err, refl, sym, ap, subst, ◌∙◌, arith, true≢false}
+use Rattle.std.specs.Prelude.{OnOk, string_bytes}
 use Rattle.columns_base.specs.declared.error.Error.{Error}
 use Rattle.std.specs.Global.{Global}
-use Rattle.std.proofs.lemmas.List.{append-nil}
+use Rattle.std.proofs.lemmas.List.{append-nil, append_assoc}
 use Rattle.std.proofs.Math.ListN.{drop_of_length-le}
-use Rattle.columns_core.specs.Tree.{FieldTree, FieldTrees, no_fields, more_fields}
-use Rattle.columns_core.specs.View.{fields_view}
-use Rattle.columns_core.specs.declared.types.Field.{Field}
-use Rattle.pq_tree.specs.Tree.{Leaf, Tree, Trees, no_trees, tree, under, nesting_of}
+use Rattle.columns_core.specs.Tree.{TypeTree, t_null, t_boolean, t_int8, t_int16, t_int32, t_int64, t_uint8, t_uint16, t_uint32, t_uint64, t_timestamp, t_date32, t_date64, t_time32, t_time64, t_duration, t_interval, t_binary, t_fixed_size_binary, t_large_binary, t_utf8, t_large_utf8, t_decimal, t_extension, FieldTree, field, FieldTrees, no_fields, more_fields}
+use Rattle.columns_core.specs.Shapes.{base}
+use Rattle.columns_core.specs.View.{field_view, fields_view, type_view, type_step, field_step}
+use Rattle.columns_core.specs.declared.types.IntervalUnit.TheVariants.{YearMonth, DayTime}
+use Rattle.columns_slots.specs.Types.{is_leaf}
+use Rattle.columns_core.specs.declared.types.Field.{Field, fold_out-Field}
+use Rattle.pq_tree.specs.Tree.{Leaf, Tree, Trees, no_trees, tree, leaves, under, nesting_of}
 use Rattle.pq_tree.specs.TreeViews.{pairs_view, tree_view, trees_view}
 use Rattle.pq_tree.specs.Types.{Info}
 use Rattle.pq_tree.specs.declared.types.Encoding.{Encoding}
-use Rattle.pq_tree.specs.declared.types.Encoding.TheVariants.{Plain}
 use Rattle.pq_tree.specs.declared.types.KeyValue.{KeyValue}
 use Rattle.pq_tree.specs.declared.types.ParquetType.{ParquetType}
 use Rattle.schema_fit.specs.Fits.{fits_to}
@@ -22,14 +24,13 @@ use Rattle.schema_map.specs.Rows.{HasRows}
 use Rattle.schema_to_tree.specs.Table.{tree_of, trees_of}
 use Rattle.pq_files.specs.Reasons.{AnyOf}
 use Rattle.pq_headline.specs.Stages.{HaveRows, list_fields}
-use Rattle.pq_rewrite.specs.Plans.{ArePlain}
+use Rattle.write_values.specs.Deltas.{IsLeafType, encoding_name}
+use Rattle.write_groups.specs.Laid.{AreChosen, field_encoding}
+use Rattle.pq_rewrite.specs.Plans.{names_of}
 
-pub plain_under : (info : Info) (ls : List Leaf) → map (λ _. Plain) (map (under info) ls) ≡ map (λ _. Plain) ls
-plain_under info [] = refl
-plain_under info (l ∷ ls) = ap (λ (q : List Encoding). Plain ∷ q) (plain_under info ls)
-
-pub all_plain : (trees : List ParquetType) (n : ℕ) (ess : List (Vec Encoding Global)) → length trees ≤ n → ((rest : List (Vec Encoding Global)) → ArePlain (trees_view (drop n trees)) rest → ArePlain (trees_view trees) (ess ++ rest)) → ArePlain (trees_view trees) ess
-all_plain trees n ess le h = subst (ArePlain (trees_view trees)) (append-nil ess) (h [] (subst (λ ts. ArePlain (trees_view ts) []) (sym (drop_of_length-le trees le)) tt))
+pub named_under : (wanted : Bool) (t : TypeTree) (info : Info) (ls : List Leaf) → names_of wanted t (map (under info) ls) ≡ names_of wanted t ls
+named_under wanted t info [] = refl
+named_under wanted t info (l ∷ ls) = ap (λ (q : List Encoding). encoding_name (field_encoding wanted t l) ∷ q) (named_under wanted t info ls)
 
 pub same_keys : (o : Option (Vec KeyValue Global)) → keys_in o ≡ pairs_view o
 same_keys None = refl
@@ -96,3 +97,68 @@ tree_left ts i fs f gs e h = go ts i (h ∙ ap trees_of e)
         never q = cc
     go (t ∷ ts) zero q = omega arith
     go (t ∷ ts) (suc i) q = omega (arith, go ts i q)
+
+-- ---- encodings
+
+-- a field as it is viewed
+field_seen : (x : Field) → field_view x ≡ field (string_bytes x.name) (type_view x.data_type) x.is_nullable x.metadata
+field_seen x = fold_out-Field TypeTree FieldTree type_step field_step x
+
+pub chosen_on :
+    (wanted : Bool) (x : Field) (fs gs : FieldTrees) (ts : Trees) (t : Tree) (us : Trees) (es : List Encoding) (ess : List (List Encoding)) → fs ≡ more_fields (field_view x) gs → ts ≡ tree t us
+    → es ≡ names_of wanted (type_view x.data_type) (leaves t) → AreChosen wanted gs us ess → AreChosen wanted fs ts (es ∷ ess)
+chosen_on wanted x fs gs ts t us es ess ef et names h =
+    let seen : fs ≡ more_fields (field (string_bytes x.name) (type_view x.data_type) x.is_nullable x.metadata) gs = ef ∙ ap (λ (f : FieldTree). more_fields f gs) (field_seen x) in
+    subst (λ (k : FieldTrees). AreChosen wanted k ts (es ∷ ess)) (sym seen) (subst (λ (k : Trees). AreChosen wanted (more_fields (field (string_bytes x.name) (type_view x.data_type) x.is_nullable x.metadata) gs) k (es ∷ ess)) (sym et) (names, h))
+
+abbrev pub texts_of : List (Vec Encoding Global) → List (List Encoding)
+texts_of ess = map (λ es. es.items) ess
+
+-- one more list behind those of the fields so far
+pub chosen_more :
+    (wanted : Bool) (x : Field) (all fs gs : FieldTrees) (trees ts : Trees) (t : Tree) (us : Trees) (done after : List (Vec Encoding Global)) (es : Vec Encoding Global) → fs ≡ more_fields (field_view x) gs → ts ≡ tree t us
+    → es.items ≡ names_of wanted (type_view x.data_type) (leaves t) → after ≡ done ++ es ∷ []
+    → ((rest : List (Vec Encoding Global)) → AreChosen wanted fs ts (texts_of rest) → AreChosen wanted all trees (texts_of (done ++ rest)))
+    → (rest : List (Vec Encoding Global)) → AreChosen wanted gs us (texts_of rest) → AreChosen wanted all trees (texts_of (after ++ rest))
+chosen_more wanted x all fs gs trees ts t us done after es ef et names more h rest r =
+    subst (λ (ess : List (Vec Encoding Global)). AreChosen wanted all trees (texts_of ess)) (sym (ap (λ (q : List (Vec Encoding Global)). q ++ rest) more ∙ append_assoc done (es ∷ []) rest))
+    (h (es ∷ rest) (chosen_on wanted x fs gs ts t us es.items (texts_of rest) ef et names r))
+
+pub chosen_all :
+    (wanted : Bool) (xs : List Field) (trees : List ParquetType) (n : ℕ) (ess : List (Vec Encoding Global)) → length xs ≤ n → trees_view (drop n trees) ≡ trees_of (fields_view (drop n xs))
+    → ((rest : List (Vec Encoding Global)) → AreChosen wanted (fields_view (drop n xs)) (trees_view (drop n trees)) (texts_of rest) → AreChosen wanted (fields_view xs) (trees_view trees) (texts_of (ess ++ rest)))
+    → AreChosen wanted (fields_view xs) (trees_view trees) (texts_of ess)
+chosen_all wanted xs trees n ess le same h =
+    let none : fields_view (drop n xs) ≡ no_fields = ap fields_view (drop_of_length-le xs le) in
+    let no_more : trees_view (drop n trees) ≡ no_trees = same ∙ ap trees_of none in
+    subst (λ (q : List (Vec Encoding Global)). AreChosen wanted (fields_view xs) (trees_view trees) (texts_of q)) (append-nil ess)
+    (h [] (subst (λ (k : FieldTrees). AreChosen wanted k (trees_view (drop n trees)) []) (sym none) (subst (λ (k : Trees). AreChosen wanted no_fields k []) (sym no_more) tt)))
+
+-- a type of values has some
+pub values_have : (t : TypeTree) → is_leaf (base t) ≡ true → IsLeafType t
+values_have (t_extension n t m) e = values_have t e
+values_have t_null e = absurd (true≢false (sym e))
+values_have t_boolean e = λ h. absurd cc
+values_have t_int8 e = λ h. absurd cc
+values_have t_int16 e = λ h. absurd cc
+values_have t_int32 e = λ h. absurd cc
+values_have t_int64 e = λ h. absurd cc
+values_have t_uint8 e = λ h. absurd cc
+values_have t_uint16 e = λ h. absurd cc
+values_have t_uint32 e = λ h. absurd cc
+values_have t_uint64 e = λ h. absurd cc
+values_have (t_timestamp u z) e = λ h. absurd cc
+values_have t_date32 e = λ h. absurd cc
+values_have t_date64 e = λ h. absurd cc
+values_have (t_time32 u) e = λ h. absurd cc
+values_have (t_time64 u) e = λ h. absurd cc
+values_have (t_duration u) e = λ h. absurd cc
+values_have (t_interval YearMonth) e = λ h. absurd cc
+values_have (t_interval DayTime) e = λ h. absurd cc
+values_have t_binary e = λ h. absurd cc
+values_have (t_fixed_size_binary n) e = λ h. absurd cc
+values_have t_large_binary e = λ h. absurd cc
+values_have t_utf8 e = λ h. absurd cc
+values_have t_large_utf8 e = λ h. absurd cc
+values_have (t_decimal p s) e = λ h. absurd cc
+values_have t e = absurd (true≢false (sym e))

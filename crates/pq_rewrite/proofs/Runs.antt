@@ -1,12 +1,11 @@
 -- What a run says, by its answer.
-use Rattle.std.proofs.Common.{◌≡◌, ◌≢◌, ◌⊎◌, ◌↔◌, inl, inr, ◌≤◌, ℕ, zero, suc, Bool, true, false, List, ◌++◌, length, Option, Some, None, Result, Ok, Err, refl, sym, ap, subst, ◌∙◌, arith}
+use Rattle.std.proofs.Common.{◌≡◌, ◌≢◌, ◌⊎◌, ◌↔◌, inl, inr, ◌≤◌, ℕ, zero, suc, List, ◌++◌, length, Option, Some, None, Result, Ok, Err, refl, sym, ap, subst, ◌∙◌, arith}
 use Rattle.std.specs.Prelude.{IsErrOf}
 use Rattle.std.proofs.lemmas.List.{append-nil, length-append}
 use Rattle.columns_base.specs.declared.error.Error.{Error}
 use Rattle.columns_base.specs.declared.error.Error.TheVariants.{ReadFault, WriteFault, InputLimit, OutOfSpec, NotYetImplemented, InvalidArgumentError, Overflow, Memory}
 use Rattle.columns_base.specs.declared.error.Limit.TheVariants.{Bytes, Pairs}
 use Rattle.columns_base.specs.declared.error.A.TheVariants.{A1, A8}
-use Rattle.columns_base.specs.declared.error.N.TheVariants.{N4}
 use Rattle.pq_io.specs.Causes.{Rose}
 use Rattle.pq_io.specs.Reading.{GaveAll, GavePast}
 use Rattle.pq_headline.specs.Laws.{RefusedIsNotValid}
@@ -14,7 +13,7 @@ use Rattle.pq_headline.specs.Rewrites.{Asked, Codec}
 use Rattle.pq_headline.specs.Stages.{Valid}
 use Rattle.rewrite_words.specs.declared.options.RewriteOptions.{RewriteOptions}
 use Rattle.pq_rewrite.specs.Answer.{Answered, Ends, KeptUnlessWritten, Meaning, Refused, Rewrote}
-use Rattle.pq_rewrite.specs.Asks.{AreServed, Causes, asked_by}
+use Rattle.pq_rewrite.specs.Asks.{Causes, asked_by}
 use Rattle.pq_rewrite.specs.Ended.{AreDeclined, AreTaken, Declines, Ended}
 use Rattle.pq_rewrite.specs.Notes.{line, status}
 use Rattle.pq_rewrite.specs.Run.{Held, IsRefusedFor}
@@ -73,7 +72,7 @@ complete_by codec asked gives limit e tells kept n law eq (Err (InvalidArgumentE
 complete_by codec asked gives limit e tells kept n law eq (Err (Overflow x), s, t, r, k) = invalid codec asked gives limit n e (Overflow x) law r
 complete_by codec asked gives limit e tells kept n law eq (Err Memory, s, t, r, k) = inr (inr (inr (inl s)))
 
--- ---- options that are not served
+-- ---- a chunk size of no rows
 
 some_rows : (n : ℕ) → Some (suc n) ≡ Some 0 → ⊥
 some_rows n e = absurd cc
@@ -86,40 +85,19 @@ rows_or None = inr (whole_groups None refl)
 rows_or (Some zero) = inl refl
 rows_or (Some (suc n)) = inr (some_rows n)
 
-is_true : (b : Bool) → b ≡ true → b ≡ false → ⊥
-is_true true e f = absurd cc
-is_true false e f = absurd cc
-
-served_or : (o : RewriteOptions) (d : Bool) → o.delta ≡ d → AreServed o ⊎ (¬ AreServed o)
-served_or o true e = inr (λ h. is_true o.delta e h.delta)
-served_or o false e = inl (record { delta = e })
-
-abbrev AreNot : RewriteOptions → Type 0
-AreNot o = (o.chunk_size ≡ Some 0) ⊎ ((o.chunk_size ≢ Some 0) × (¬ AreServed o))
-
-taken_or : (o : RewriteOptions) → AreTaken o ⊎ AreNot o
-taken_or o = elim (rows_or o.chunk_size) [
-  | inl z ↦ inr (inl z)
-  | inr p ↦ elim (served_or o o.delta refl) [ inl h ↦ inl (p, h) | inr h ↦ inr (inr (p, h)) ]
-]
-
 declined : (o : RewriteOptions) (tells : List ℕ → Type 0) (untouched : Type 0) (answer : Result Report Error) (n : ℕ) (x : Error) → Declines o x → answer ≡ Err x → untouched → n ≡ status answer → tells (line answer) → AreDeclined o tells untouched n
 declined o tells untouched answer n x d e u s t = record { reason = x; declines = d; is_status = s ∙ ap status e; told = subst (λ a. tells (line a)) e t; untouched = u }
 
 -- what a call says, by what its rewrite answered
 pub ended_by : (o : RewriteOptions) (m : Meaning) (e : Ends) (tells : List ℕ → Type 0) (untouched kept : Type 0) (answer : Result Report Error) (n : ℕ)
     → (IsErrOf answer (InvalidArgumentError A1) ↔ (o.chunk_size ≡ Some 0))
-    → (o.chunk_size ≢ Some 0 → (¬ AreServed o) → answer ≡ Err (NotYetImplemented N4))
-    → ((o.chunk_size ≡ Some 0) ⊎ (¬ AreServed o) → untouched)
-    → (o.chunk_size ≢ Some 0 → AreServed o → Rewrote m o.byte_limit e answer)
+    → (o.chunk_size ≡ Some 0 → untouched)
+    → (o.chunk_size ≢ Some 0 → Rewrote m o.byte_limit e answer)
     → KeptUnlessWritten kept answer
     → n ≡ status answer → tells (line answer) → Ended o m e tells untouched kept n
-ended_by o m e tells untouched kept answer n a1 n4 same said k s t = elim (taken_or o) [
-  | inl h ↦ inr (h, (answer, s, t, said h.0 h.1, k))
-  | inr h ↦ inl (elim h [
-    | inl z ↦ declined o tells untouched answer n (InvalidArgumentError A1) (inl (refl, z)) (a1.1 z) (same (inl z)) s t
-    | inr u ↦ declined o tells untouched answer n (NotYetImplemented N4) (inr (refl, u.0, u.1)) (n4 u.0 u.1) (same (inr u.1)) s t
-  ])
+ended_by o m e tells untouched kept answer n a1 same said k s t = elim (rows_or o.chunk_size) [
+  | inl z ↦ inl (declined o tells untouched answer n (InvalidArgumentError A1) (refl, z) (a1.1 z) (same z) s t)
+  | inr h ↦ inr (h, (answer, s, t, said h, k))
 ]
 
 -- ---- what follows of it
@@ -129,7 +107,7 @@ refused_by o m e tells untouched kept n (inl d) low high = inl d
 refused_by o m e tells untouched kept n (inr h) low high = inr (refused_for m o.byte_limit e tells kept n h.1 low high)
 
 not_taken : (o : RewriteOptions) (tells : List ℕ → Type 0) (untouched : Type 0) (n : ℕ) → AreDeclined o tells untouched n → AreTaken o → ⊥
-not_taken o tells untouched n d h = elim d.declines [ inl z ↦ h.0 z.1 | inr u ↦ u.2 h.1 ]
+not_taken o tells untouched n d h = h d.declines.1
 
 pub answered_by : (o : RewriteOptions) (m : Meaning) (e : Ends) (tells : List ℕ → Type 0) (untouched kept : Type 0) (n : ℕ) → Ended o m e tells untouched kept n → AreTaken o → Answered m o.byte_limit e tells kept n
 answered_by o m e tells untouched kept n (inl d) h = absurd (not_taken o tells untouched n d h)
@@ -142,3 +120,12 @@ same_options o p e = cc
 pub complete_as : (codec : Codec) (o p : RewriteOptions) (gives : List ℕ → List ℕ → Report → Type 0) (e : Ends) (tells : List ℕ → Type 0) (untouched kept : Type 0) (n : ℕ) → RefusedIsNotValid → Some o ≡ Some p → Ended o (record { gives = gives; refuses = Causes codec (asked_by o) }) e tells untouched kept n → AreTaken p → IsComplete codec (asked_by p) e n
 complete_as codec o p gives e tells untouched kept n law same ended taken =
     subst (λ (q : RewriteOptions). AreTaken q → IsComplete codec (asked_by q) e n) (same_options o p same) (λ t. complete_by codec (asked_by o) gives o.byte_limit e tells kept n law refl (answered_by o (record { gives = gives; refuses = Causes codec (asked_by o) }) e tells untouched kept n ended t)) taken
+
+-- the same where they are declined
+pub declined_as : (o p : RewriteOptions) (m : Meaning) (e : Ends) (tells : List ℕ → Type 0) (untouched kept : Type 0) (n : ℕ) → Some o ≡ Some p → Ended o m e tells untouched kept n → (¬ AreTaken p) → AreDeclined p tells untouched n
+declined_as o p m e tells untouched kept n same ended =
+    subst (λ (q : RewriteOptions). (¬ AreTaken q) → AreDeclined q tells untouched n) (same_options o p same) (by ended)
+  where
+    by : Ended o m e tells untouched kept n → (¬ AreTaken o) → AreDeclined o tells untouched n
+    by (inl d) t = d
+    by (inr h) t = absurd (t h.0)

@@ -9,7 +9,8 @@ use Rattle.pq_tree.specs.TreeViews.{metadata_view}
 use Rattle.pq_metadata.specs.Footer.{Footer}
 use Rattle.pq_numbers.specs.Texts.{Begins}
 use Rattle.pq_rewrite.specs.declared.report.Report.{Report}
-use Rattle.pq_headline.specs.Rewrites.{Codec, HasFooterAt, InfersSchema}
+use Rattle.pq_headline.specs.Rewrites.{Codec, HasFooterAt}
+use Rattle.pq_headline.specs.Stages.{Passes6}
 use Rattle.pq_headline.specs.Arrays.{seen_in}
 use Rattle.pq_headline.specs.Laws.{WrittenIsConverted}
 use Rattle.pq_headline.specs.Rows.{Seen}
@@ -28,24 +29,24 @@ footer_at input place f law h e said = record {
 pub whole :
     (codec : Codec) (job : Job) (before now : Option (List (List Seen))) (output : Output) (file : List ℕ) (report : Report)
     → WrittenIsConverted → (d : DidAll job (metadata_view job.metadata.now).groups before now output)
-    → HasFooterAt job.input.now job.place (metadata_view job.metadata.now)
-    → InfersSchema codec (asked_of job).rule (metadata_view job.metadata.now) (schema_view job.plan.now.schema)
+    → Passes6 codec (asked_of job) job.input.now job.place (metadata_view job.metadata.now) (schema_view job.plan.now.schema)
     → Finishes codec job d.chunks file report
     → Gives codec (asked_of job) before now job.input.now file report
 unfolding Gives
-whole codec job before now output file report law d f i p = (
+whole codec job before now output file report law d s p = (
   map seen_in d.chunks,
   record {
     place = job.place;
     footer = metadata_view job.metadata.now;
-    has_footer = f;
+    has_footer = s.fifth.fourth.third.footer;
     schema = schema_view job.plan.now.schema;
-    inferred = i;
+    inferred = s.infers;
     outs = p.0;
     converts = law (asked_of job) (fields_in job) (tree_in job) job.input.now job.place (metadata_view job.metadata.now).groups d.chunks p.0 d.read p.1;
     packed = p.2.0;
     counted = p.2.1;
   },
+  s,
   d.sees,
 )
 

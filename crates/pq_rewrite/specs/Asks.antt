@@ -1,11 +1,11 @@
 -- The options as what is asked for, and what a rewrite may make of an input.
-use Rattle.std.specs.Prelude.{◌≡◌, ◌⊎◌, ℕ, List, Option, false}
+use Rattle.std.specs.Prelude.{◌≡◌, ◌⊎◌, ℕ, List, Option}
 use Rattle.columns_base.specs.declared.error.Error.{Error}
 use Rattle.columns_base.specs.declared.error.Error.TheVariants.{Memory}
 use Rattle.columns_core.specs.View.{SchemaTree}
 use Rattle.pq_headline.specs.Rewrites.{Asked, Codec, Counts, Rewrites}
 use Rattle.pq_headline.specs.Rows.{Seen}
-use Rattle.pq_headline.specs.Stages.{Refuses}
+use Rattle.pq_headline.specs.Stages.{Passes6, Refuses}
 use Rattle.pq_rewrite.specs.Answer.{IsOfInput}
 use Rattle.pq_rewrite.specs.Views.{Sees}
 use Rattle.rewrite_words.specs.declared.options.RewriteOptions.{RewriteOptions}
@@ -23,19 +23,16 @@ asked_by o =
       pair_limit = o.pair_limit;
     }
 
--- Delta encodings are not written yet.
-pub record AreServed (o : RewriteOptions) : Type 0 where
-  pub delta : o.delta ≡ false
-
 abbrev pub codec_of : (SchemaTree → List ℕ) → (List ℕ → Option SchemaTree) → Codec
 codec_of bytes_of reads = record { bytes_of = bytes_of; reads = reads }
 
 abbrev pub counts_of : Report → Counts
 counts_of r = record { groups = r.groups; rows = r.rows; data_pages = r.data_pages }
 
--- The output may come of the input, and the view was shown its pieces.
+-- The output may come of the input, of which no condition of the stages up to the schema's holds, and the view was shown its pieces.
 unfoldable pub Gives : Codec → Asked → Option (List (List Seen)) → Option (List (List Seen)) → List ℕ → List ℕ → Report → Type 0
-Gives codec asked before now input output report = (shown : List (List Seen)) × Rewrites codec asked input output (counts_of report) shown × Sees before now shown
+Gives codec asked before now input output report =
+    (shown : List (List Seen)) × (r : Rewrites codec asked input output (counts_of report) shown) × Passes6 codec asked input r.place r.footer r.schema × Sees before now shown
 
 -- Why an input is refused.
 unfoldable pub Causes : Codec → Asked → List ℕ → Error → Type 0

@@ -1,28 +1,26 @@
--- What a call says whose options may ask for what is not served.
+-- What a call says whose options may ask for pieces of no rows.
 use Rattle.std.specs.Prelude.{◌≡◌, ◌≢◌, ◌⊎◌, ◌++◌, ℕ, List, Some, codes, String, map, string_bytes, Option}
 use Rattle.std.specs.declared.alloc.Global.{Global}
 use Rattle.columns_base.specs.Reasons.{error_text}
 use Rattle.columns_base.specs.declared.error.Error.{Error}
-use Rattle.columns_base.specs.declared.error.Error.TheVariants.{NotYetImplemented, InvalidArgumentError}
+use Rattle.columns_base.specs.declared.error.Error.TheVariants.{InvalidArgumentError}
 use Rattle.columns_base.specs.declared.error.A.TheVariants.{A1}
-use Rattle.columns_base.specs.declared.error.N.TheVariants.{N4}
 use Rattle.rewrite_words.specs.Words.{options_of}
 use Rattle.rewrite_words.specs.declared.options.RewriteOptions.{RewriteOptions}
 use Rattle.pq_rewrite.specs.Answer.{Answered, Ends, Meaning}
-use Rattle.pq_rewrite.specs.Asks.{AreServed}
 use Rattle.pq_rewrite.specs.Notes.{error_status}
 
 -- what the words ask for, if they are in the form of words
 abbrev pub asked_in : List (String Global) → Option RewriteOptions
 asked_in words = options_of (map string_bytes words)
 
--- pieces of some rows, and nothing that is not written yet
+-- pieces of some rows
 abbrev pub AreTaken : RewriteOptions → Type 0
-AreTaken o = (o.chunk_size ≢ Some 0) × AreServed o
+AreTaken o = o.chunk_size ≢ Some 0
 
--- a chunk size of no rows, or else delta encodings, which are not written yet
+-- a chunk size of no rows
 abbrev pub Declines : RewriteOptions → Error → Type 0
-Declines o e = ((e ≡ InvalidArgumentError A1) × (o.chunk_size ≡ Some 0)) ⊎ ((e ≡ NotYetImplemented N4) × (o.chunk_size ≢ Some 0) × (¬ AreServed o))
+Declines o e = (e ≡ InvalidArgumentError A1) × (o.chunk_size ≡ Some 0)
 
 -- The options were declined by the status and the line of the reason, and nothing was touched.
 pub record AreDeclined (o : RewriteOptions) (tells : List ℕ → Type 0) (kept : Type 0) (n : ℕ) : Type 0 where

@@ -22,7 +22,7 @@ use Rattle.pq_headline.specs.Stages.{AreAllAlike}
 use Rattle.read_pieces.specs.Columns.{FailsAs}
 use Rattle.assembly.specs.Giving.{FieldReading}
 use Rattle.pq_rewrite.specs.Groups.{AreGiving, AreSame}
-use Rattle.pq_rewrite.specs.Plans.{ArePlain}
+use Rattle.pq_rewrite.specs.Plans.{AreAsMany}
 
 -- ---- columns
 
@@ -54,7 +54,7 @@ pub record IsFieldOf (place : ℕ) (f : FieldTree) (chunks : List ColumnChunkMet
   pub nesting : field_nesting f ≤ 128
 
 -- Of the fields of a group some are opened, and these are left, with their leaves, chunks and encodings.
-pub record AtField (bytes : List ℕ) (place rows : ℕ) (n : Option ℕ) (fs : FieldTrees) (ls : List Leaf) (ms : List ChunkMeta) (left : FieldTrees) (others : List Leaf) (chunks : List ColumnChunkMetaData) (plain : List (Vec Encoding Global)) (iters : List FieldReading) : Type 0 where
+pub record AtField (bytes : List ℕ) (place rows : ℕ) (n : Option ℕ) (fs : FieldTrees) (ls : List Leaf) (ms : List ChunkMeta) (left : FieldTrees) (others : List Leaf) (chunks : List ColumnChunkMetaData) (encodings : List (Vec Encoding Global)) (iters : List FieldReading) : Type 0 where
   pub openings : List Opening
   pub opened : (more : List Opening) → AreOpened bytes place rows n left others (map chunk_view chunks) more → AreOpened bytes place rows n fs ls ms (openings ++ more)
   pub giving : AreGiving 0 openings iters []
@@ -64,4 +64,4 @@ pub record AtField (bytes : List ℕ) (place rows : ℕ) (n : Option ℕ) (fs : 
   pub held : CanBeWritten left
   pub served : are_served_fields left ≡ true
   pub nesting : fields_nesting left ≤ 128
-  pub plain_are : ArePlain (trees_of left) plain
+  pub encodings_are : AreAsMany (trees_of left) encodings

@@ -1,5 +1,5 @@
 -- What is settled before a page is read.
-use Rattle.std.specs.Prelude.{◌≡◌, ◌≢◌, ◌⊎◌, ◌≤◌, List, [], ◌∷◌, map, Vec, Bool, true, false}
+use Rattle.std.specs.Prelude.{◌≡◌, ◌≢◌, ◌⊎◌, ◌≤◌, List, [], ◌∷◌, length, map, Vec, Bool, true, false}
 use Rattle.std.specs.Global.{Global}
 use Rattle.std.specs.List.{AllZip}
 use Rattle.columns_base.specs.declared.error.Error.{Error}
@@ -7,13 +7,12 @@ use Rattle.columns_base.specs.declared.error.Error.TheVariants.{Memory, NotYetIm
 use Rattle.columns_base.specs.declared.error.N.TheVariants.{N5, N6}
 use Rattle.columns_base.specs.declared.error.S.TheVariants.{S8}
 use Rattle.columns_core.specs.Measures.{fields_nesting}
-use Rattle.columns_core.specs.Tree.{FieldTrees}
+use Rattle.columns_core.specs.Tree.{TypeTree, FieldTrees}
 use Rattle.columns_core.specs.View.{schema_view}
 use Rattle.pq_metadata.specs.Footer.{Footer}
-use Rattle.pq_tree.specs.Tree.{Trees, no_trees, tree, leaves}
+use Rattle.pq_tree.specs.Tree.{Leaf, Trees, no_trees, tree, leaves}
 use Rattle.pq_tree.specs.TreeViews.{schema_view as tree_schema}
 use Rattle.pq_tree.specs.declared.types.Encoding.{Encoding}
-use Rattle.pq_tree.specs.declared.types.Encoding.TheVariants.{Plain}
 use Rattle.pq_files.specs.Reasons.{AnyOf}
 use Rattle.schema_map.specs.Rows.{HasRows as FieldHasRows}
 use Rattle.schema_fit.specs.Fits.{agrees_with}
@@ -23,6 +22,8 @@ use Rattle.schema_to_tree.specs.Table.{schema_of}
 use Rattle.pq_headline.specs.Rewrites.{Codec, InfersSchema}
 use Rattle.pq_headline.specs.Served.{are_served_fields}
 use Rattle.pq_headline.specs.Stages.{HasKey, HaveRows, Misfits, SchemaFits, fields_with_columns, list_fields, trees_with_columns}
+use Rattle.write_values.specs.Deltas.{encoding_name}
+use Rattle.write_groups.specs.Laid.{AreChosen, field_encoding}
 use Rattle.pq_rewrite.specs.declared.plan.Plan.{Plan}
 
 -- what is answered of fields and trees: that they misfit, or that they agree one by one
@@ -45,19 +46,23 @@ RefusesTree fs e =
 abbrev pub MisfitReason : KeyRule → Footer → Error → Type 0
 MisfitReason rule f e = ((e ≡ OutOfSpec S8) × HasKey rule f) ⊎ ((e ≡ NotYetImplemented N6) × (¬ HasKey rule f))
 
--- PLAIN for each leaf of each tree
-abbrev pub ArePlain : Trees → List (Vec Encoding Global) → Type 0
-ArePlain no_trees [] = Unit {0}
-ArePlain (tree t ts) (es ∷ ess) = (es.items ≡ map (λ _. Plain) (leaves t)) × ArePlain ts ess
-ArePlain _ _ = ⊥
+-- as many encodings as leaves, tree by tree
+abbrev pub AreAsMany : Trees → List (Vec Encoding Global) → Type 0
+AreAsMany no_trees [] = Unit {0}
+AreAsMany (tree t ts) (es ∷ ess) = (length es.items ≡ length (leaves t)) × AreAsMany ts ess
+AreAsMany _ _ = ⊥
+
+-- the encodings of the leaves of a field of the type, by their names
+abbrev pub names_of : Bool → TypeTree → List Leaf → List Encoding
+names_of wants_deltas t ls = map (λ l. encoding_name (field_encoding wants_deltas t l)) ls
 
 -- the encodings of the leaves of one tree after another
 abbrev pub lists_of : Vec (Vec Encoding Global) Global → List (List Encoding)
 lists_of v = map (λ es. es.items) v.items
 
-pub record IsPlan (codec : Codec) (rule : KeyRule) (f : Footer) (p : Plan) : Type 0 where
+pub record IsPlan (codec : Codec) (rule : KeyRule) (wants_deltas : Bool) (f : Footer) (p : Plan) : Type 0 where
   pub infers : InfersSchema codec rule f (schema_view p.schema)
   pub nesting : fields_nesting (schema_view p.schema).fields ≤ 128
   pub fits : SchemaFits (schema_view p.schema).fields f
   pub tree : tree_schema p.tree ≡ schema_of (schema_view p.schema).fields
-  pub encodings : ArePlain (tree_schema p.tree).fields p.encodings.items
+  pub encodings : AreChosen wants_deltas (schema_view p.schema).fields (tree_schema p.tree).fields (lists_of p.encodings)

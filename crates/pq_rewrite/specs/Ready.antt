@@ -35,9 +35,10 @@ use Rattle.pq_headline.specs.Written.{HasRead, IsRefusedAt, IsWrittenAs}
 use Rattle.assembly.specs.Giving.{FieldReading}
 use Rattle.write_groups.specs.Writing.{IsWriting}
 use Rattle.write_groups.specs.declared.writer.FileWriter.{FileWriter}
-use Rattle.pq_rewrite.specs.Asks.{AreServed, asked_by, counts_of}
+use Rattle.pq_rewrite.specs.Asks.{asked_by, counts_of}
 use Rattle.pq_rewrite.specs.Groups.{IsOutput, IsUnderWay, taken_by}
-use Rattle.pq_rewrite.specs.Plans.{ArePlain}
+use Rattle.pq_rewrite.specs.Plans.{lists_of}
+use Rattle.write_groups.specs.Laid.{AreChosen}
 use Rattle.pq_rewrite.specs.Views.{Sees}
 use Rattle.pq_rewrite.specs.declared.job.Job.{Job}
 use Rattle.pq_rewrite.specs.declared.output.Output.{Output}
@@ -62,9 +63,8 @@ pub record IsReady (job : Job) : Type 0 where
   pub fits : SchemaFits (fields_in job) (metadata_view job.metadata.now)
   pub nesting : fields_nesting (fields_in job) ≤ 128
   pub tree : tree_schema job.plan.now.tree ≡ schema_of (fields_in job)
-  pub encodings : ArePlain (tree_schema job.plan.now.tree).fields job.plan.now.encodings.items
+  pub encodings : AreChosen job.options.now.delta (fields_in job) (tree_schema job.plan.now.tree).fields (lists_of job.plan.now.encodings)
   pub some : job.options.now.chunk_size ≢ Some 0
-  pub options : AreServed job.options.now
 
 -- one of its groups
 pub record IsGroup (job : Job) (group : RowGroupMetaData) : Type 0 where

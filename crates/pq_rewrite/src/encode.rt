@@ -20,7 +20,7 @@ use pq_io::PlainSink;
 use pq_tree::{CompressionOptions, Encoding, ParquetType};
 use std::alloc::Global;
 use typed_groups::{
-    know_sound, large_pages_are_large, plain_groups_are_written, suiting_chunks_are_taken,
+    groups_are_written, know_sound, large_pages_are_large, suiting_chunks_are_taken,
 };
 use write_groups::{FileWriter, row_group_iter};
 use write_pages::WriteOptions;
@@ -73,7 +73,7 @@ fn put(alloc: Global, job: &Job, chunk: Chunk, writer: &mut FileWriter<PlainSink
     know_sound(&chunk);
     suiting_chunks_are_taken();
     large_pages_are_large();
-    plain_groups_are_written();
+    groups_are_written();
     let encodings = copy_encodings(alloc, &job.plan.encodings)?;
     let trees = copy_trees(alloc, job.plan.tree.fields())?;
     match row_group_iter(alloc, chunk, encodings, trees, options_of(job.options)) {

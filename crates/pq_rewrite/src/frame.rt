@@ -1,18 +1,17 @@
 //! The frame of a call: it reads, converts, and only then writes.
-ghost use Rattle.std.specs.Prelude.{◌≡◌, ◌≢◌, ◌≤◌, ◌⊎◌, ◌↔◌, Some, Err, IsErrOf};
+ghost use Rattle.std.specs.Prelude.{◌≡◌, ◌≢◌, ◌≤◌, ◌↔◌, Some, IsErrOf};
 ghost use Rattle.columns_base.specs.declared.error.Error.{Error};
 ghost use Rattle.columns_base.specs.declared.error.A.{A};
-ghost use Rattle.columns_base.specs.declared.error.N.{N};
 ghost use Rattle.pq_io.specs.Reading.{GaveSome};
 ghost use Rattle.pq_rewrite.specs.Answer.{KeptUnlessWritten, Rewrote, ends, meaning};
-ghost use Rattle.pq_rewrite.specs.Asks.{AreServed, Causes, Gives, asked_by, codec_of};
+ghost use Rattle.pq_rewrite.specs.Asks.{Causes, Gives, asked_by, codec_of};
 ghost use Rattle.pq_rewrite.specs.Ended.{Ended};
 ghost use Rattle.pq_rewrite.specs.Notes.{Told};
 
 use crate::notes::{status_of, tell_answer};
 use crate::whole::convert;
 use crate::{Report, RewriteOptions, View};
-use columns_base::{A, Error, N, Result};
+use columns_base::{A, Error, Result};
 use pq_io::{Sink, Source, push_all, read_all};
 use schema_codec::SchemaCodec;
 use std::alloc::Global;
@@ -22,7 +21,6 @@ use std::alloc::Global;
 /// # Errors
 ///
 /// - `InvalidArgumentError(A1)`: a chunk size of no rows.
-/// - `NotYetImplemented(N4)`: delta encodings are asked for, which are not written yet; and by its condition in the file.
 /// - Each other one by its condition: see `Causes`, and `Rewrote` for the ends.
 pub fn rewrite<S: Source, K: Sink, C: SchemaCodec, V: View>(
     alloc: Global,
@@ -32,12 +30,11 @@ pub fn rewrite<S: Source, K: Sink, C: SchemaCodec, V: View>(
     options: RewriteOptions,
     view: &mut V,
 ) -> Result<Report>
-    // Of a chunk size of no rows nothing is read, and nothing where the options are not served.
+    // Of a chunk size of no rows nothing is read.
     ensures no_rows { IsErrOf result (Error.InvalidArgumentError A.A1) ↔ (options.chunk_size ≡ Some 0) }
-    ensures not_served { options.chunk_size ≢ Some 0 → (¬ AreServed options) → result ≡ Err (Error.NotYetImplemented N.N4) }
-    ensures untouched { (options.chunk_size ≡ Some 0) ⊎ (¬ AreServed options) → (source.new ≡ source.old) × (sink.new ≡ sink.old) × (view.new ≡ view.old) }
+    ensures untouched { options.chunk_size ≡ Some 0 → (source.new ≡ source.old) × (sink.new ≡ sink.old) × (view.new ≡ view.old) }
     // What every other answer says.
-    ensures answer { options.chunk_size ≢ Some 0 → AreServed options → Rewrote (meaning (Gives (codec_of (C.bytes_of codec.now) (C.reads codec.now)) (asked_by options) (V.seen view.old) (V.seen view.new)) (Causes (codec_of (C.bytes_of codec.now) (C.reads codec.now)) (asked_by options))) options.byte_limit (ends S.left S.faults K.taken K.faults source.old source.new sink.old sink.new) result }
+    ensures answer { options.chunk_size ≢ Some 0 → Rewrote (meaning (Gives (codec_of (C.bytes_of codec.now) (C.reads codec.now)) (asked_by options) (V.seen view.old) (V.seen view.new)) (Causes (codec_of (C.bytes_of codec.now) (C.reads codec.now)) (asked_by options))) options.byte_limit (ends S.left S.faults K.taken K.faults source.old source.new sink.old sink.new) result }
     ensures kept { KeptUnlessWritten (sink.new ≡ sink.old) result }
     ensures read_some { GaveSome options.byte_limit (S.left source.old) (S.left source.new) }
     ensures reads_later { S.faults source.old ≤ S.faults source.new }
@@ -45,9 +42,6 @@ pub fn rewrite<S: Source, K: Sink, C: SchemaCodec, V: View>(
 {
     if options.chunk_size == Some(0) {
         return Err(Error::InvalidArgumentError(A::A1));
-    }
-    if options.delta {
-        return Err(Error::NotYetImplemented(N::N4));
     }
     let input = read_all(alloc, source, options.byte_limit)?;
     let (made, report) = match convert(alloc, &input, &options, codec, view) {

@@ -1,31 +1,38 @@
 //! What is settled before a page is read: the schema, and how it is written.
-ghost use Rattle.std.specs.Prelude.{◌≡◌, ◌≤◌, ◌⊎◌, ◌++◌, List, IfOk, OnOk, IfErr, map, true};
+ghost use Rattle.std.specs.Prelude.{◌≡◌, ◌≤◌, ◌⊎◌, ◌++◌, List, IfOk, OnOk, IfErr, cond, ◌&&◌, true};
 ghost use Rattle.columns_base.specs.declared.error.Error.TheVariants.{Memory};
 ghost use Rattle.columns_core.specs.Measures.{fields_nesting};
-ghost use Rattle.columns_core.specs.View.{schema_view, fields_view};
+ghost use Rattle.columns_core.specs.View.{schema_view, fields_view, type_view};
 ghost use Rattle.pq_tree.specs.Tree.{leaves, leaves_of, nesting, nesting_of, schema_nesting};
 ghost use Rattle.pq_tree.specs.TreeViews.{metadata_view, tree_view, trees_view, schema_view as tree_schema};
-ghost use Rattle.pq_tree.specs.declared.types.Encoding.TheVariants.{Plain};
+ghost use Rattle.pq_tree.specs.Views.{physical_view};
+ghost use Rattle.pq_files.specs.Layout.{delta_of};
+ghost use Rattle.pq_files.specs.Page.{plain};
+ghost use Rattle.columns_core.specs.Shapes.{base, leaf_type};
+ghost use Rattle.columns_slots.specs.Types.{is_leaf};
+ghost use Rattle.write_values.specs.Deltas.{encoding_name};
+ghost use Rattle.write_groups.specs.Laid.{AreChosen};
 ghost use Rattle.schema_to_tree.specs.Conditions.{AreWritten};
 ghost use Rattle.schema_to_tree.specs.Table.{schema_of, trees_of};
 ghost use Rattle.pq_headline.specs.Served.{are_served_fields};
 ghost use Rattle.pq_headline.specs.Stages.{HaveRows, RefusesSchema6};
 ghost use Rattle.pq_rewrite.specs.Asks.{codec_of};
-ghost use Rattle.pq_rewrite.specs.Plans.{ArePlain, IsPlan, MisfitReason, RefusesTree, TellsRows};
+ghost use Rattle.pq_rewrite.specs.Plans.{IsPlan, MisfitReason, RefusesTree, TellsRows, lists_of, names_of};
 
 use crate::keys::has_key;
 use crate::misfit::is_misfit;
 use crate::served::are_fields_served;
 use columns_base::{A, Error, N, Result, S};
-use columns_core::{Field, Schema};
+use columns_core::{DataType, Field, IntervalUnit, Schema};
 use pq_headline::settled_schemas_fit;
-use pq_tree::{Encoding, FileMetaData, ParquetType, SchemaDescriptor};
+use pq_tree::{Encoding, FileMetaData, ParquetType, PhysicalType, SchemaDescriptor};
 use schema_codec::SchemaCodec;
 use schema_fit::fits;
 use schema_key::{KeyRule, infer_schema};
 use schema_map::rows_decide;
 use schema_to_tree::to_parquet_schema;
 use std::alloc::Global;
+use write_values::page_encoding;
 
 /// The schema of a file, its tree as it is written, and the encodings of the leaves of each field.
 #[derive(Drop)]
@@ -35,56 +42,109 @@ pub struct Plan {
     pub encodings: Vec<Vec<Encoding>>,
 }
 
-/// Appends PLAIN for each leaf of a tree. It nests to at most 128.
-#[cycle(leaves)]
-#[tactic(auto, using(crate::proofs::Plains::plain_under))]
-fn push_plain(encodings: &mut Vec<Encoding>, node: &ParquetType) -> Result<()>
-    requires { nesting (tree_view node.now) ≤ 128 }
-    ensures ok { OnOk result (encodings.new.items ≡ encodings.old.items ++ map (λ _. Plain) (leaves (tree_view node.now))) }
-    ensures err { IfErr result (λ e. e ≡ Memory) }
+/// Whether a type is one of values, beneath its extensions.
+fn is_leaf(data_type: &DataType) -> bool
+    ensures { result ≡ is_leaf (base (type_view data_type.now)) }
 {
-    match node {
-        ParquetType::PrimitiveType(_) => {
-            encodings.push(Encoding::Plain)?;
-            Ok(())
-        }
-        ParquetType::GroupType { fields, .. } => push_all_plain(encodings, fields),
+    match data_type.base() {
+        DataType::Boolean => true,
+        DataType::Int8 | DataType::Int16 | DataType::Int32 | DataType::Int64 => true,
+        DataType::UInt8 | DataType::UInt16 | DataType::UInt32 | DataType::UInt64 => true,
+        DataType::Timestamp(_, _) | DataType::Duration(_) => true,
+        DataType::Date32 | DataType::Date64 | DataType::Time32(_) | DataType::Time64(_) => true,
+        DataType::Interval(IntervalUnit::YearMonth | IntervalUnit::DayTime) => true,
+        DataType::Binary | DataType::FixedSizeBinary(_) | DataType::LargeBinary => true,
+        DataType::Utf8 | DataType::LargeUtf8 | DataType::Decimal(_, _) => true,
+        _ => false,
     }
 }
 
-/// Appends PLAIN for each leaf of some trees. They nest to at most 128.
+/// The encoding of a leaf of a field of the type: where deltas are wanted and the leaf is the field's own the one that its type allows, else PLAIN.
+fn encoding_of(data_type: &DataType, physical_type: PhysicalType, wants_deltas: bool) -> Encoding
+    ensures { result ≡ encoding_name (cond (wants_deltas && is_leaf (base (type_view data_type.now))) (delta_of (leaf_type (type_view data_type.now)) (physical_view physical_type)) plain) }
+{
+    if !wants_deltas {
+        return Encoding::Plain;
+    }
+    if !is_leaf(data_type) {
+        return Encoding::Plain;
+    }
+    page_encoding(data_type, physical_type, true)
+}
+
+/// Appends the encoding of each leaf of a tree, which is of a field of the type. The tree nests to at most 128.
 #[cycle(leaves)]
-fn push_all_plain(encodings: &mut Vec<Encoding>, nodes: &Vec<ParquetType>) -> Result<()>
+#[tactic(auto, using(crate::proofs::Plains::named_under))]
+fn push_encodings(
+    encodings: &mut Vec<Encoding>,
+    node: &ParquetType,
+    data_type: &DataType,
+    wants_deltas: bool,
+) -> Result<()>
+    requires { nesting (tree_view node.now) ≤ 128 }
+    ensures ok { OnOk result (encodings.new.items ≡ encodings.old.items ++ names_of wants_deltas (type_view data_type.now) (leaves (tree_view node.now))) }
+    ensures err { IfErr result (λ e. e ≡ Memory) }
+{
+    match node {
+        ParquetType::PrimitiveType(leaf) => {
+            encodings.push(encoding_of(data_type, leaf.physical_type, wants_deltas))?;
+            Ok(())
+        }
+        ParquetType::GroupType { fields, .. } => {
+            push_all_encodings(encodings, fields, data_type, wants_deltas)
+        }
+    }
+}
+
+/// Appends the encoding of each leaf of some trees, which are of a field of the type. They nest to at most 128.
+#[cycle(leaves)]
+fn push_all_encodings(
+    encodings: &mut Vec<Encoding>,
+    nodes: &Vec<ParquetType>,
+    data_type: &DataType,
+    wants_deltas: bool,
+) -> Result<()>
     requires { nesting_of (trees_view nodes.now.items) ≤ 128 }
-    ensures ok { OnOk result (encodings.new.items ≡ encodings.old.items ++ map (λ _. Plain) (leaves_of (trees_view nodes.now.items))) }
+    ensures ok { OnOk result (encodings.new.items ≡ encodings.old.items ++ names_of wants_deltas (type_view data_type.now) (leaves_of (trees_view nodes.now.items))) }
     ensures err { IfErr result (λ e. e ≡ Memory) }
 {
     for node in nodes {
-        push_plain(encodings, node)?;
+        push_encodings(encodings, node, data_type, wants_deltas)?;
     }
     Ok(())
 }
 
-/// PLAIN for each leaf of one tree.
-fn plain_in(alloc: Global, node: &ParquetType) -> Result<Vec<Encoding>>
+/// The encodings of the leaves of a field of the type.
+fn encodings_in(
+    alloc: Global,
+    node: &ParquetType,
+    data_type: &DataType,
+    wants_deltas: bool,
+) -> Result<Vec<Encoding>>
     requires { nesting (tree_view node.now) ≤ 128 }
-    ensures ok { IfOk result (λ v. v.items ≡ map (λ _. Plain) (leaves (tree_view node.now))) }
+    ensures ok { IfOk result (λ v. v.items ≡ names_of wants_deltas (type_view data_type.now) (leaves (tree_view node.now))) }
     ensures err { IfErr result (λ e. e ≡ Memory) }
 {
     let mut encodings = Vec::new(alloc);
-    push_plain(&mut encodings, node)?;
+    push_encodings(&mut encodings, node, data_type, wants_deltas)?;
     Ok(encodings)
 }
 
-/// PLAIN for each leaf of each tree.
-fn plain_encodings(alloc: Global, trees: &[ParquetType]) -> Result<Vec<Vec<Encoding>>>
-    requires { nesting_of (trees_view trees.now) ≤ 128 }
-    ensures ok { IfOk result (λ v. ArePlain (trees_view trees.now) v.items) }
+/// The encodings of the leaves of each field. The trees are those that the fields are written as.
+fn choose_encodings(
+    alloc: Global,
+    fields: &[Field],
+    trees: &[ParquetType],
+    wants_deltas: bool,
+) -> Result<Vec<Vec<Encoding>>>
+    requires nesting { nesting_of (trees_view trees.now) ≤ 128 }
+    requires trees { trees_view trees.now ≡ trees_of (fields_view fields.now) }
+    ensures ok { IfOk result (λ v. AreChosen wants_deltas (fields_view fields.now) (trees_view trees.now) (lists_of v)) }
     ensures err { IfErr result (λ e. e ≡ Memory) }
 {
     let mut encodings = Vec::new(alloc);
-    for tree in trees {
-        encodings.push(plain_in(alloc, tree)?)?;
+    for (i, field) in fields.iter().enumerate() {
+        encodings.push(encodings_in(alloc, &trees[i], &field.data_type, wants_deltas)?)?;
     }
     Ok(encodings)
 }
@@ -136,7 +196,7 @@ fn misfit_of(rule: KeyRule, metadata: &FileMetaData) -> Error
     }
 }
 
-/// Settles the schema. Of a schema that is settled no condition of the sixth stage holds.
+/// Settles the schema and the encodings of its leaves. Of a schema that is settled no condition of the sixth stage holds.
 ///
 /// # Errors
 ///
@@ -149,9 +209,10 @@ pub fn plan_schema<C: SchemaCodec>(
     alloc: Global,
     metadata: &FileMetaData,
     rule: KeyRule,
+    wants_deltas: bool,
     codec: &C,
 ) -> Result<Plan>
-    ensures ok { IfOk result (IsPlan (codec_of (C.bytes_of codec.now) (C.reads codec.now)) rule (metadata_view metadata.now)) }
+    ensures ok { IfOk result (IsPlan (codec_of (C.bytes_of codec.now) (C.reads codec.now)) rule wants_deltas (metadata_view metadata.now)) }
     ensures refused { IfErr result (λ e. (e ≡ Memory) ⊎ RefusesSchema6 (codec_of (C.bytes_of codec.now) (C.reads codec.now)) rule (metadata_view metadata.now) e) }
 {
     settled_schemas_fit();
@@ -169,7 +230,7 @@ pub fn plan_schema<C: SchemaCodec>(
         Ok(tree) => tree,
         Err(error) => return Err(error),
     };
-    let encodings = plain_encodings(alloc, tree.fields())?;
+    let encodings = choose_encodings(alloc, &schema.fields, tree.fields(), wants_deltas)?;
     Ok(Plan {
         schema,
         tree,

@@ -1,6 +1,6 @@
 //! A whole input to a whole output.
 ghost use Rattle.std.specs.Prelude.{◌≡◌, ◌≢◌, Some, IfOk, IfErr};
-ghost use Rattle.pq_rewrite.specs.Asks.{AreServed, Gives, Says, asked_by, codec_of};
+ghost use Rattle.pq_rewrite.specs.Asks.{Gives, Says, asked_by, codec_of};
 
 use crate::checks::{check_pairs, place_of};
 use crate::finish::{begin_output, finish_output};
@@ -25,7 +25,6 @@ pub fn convert<C: SchemaCodec, V: View>(
     view: &mut V,
 ) -> Result<(PlainSink, Report)>
     requires rows { options.now.chunk_size ≢ Some 0 }
-    requires served { AreServed options.now }
     ensures ok { IfOk result (λ made. Gives (codec_of (C.bytes_of codec.now) (C.reads codec.now)) (asked_by options.now) (V.seen view.old) (V.seen view.new) input.now made.0.bytes.items made.1) }
     ensures err { IfErr result (Says (codec_of (C.bytes_of codec.now) (C.reads codec.now)) (asked_by options.now) input.now) }
 {
@@ -41,7 +40,7 @@ pub fn convert<C: SchemaCodec, V: View>(
     if let Err(error) = check_groups(&metadata, place) {
         return Err(error);
     }
-    let plan = match plan_schema(alloc, &metadata, options.key_rule, codec) {
+    let plan = match plan_schema(alloc, &metadata, options.key_rule, options.delta, codec) {
         Ok(plan) => plan,
         Err(error) => return Err(error),
     };

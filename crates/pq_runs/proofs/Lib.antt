@@ -1,3 +1,4 @@
+pub mod BitNumbers
 pub mod Complete
 pub mod Decoding
 pub mod DeltaComplete
@@ -8,6 +9,7 @@ pub mod Fields
 pub mod Filled
 pub mod Fuel
 pub mod Groups
+pub mod HeldBits
 pub mod Items
 pub mod Kept
 pub mod Mixed

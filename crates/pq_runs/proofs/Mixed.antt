@@ -99,6 +99,30 @@ keeps_mixed start out mid out' width block block1 block' number count last front
       spent = spent_mixed width start out out' block block' count (length front) xs numbers size mixed k.spent bits;
     }
 
+-- one number that waited is packed with the others, and one more waits
+pub keeps_behind : (start out out' : List ℕ) (width : ℕ) (block block' : List ℕ) (number count last : ℕ) (front numbers xs : List ℕ)
+    → count ≡ 1 → numbers ≡ front ++ last ∷ [] → length numbers + 34 ≤ 14 * stretches numbers → Takes width out block out' block' (width * (length (number ∷ front) + 7) + 8)
+    → ((start' ys : List ℕ) → Wrote width start' out block ys → Wrote width start' out' block' (ys ++ (number ∷ front)))
+    → ((start' done : ℕ) → IsTight width start' (length out) done → Tighter width start' (length out') (length block') (done + length block + length (number ∷ front)))
+    → Keeps start out (waiting width block number count) xs → Keeps start out' (waiting width block' last 1) (xs ++ numbers)
+keeps_behind start out out' width block block' number count last front numbers xs one e mixed t f g k =
+    let size : length numbers ≡ length front + 1 = ap length e ∙ length-append front (last ∷ []) in
+    let waits : k.encoded.settled ++ number ∷ [] ≡ xs = ap (λ (n : ℕ). k.encoded.settled ++ replicate n number) (sym one) ∙ k.encoded.all in
+    let behind : k.encoded.settled ++ (number ∷ front) ≡ xs ++ front = sym (append_assoc k.encoded.settled (number ∷ []) front) ∙ ap (λ (ys : List ℕ). ys ++ front) waits in
+    let two = g (length start) k.done k.tight in
+    let all : length (xs ++ numbers) ≡ length xs + (length front + 1) = length-append xs numbers ∙ ap (λ (j : ℕ). length xs + j) size in
+    let any : one_if_any count ≡ 1 = ap one_if_any one in
+    let more : width * (length (number ∷ front) + 7) ≡ width * (length front + 7) + width = omega arith in
+    let spare : stretch_bits width * one_if_any count ≡ 14 * width + 152 = ap (λ (n : ℕ). stretch_bits width * n) any ∙ omega arith in
+    let bits : Takes width out block out' block' (stretch_bits width * one_if_any count + (width * (length front + 7) + 8)) = omega (arith, t, more, spare) in
+    record {
+      encoded = record { settled = xs ++ front; all = append_assoc xs front (last ∷ []) ∙ ap (λ (ys : List ℕ). xs ++ ys) (sym e); wrote = subst (λ (ys : List ℕ). Wrote width start out' block' ys) behind (f start k.encoded.settled k.encoded.wrote) };
+      done = two.0;
+      split = omega (arith, two.1, k.split, all, one);
+      tight = two.2;
+      spent = spent_mixed width start out out' block block' count (length front) xs numbers size mixed k.spent bits;
+    }
+
 -- ---- numbers into the block
 
 filled-more : (w b n : ℕ) → w * filled_up (b + n) ≤ w * filled_up b + w * (n + 7)

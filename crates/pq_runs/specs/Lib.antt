@@ -2,6 +2,7 @@ pub mod Decoder
 pub mod Delta
 pub mod DeltaReading
 pub mod DeltaWriting
+pub mod Held
 pub mod Hybrid
 pub mod Examples
 pub mod Listed
@@ -9,6 +10,7 @@ pub mod Packing
 pub mod Runs
 pub mod Spelled
 pub mod State
+pub mod Stored
 pub mod Taking
 pub mod Writing
 pub mod Stretches

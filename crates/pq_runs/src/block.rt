@@ -1,33 +1,56 @@
 //! Numbers that wait to be packed.
 
-ghost use Rattle.std.specs.Prelude.{◌≡◌, ◌<◌, ◌≤◌, ◌+◌, ◌++◌, List, [], ◌∷◌, length, take, replicate};
+ghost use Rattle.std.specs.Prelude.{◌≡◌, ◌<◌, ◌≤◌, ◌+◌, ◌*◌, ◌/◌, ◌%◌, ◌^◌, ◌++◌, ℕ, List, [], ◌∷◌, length, replicate, OnOk, All};
+ghost use Rattle.pq_numbers.specs.Varint.{varint};
+ghost use Rattle.pq_runs.specs.Packing.{ArePacked};
+ghost use Rattle.pq_runs.specs.Writing.{Extends};
+ghost use Rattle.pq_runs.specs.Words.{bit_numbers};
 
+use crate::bit_block::BitBlock;
+use crate::numbers::Numbers;
+use crate::runs::{push_bit_groups, push_groups};
+use crate::settle::front;
+use crate::words::{copies_of, numbers_of};
+use std::alloc::AllocError;
 use std::marker::Model;
 
-/// At most 63 groups of eight, so that the header of their run takes one byte. Behind them are eight places more, so that eight copies are always put at once.
+/// At most 63 groups of eight, so that the header of their run takes one byte. Those of a writer of one bit are packed as they come.
 #[derive(Drop)]
 pub struct Block {
-    numbers: [u32; 512],
-    filled: usize,
+    store: Store,
+}
+
+/// How a block keeps its numbers.
+#[derive(Drop)]
+pub enum Store {
+    /// Each is 0 or 1.
+    Bits(BitBlock),
+    /// As they are.
+    Others(Numbers),
 }
 
 impl Model for Block {
-    ghost use Rattle.std.specs.Prelude.{List, ℕ, take, ◌≤◌};
+    ghost use Rattle.std.specs.Prelude.{List, ℕ};
+    ghost use Rattle.pq_runs.specs.Stored.{stored};
 
     ghost Value = { List ℕ };
 
-    ghost view = { λ b. take b.filled b.numbers };
-
-    ghost invariant = { λ b. b.filled ≤ 504 };
+    ghost view = { λ b. stored b.store };
 }
 
 impl Block {
-    pub fn new() -> Self
+    // A block for numbers of so many bits.
+    pub fn new(width: u32) -> Self
         ensures { result ≡ [] }
     {
-        Block {
-            numbers: [0; 512],
-            filled: 0,
+        if width == 1 {
+            Block {
+                store: Store::Bits(BitBlock::new()),
+            }
+        } else {
+            Block {
+                store: Store::Others(Numbers::new()),
+            }
         }
     }
 
@@ -35,15 +58,10 @@ impl Block {
         ensures value { result ≡ length self.now }
         ensures most { result ≤ 504 }
     {
-        self.filled
-    }
-
-    pub fn push(&mut self, number: u32)
-        requires { length self.old < 504 }
-        ensures { self.new ≡ self.old ++ number ∷ [] }
-    {
-        self.numbers[self.filled] = number;
-        self.filled += 1;
+        match &self.store {
+            Store::Bits(bits) => bits.len(),
+            Store::Others(numbers) => numbers.len(),
+        }
     }
 
     // Appends so many copies of a number.
@@ -53,8 +71,25 @@ impl Block {
         requires room { length self.old + count ≤ 504 }
         ensures { self.new ≡ self.old ++ replicate count number }
     {
-        put_eight(&mut self.numbers, self.filled, number);
-        self.filled += count;
+        match &mut self.store {
+            Store::Others(numbers) => numbers.push_few(number, count),
+            Store::Bits(bits) => {
+                if number < 2 {
+                    bits.add(copies_of(number, count), count as u32);
+                } else {
+                    let mut numbers = Numbers::of(bits);
+                    numbers.push_few(number, count);
+                    self.store = Store::Others(numbers);
+                }
+            }
+        }
+    }
+
+    pub fn push(&mut self, number: u32)
+        requires { length self.old < 504 }
+        ensures { self.new ≡ self.old ++ number ∷ [] }
+    {
+        self.push_few(number, 1);
     }
 
     // Appends numbers.
@@ -63,39 +98,77 @@ impl Block {
         requires { length self.old + length numbers.now ≤ 504 }
         ensures { self.new ≡ self.old ++ numbers.now }
     {
-        put_numbers(&mut self.numbers, self.filled, numbers);
-        self.filled += numbers.len();
+        match &mut self.store {
+            Store::Others(others) => others.append(numbers),
+            Store::Bits(bits) => {
+                let mut others = Numbers::of(bits);
+                others.append(numbers);
+                self.store = Store::Others(others);
+            }
+        }
+    }
+
+    // Appends numbers by the bits of a word.
+    #[inline(always)]
+    pub fn append_bits(&mut self, low: u32, word: u64, count: usize)
+        requires few { count ≤ 64 }
+        requires word { word < 2 ^ count }
+        requires low { All (λ v. v < 2 ^ 32) (bit_numbers low word 0 count) }
+        requires room { length self.old + count ≤ 504 }
+        ensures { self.new ≡ self.old ++ bit_numbers low word 0 count }
+    {
+        match &mut self.store {
+            Store::Others(others) => append_spelled(others, low, word, count),
+            Store::Bits(bits) => {
+                if low == 0 {
+                    bits.add_word(word, count as u32);
+                } else {
+                    let mut others = Numbers::of(bits);
+                    append_spelled(&mut others, low, word, count);
+                    self.store = Store::Others(others);
+                }
+            }
+        }
     }
 
     pub fn clear(&mut self)
         ensures { self.new ≡ [] }
     {
-        self.filled = 0;
+        match &mut self.store {
+            Store::Bits(bits) => bits.clear(),
+            Store::Others(numbers) => numbers.clear(),
+        }
     }
 
-    pub fn as_slice(&self) -> &[u32]
-        ensures { result.now ≡ self.now }
+    // Writes a run of the numbers, which are whole groups.
+    pub fn push_run(&self, out: &mut Vec<u8>, width: u32) -> Result<(), AllocError>
+        requires fits { width ≤ 32 }
+        requires few { length self.now ≤ 504 }
+        requires whole { length self.now % 8 ≡ 0 }
+        requires below { All (λ v. v < 2 ^ width) self.now }
+        ensures ok { OnOk result ((body : List ℕ) × (out.new.items ≡ out.old.items ++ (varint (2 * (length self.now / 8) + 1) ++ body)) × ArePacked width self.now body) }
+        ensures kept { Extends out.old.items out.new.items }
     {
-        &self.numbers[..self.filled]
+        match &self.store {
+            Store::Others(numbers) => push_groups(out, numbers.as_slice(), width),
+            Store::Bits(bits) => {
+                if width == 1 {
+                    push_bit_groups(out, bits)
+                } else {
+                    push_groups(out, Numbers::of(bits).as_slice(), width)
+                }
+            }
+        }
     }
 }
 
-// Eight copies of a number take their places, and the numbers before them stay.
-#[inline(always)]
-fn put_eight(numbers: &mut [u32], at: usize, number: u32)
-    requires { at + 8 ≤ length numbers.old }
-    ensures len { length numbers.new ≡ length numbers.old }
-    ensures front { take (at + 8) numbers.new ≡ take at numbers.old ++ replicate 8 number }
+// Appends numbers by the bits of a word as they are. It is no part of its callers, since it fills room for them first.
+#[inline(never)]
+fn append_spelled(others: &mut Numbers, low: u32, word: u64, count: usize)
+    requires few { count ≤ 64 }
+    requires low { All (λ v. v < 2 ^ 32) (bit_numbers low word 0 count) }
+    requires room { length others.old + count ≤ 504 }
+    ensures { others.new ≡ others.old ++ bit_numbers low word 0 count }
 {
-    numbers[at..at + 8].copy_from_slice(&[number; 8]);
-}
-
-// Numbers take their places, and those before them stay.
-#[inline(always)]
-fn put_numbers(places: &mut [u32], at: usize, numbers: &[u32])
-    requires { at + length numbers.now ≤ length places.old }
-    ensures len { length places.new ≡ length places.old }
-    ensures front { take (at + length numbers.now) places.new ≡ take at places.old ++ numbers.now }
-{
-    places[at..at + numbers.len()].copy_from_slice(numbers);
+    others.append(front(&numbers_of(low, word), count));
 }

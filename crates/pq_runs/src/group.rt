@@ -48,7 +48,7 @@ fn word_of(numbers: [u32; 8], width: u32) -> u64
 
 // Eight bytes take their places, and those before them stay.
 #[inline(always)]
-fn put_bytes(places: &mut [u8], at: usize, bytes: [u8; 8])
+pub fn put_bytes(places: &mut [u8], at: usize, bytes: [u8; 8])
     requires { at + 8 ≤ length places.old }
     ensures len { length places.new ≡ length places.old }
     ensures front { take (at + 8) places.new ≡ take at places.old ++ bytes }

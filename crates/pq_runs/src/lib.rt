@@ -2,6 +2,7 @@
 //! "Run Length Encoding / Bit-Packing Hybrid").
 #![tactic(auto)]
 
+mod bit_block;
 mod bits;
 mod block;
 mod decoder;
@@ -10,6 +11,7 @@ mod group;
 mod hybrid;
 pub mod hybrid_rle;
 mod laws;
+mod numbers;
 mod pack;
 mod plain;
 mod run;
@@ -18,6 +20,7 @@ mod settle;
 mod state;
 mod whole;
 mod wide;
+mod words;
 mod writer;
 
 pub use bits::{get_bit_width, unpack};

@@ -5,6 +5,7 @@ ghost use Rattle.pq_numbers.specs.Varint.{varint};
 ghost use Rattle.pq_runs.specs.Packing.{ArePacked};
 ghost use Rattle.pq_runs.specs.Writing.{Extends, Wrote, IsWhole};
 
+use crate::bit_block::BitBlock;
 use crate::block::Block;
 use crate::group::push_narrow;
 use crate::pack::{push_packed, push_whole_bytes};
@@ -40,6 +41,16 @@ pub fn push_groups(out: &mut Vec<u8>, numbers: &[u32], width: u32) -> Result<(),
     push_body(out, numbers, width)
 }
 
+// A run of packed numbers of one bit, which are whole groups.
+pub fn push_bit_groups(out: &mut Vec<u8>, bits: &BitBlock) -> Result<(), AllocError>
+    requires whole { length bits.now % 8 ≡ 0 }
+    ensures ok { OnOk result ((body : List ℕ) × (out.new.items ≡ out.old.items ++ (varint (2 * (length bits.now / 8) + 1) ++ body)) × ArePacked 1 bits.now body) }
+    ensures kept { Extends out.old.items out.new.items }
+{
+    push_varint(out, 2 * (bits.len() as u64 / 8) + 1)?;
+    out.extend_from_slice(bits.packed())
+}
+
 // A run of copies.
 pub fn push_copies(out: &mut Vec<u8>, number: u32, count: u64, width: u32) -> Result<(), AllocError>
     requires fits { width ≤ 32 }
@@ -64,7 +75,7 @@ pub fn flush(out: &mut Vec<u8>, block: &mut Block, width: u32) -> Result<(), All
     ensures kept { Extends out.old.items out.new.items }
 {
     if block.len() > 0 {
-        push_groups(out, block.as_slice(), width)?;
+        block.push_run(out, width)?;
         block.clear();
     }
     Ok(())

@@ -3,9 +3,11 @@
 ghost use Rattle.std.specs.Prelude.{◌≡◌, ◌<◌, ◌≤◌, ◌^◌, ◌+◌, ◌*◌, ◌/◌, ◌++◌, ℕ, List, length, take, drop, replicate, OnOk, All};
 ghost use Rattle.pq_runs.specs.Writing.{Extends, Wrote, IsTight};
 ghost use Rattle.pq_runs.specs.Stretches.{Takes, one_if_any, stretch_bits};
+ghost use Rattle.pq_runs.specs.Words.{bit_numbers};
 
 use crate::block::Block;
 use crate::runs::{flush, push_copies};
+use crate::words::{high_bits, low_bits};
 use std::alloc::AllocError;
 
 // From so many copies on a run of their own, with the header of the packed run before it, takes no more bytes than they would take packed.
@@ -102,5 +104,39 @@ pub fn pack(
     block.append(front(numbers, room));
     flush(out, block, width)?;
     block.append(behind(numbers, room));
+    Ok(())
+}
+
+// Takes numbers by the bits of a word into the groups of the block, as they stand.
+pub fn pack_bits(
+    out: &mut Vec<u8>,
+    block: &mut Block,
+    low: u32,
+    word: u64,
+    count: usize,
+    width: u32,
+) -> Result<(), AllocError>
+    requires some { 1 ≤ width }
+    requires fits { width ≤ 32 }
+    requires few { count ≤ 64 }
+    requires word { word < 2 ^ count }
+    requires room { length block.old < 504 }
+    requires below { All (λ v. v < 2 ^ width) block.old }
+    requires numbers { All (λ v. v < 2 ^ width) (bit_numbers low word 0 count) }
+    ensures room { OnOk result (length block.new < 504) }
+    ensures below { OnOk result (All (λ v. v < 2 ^ width) block.new) }
+    ensures wrote { OnOk result ((start xs : List ℕ) → Wrote width start out.old.items block.old xs → Wrote width start out.new.items block.new (xs ++ bit_numbers low word 0 count)) }
+    ensures tight { OnOk result ((start done : ℕ) → IsTight width start (length out.old.items) done → (more : ℕ) × (done + length block.old + length (bit_numbers low word 0 count) ≡ more + length block.new) × IsTight width start (length out.new.items) more) }
+    ensures short { OnOk result (Takes width out.old.items block.old out.new.items block.new (width * (length (bit_numbers low word 0 count) + 7) + 8)) }
+    ensures kept { Extends out.old.items out.new.items }
+{
+    let room = 504 - block.len();
+    if count < room {
+        block.append_bits(low, word, count);
+        return Ok(());
+    }
+    block.append_bits(low, low_bits(word, room), room);
+    flush(out, block, width)?;
+    block.append_bits(low, high_bits(word, room), count - room);
     Ok(())
 }

@@ -4,10 +4,11 @@ ghost use Rattle.std.specs.Prelude.{◌≡◌, ◌==◌, ◌<◌, ◌≤◌, ◌
 ghost use Rattle.pq_runs.specs.WrittenRuns.{WrittenRuns};
 ghost use Rattle.pq_runs.specs.Writing.{Extends, Wrote, Keeps, AppendsRuns};
 ghost use Rattle.pq_runs.specs.Stretches.{filled_up, stretches};
+ghost use Rattle.pq_runs.specs.Words.{bit_numbers};
 
 use crate::block::Block;
-use crate::runs::push_groups;
-use crate::settle::{front, pack, settle};
+use crate::settle::{front, pack, pack_bits, settle};
+use crate::words::{are_mixed_bits, behind_bit, low_bits, stretch_end};
 use std::alloc::AllocError;
 use std::marker::Model;
 
@@ -44,7 +45,7 @@ impl RunWriter {
     {
         RunWriter {
             width,
-            block: Block::new(),
+            block: Block::new(width),
             number: 0,
             count: 0,
         }
@@ -183,6 +184,131 @@ impl RunWriter {
         self.push_others(out, numbers)
     }
 
+    // The same where one number waits that the word could tell too: it is packed before the others.
+    #[inline(always)]
+    fn push_behind_one(
+        &mut self,
+        out: &mut Vec<u8>,
+        low: u32,
+        word: u64,
+        count: usize,
+    ) -> Result<(), AllocError>
+        requires one { self.old.count ≡ 1 }
+        requires least { low ≤ self.old.number }
+        requires near { self.old.number ≤ low + 1 }
+        requires low { All (λ v. v < 2 ^ self.old.width) (bit_numbers low word 0 count) }
+        requires some { 1 ≤ count }
+        requires few { count ≤ 64 }
+        requires mixed { count + 34 ≤ 14 * stretches (bit_numbers low word 0 count) }
+        ensures width { self.new.width ≡ self.old.width }
+        ensures added { OnOk result ((start xs : List ℕ) → Keeps start out.old.items self.old xs → Keeps start out.new.items self.new (xs ++ bit_numbers low word 0 count)) }
+        ensures kept { Extends out.old.items out.new.items }
+    {
+        let _width = &self.width;
+        let rest = count - 1;
+        let last = low + ((word >> rest) & 1) as u32;
+        let bits = behind_bit(low_bits(word, rest), self.number - low, rest);
+        let packed = pack_bits(out, &mut self.block, low, bits, count, self.width);
+        if packed.is_err() {
+            self.block.clear();
+            return packed;
+        }
+        self.number = last;
+        self.count = 1;
+        Ok(())
+    }
+
+    // Numbers of many short stretches by the bits of a word, which are packed as they stand. The last one waits.
+    #[inline(always)]
+    fn push_mixed_bits(
+        &mut self,
+        out: &mut Vec<u8>,
+        low: u32,
+        word: u64,
+        count: usize,
+    ) -> Result<(), AllocError>
+        requires low { All (λ v. v < 2 ^ self.old.width) (bit_numbers low word 0 count) }
+        requires some { 1 ≤ count }
+        requires few { count ≤ 64 }
+        requires mixed { count + 34 ≤ 14 * stretches (bit_numbers low word 0 count) }
+        ensures width { self.new.width ≡ self.old.width }
+        ensures added { OnOk result ((start xs : List ℕ) → Keeps start out.old.items self.old xs → Keeps start out.new.items self.new (xs ++ bit_numbers low word 0 count)) }
+        ensures kept { Extends out.old.items out.new.items }
+    {
+        let _width = &self.width;
+        let rest = count - 1;
+        let front = low_bits(word, rest);
+        let last = low + ((word >> rest) & 1) as u32;
+        let settled = settle(out, &mut self.block, self.number, self.count, self.width);
+        if settled.is_err() {
+            self.block.clear();
+            return settled;
+        }
+        let packed = pack_bits(out, &mut self.block, low, front, rest, self.width);
+        if packed.is_err() {
+            self.block.clear();
+            return packed;
+        }
+        self.number = last;
+        self.count = 1;
+        Ok(())
+    }
+
+    // Numbers of few stretches by the bits of a word, stretch by stretch.
+    fn push_stretches(
+        &mut self,
+        out: &mut Vec<u8>,
+        low: u32,
+        word: u64,
+        count: usize,
+    ) -> Result<(), AllocError>
+        requires few { count ≤ 64 }
+        requires low { All (λ v. v < 2 ^ self.old.width) (bit_numbers low word 0 count) }
+        ensures width { self.new.width ≡ self.old.width }
+        ensures added { OnOk result ((start xs : List ℕ) → Keeps start out.old.items self.old xs → Keeps start out.new.items self.new (xs ++ bit_numbers low word 0 count)) }
+        ensures kept { Extends out.old.items out.new.items }
+    {
+        let _width = &self.width;
+        let mut at = 0;
+        while at < count {
+            let number = low + ((word >> at) & 1) as u32;
+            let end = stretch_end(word, at, count);
+            self.push_some(out, number, (end - at) as u64)?;
+            at = end;
+        }
+        Ok(())
+    }
+
+    /// Takes up to 64 numbers by the bits of a word, the lowest first: `low` where the bit is 0, and one more where it is 1.
+    ///
+    /// # Errors
+    ///
+    /// Want of memory; the writer is then of no more use, and `out` has what it had in front.
+    pub fn push_bits(
+        &mut self,
+        out: &mut Vec<u8>,
+        low: u32,
+        word: u64,
+        count: usize,
+    ) -> Result<(), AllocError>
+        requires few { count ≤ 64 }
+        requires low { All (λ v. v < 2 ^ self.old.width) (bit_numbers low word 0 count) }
+        ensures width { self.new.width ≡ self.old.width }
+        ensures added { OnOk result ((start xs : List ℕ) → Keeps start out.old.items self.old xs → Keeps start out.new.items self.new (xs ++ bit_numbers low word 0 count)) }
+        ensures kept { Extends out.old.items out.new.items }
+    {
+        if count == 0 {
+            return Ok(());
+        }
+        if are_mixed_bits(word, count) {
+            if self.count == 1 && self.number >= low && self.number - low <= 1 {
+                return self.push_behind_one(out, low, word, count);
+            }
+            return self.push_mixed_bits(out, low, word, count);
+        }
+        self.push_stretches(out, low, word, count)
+    }
+
     /// Writes what waits. What was appended since the start is then written runs of all numbers that were given: whole groups, the last filled up
     /// with zeros, in at most `2 * width + 19` bytes for each stretch of up to `2^40` equal numbers and one byte.
     ///
@@ -262,5 +388,5 @@ fn push_last(out: &mut Vec<u8>, block: &mut Block, width: u32) -> Result<(), All
     while block.len() % 8 != 0 {
         block.push(0);
     }
-    push_groups(out, block.as_slice(), width)
+    block.push_run(out, width)
 }

@@ -1,5 +1,5 @@
 -- What was taken of a column can be read of it, and each piece is a part of it.
-use Rattle.std.proofs.Common.{◌≡◌, ◌⊎◌, inl, inr, ℕ, zero, suc, ◌+◌, ◌-◌, ◌*◌, ◌<◌, ◌≤◌, Bool, true, false, is_some, nat_eq, cond, Option, Some, None, List, [], ◌∷◌, ◌++◌, map, length, drop, All, refl, arith, ap, sym, subst, ◌∙◌, append_assoc, append-nil, count_by}
+use Rattle.std.proofs.Common.{◌≡◌, ◌⊎◌, inl, inr, ℕ, zero, suc, ◌+◌, ◌-◌, ◌*◌, ◌<◌, ◌≤◌, Bool, true, false, is_some, nat_eq, cond, Option, Some, None, List, [], ◌∷◌, ◌++◌, map, length, drop, All, refl, arith, ap, sym, ◌∙◌, append_assoc, append-nil, count_by}
 use Rattle.std.proofs.lemmas.Bool.{cases_lt}
 use Rattle.std.proofs.lemmas.List.{length-map, drop_at}
 use Rattle.std.proofs.lemmas.List.Elements.{All-nil, All-cons, All-head, All-tail}
@@ -11,29 +11,32 @@ use Rattle.shredding.specs.Shred.{Triple}
 use Rattle.shredding.specs.Slot.{Value}
 use Rattle.pq_files.specs.Chunk.{IsPageIn, Page, RawPage, count_in}
 use Rattle.pq_files.specs.Levels.{HasLevels}
-use Rattle.pq_files.specs.Page.{Encoding, delta, delta_length, HasEncoding, IsCounted, IsSpelled, IsSplit, LevelsAreRuns, Sections, rows_in, values_in}
-use Rattle.pq_files.specs.PageReasons.{HasPairs, IsOutside, ShowsPairs, called_by}
+use Rattle.pq_files.specs.Page.{Encoding, delta, delta_length, HasEncoding, IsCounted, IsSplit, LevelsAreRuns, Sections, rows_in, values_in}
+use Rattle.pq_files.specs.PageReasons.{HasPairs, IsOutside, IsRead, ShowsPairs, called_by}
+use Rattle.pq_files.specs.Prefixes.{BeginsValues}
 use Rattle.pq_files.specs.RowReasons.{ReadsTriples, without_value}
 use Rattle.pq_files.specs.Stored.{AreStored}
 use Rattle.pq_files.proofs.PageOnce.{encoding_same}
 use Rattle.pq_files.proofs.Triples.{count_present, IsPresent}
 use Rattle.pq_files.proofs.Unique.{every, levels_same, split_same}
-use Rattle.pq_headline.specs.Columns.{ArrowColumn, is_dictionary}
+use Rattle.pq_headline.specs.Columns.{ArrowColumn, is_alone, is_dictionary}
 use Rattle.pq_headline.specs.FieldReasons.{IsNotReadIn, IsPieceOf, ReadsPages}
 use Rattle.pq_headline.specs.Openings.{piece_size}
-use Rattle.pq_numbers.specs.Texts.{Begins}
 use Rattle.pq_pages.specs.Held.{ArePagesIn}
 use Rattle.pq_pages.specs.Outcomes.{Levels, Outcome, gives_page, gives_dictionary, fails}
 use Rattle.pq_tree.specs.Headers.{Header, data_page, data_page_2, dictionary_page}
 use Rattle.pq_tree.specs.Physical.{Physical}
 use Rattle.pq_tree.specs.Tree.{Leaf, max_definition, max_repetition}
 use Rattle.read_pieces.specs.Columns.{rows_of_all}
-use Rattle.read_column.specs.Opened.{IsServed, IsServedPage, encoding_by}
+use Rattle.read_column.specs.Deltas.{IsReadBy, deltas_in}
+use Rattle.read_column.specs.Opened.{IsServed, IsServedPage}
+use Rattle.read_column.specs.declared.deltas.Deltas.{Deltas}
 use Rattle.read_column.specs.Reading.{stored_in}
 use Rattle.read_column.specs.Taken.{AreSized}
 use Rattle.read_column.proofs.Columns.{rows-sized}
-use Rattle.read_column.proofs.Dictionaries.{begins-values}
 use Rattle.read_column.proofs.Pages.{inside-stored}
+use Rattle.read_column.proofs.Turned.{is-flat}
+use Rattle.read_column.proofs.Values.{begins-values}
 use Rattle.read_column.proofs.Ways.{rows-cons}
 
 -- ---- triples without values
@@ -65,21 +68,21 @@ shows-pairs l p s ts runs split reps defs few = record {
   few = omega (arith, few, length-map ts without_value);
 }
 
-pub reads-triples : (t : LeafType) (l : Leaf) (es : Option (List Value)) (indexed : Bool) (p : RawPage) (s : Sections) (ts : List Triple) (called : ℕ) →
-    HasEncoding p.header (encoding_by indexed) → LevelsAreRuns l p.header → IsSplit l p.header p.body s → HasLevels (max_repetition l) s.repetition (map (λ t. t.repetition) ts) → HasLevels (max_definition l) s.definition (map (λ t. t.definition) ts) → length ts ≤ count_in p.header → BeginsRow ts →
-    All (λ x. is_some x.value ≡ nat_eq x.definition (max_definition l)) ts → ((all : List Triple) → HasPairs l p all → called ≡ called_by l all) → length (values_in ts) ≤ called → Begins (IsSpelled (encoding_by indexed) l es) s.values (values_in ts) → All (λ v. IsOutside t l.physical v → ⊥) (values_in ts) → ReadsTriples t l es p ts
-reads-triples t l es indexed p s ts called encoded runs split reps defs few begins present calls less spelled inside = record {
+pub reads-triples : (t : LeafType) (l : Leaf) (es : Option (List Value)) (e : Encoding) (p : RawPage) (s : Sections) (ts : List Triple) (called : ℕ) →
+    HasEncoding p.header e → LevelsAreRuns l p.header → IsSplit l p.header p.body s → HasLevels (max_repetition l) s.repetition (map (λ t. t.repetition) ts) → HasLevels (max_definition l) s.definition (map (λ t. t.definition) ts) → length ts ≤ count_in p.header → BeginsRow ts →
+    All (λ x. is_some x.value ≡ nat_eq x.definition (max_definition l)) ts → ((all : List Triple) → HasPairs l p all → called ≡ called_by l all) → BeginsValues e l es called s.values (values_in ts) × IsRead l e → All (λ v. IsOutside t l.physical v → ⊥) (values_in ts) → ReadsTriples t l es p ts
+reads-triples t l es e p s ts called encoded runs split reps defs few begins present calls spelled inside = record {
   pairs = record {
-    encoding = encoding_by indexed;
+    encoding = e;
     has_encoding = encoded;
-    is_read = (begins-values indexed l es called s.values (values_in ts) less spelled).1;
+    is_read = spelled.1;
     shows = shows-pairs l p s ts runs split reps defs few;
     begins_row = begins-without ts begins;
   };
   present = present;
   called = called;
   calls = calls;
-  begins = (begins-values indexed l es called s.values (values_in ts) less spelled).0;
+  begins = spelled.0;
   inside = inside;
 }
 
@@ -107,28 +110,19 @@ pub whole-reads : (t : LeafType) (l : Leaf) (es : Option (List Value)) (p : RawP
 whole-reads t l es p q ts served in-page stored =
     let is = in-page.is in
     let size = count-is p.header q.triples served is.counted in
-    let e : is.encoding ≡ encoding_by served.0 = encoding_same p.header is.encoding (encoding_by served.0) is.has_encoding served.1 in
-    let spelled : Begins (IsSpelled (encoding_by served.0) l es) is.sections.values (values_in q.triples) = subst (λ (x : Encoding). Begins (IsSpelled x l es) is.sections.values (values_in q.triples)) e is.values in
-    (reads-triples t l es served.0 p is.sections q.triples (called_by l q.triples) served.1 is.runs is.split is.repetitions is.definitions (omega (arith, size)) is.begins_row is.present (calls-same l p is.sections q.triples is.split is.definitions size) (omega (arith, values-called l q.triples is.present)) spelled (inside-stored t l.physical ts q.triples stored), size)
+    (reads-triples t l es is.encoding p is.sections q.triples (called_by l q.triples) is.has_encoding is.runs is.split is.repetitions is.definitions (omega (arith, size)) is.begins_row is.present (calls-same l p is.sections q.triples is.split is.definitions size) (begins-values is.encoding l es (called_by l q.triples) is.sections.values (values_in q.triples) (values-called l q.triples is.present) is.values) (inside-stored t l.physical ts q.triples stored), size)
 
 -- ---- what can be read of a column
 not-both : (b : Bool) → b ≡ true → b ≡ false → ⊥
 not-both b t f = cc (t, f)
 
-no-delta : (indexed : Bool) → encoding_by indexed ≡ delta → ⊥
-no-delta true e = cc e
-no-delta false e = cc e
-
-no-lengths : (indexed : Bool) → encoding_by indexed ≡ delta_length → ⊥
-no-lengths true e = cc e
-no-lengths false e = cc e
-
-pub is-read : (c : ArrowColumn) (h : Header) → is_dictionary c.data_type ≡ false → IsServed h → IsNotReadIn c h → ⊥
-is-read c h direct served (inl x) = not-both (is_dictionary c.data_type) x.0 direct
-is-read c h direct served (inr x) = elim x.1 [
-  | inl d ↦ no-delta served.0 (encoding_same h (encoding_by served.0) delta served.1 d)
-  | inr d ↦ no-lengths served.0 (encoding_same h (encoding_by served.0) delta_length served.1 d)
-]
+pub is-read : (c : ArrowColumn) (l : Leaf) (h : Header) (own : Bool) (k : Deltas) (e : Encoding) → is_dictionary c.data_type ≡ false → HasEncoding h e → IsReadBy own k e → k ≡ deltas_in (is_alone c.way) l.physical → IsNotReadIn c h → ⊥
+is-read c l h own k e direct has read is (inl x) = not-both (is_dictionary c.data_type) x.0 direct
+is-read c l h own k e direct has read is (inr x) = not-both (is_alone c.way) (is-flat own (is_alone c.way) k l.physical e (which x.1) is read) x.0
+  where
+    which : HasEncoding h delta ⊎ HasEncoding h delta_length → (e ≡ delta) ⊎ (e ≡ delta_length)
+    which (inl d) = inl (encoding_same h e delta has d)
+    which (inr d) = inr (encoding_same h e delta_length has d)
 
 stored-cut : (t : LeafType) (p : Physical) (ts a b : List Triple) → AreStored t p ts (a ++ b) → (x : List Triple) × (y : List Triple) × AreStored t p x a × AreStored t p y b
 stored-cut t p ts [] b s = ([], ts, tt, s)
@@ -136,37 +130,37 @@ stored-cut t p [] (z ∷ a) b s = absurd s
 stored-cut t p (u ∷ ts) (z ∷ a) b s = let r = stored-cut t p ts a b s.1 in (u ∷ r.0, r.1, (s.0, r.2), r.3)
 
 -- the pages taken, and the front of the next one
-pub reads-more : (c : ArrowColumn) (l : Leaf) (es : Option (List Value)) (os left : List Outcome) (ps : List Page) (p : RawPage) (levels : Levels) (ts zs : List Triple) → is_dictionary c.data_type ≡ false → ArePagesIn l es os ps → All IsServedPage os → AreStored (leaf_type c.data_type) l.physical ts (stored_in ps) → IsServed p.header → ReadsTriples (leaf_type c.data_type) l es p zs → ReadsPages c l es (os ++ gives_page p levels ∷ left) (stored_in ps ++ zs)
-reads-more c l es [] left [] p levels ts zs direct a served s h reads = (is-read c p.header direct h, inl reads)
-reads-more c l es [] left (q ∷ ps) p levels ts zs direct a served s h reads = absurd a
-reads-more c l es (gives_page r lv ∷ os) left [] p levels ts zs direct a served s h reads = absurd a
-reads-more c l es (gives_page r lv ∷ os) left (q ∷ ps) p levels ts zs direct a served s h reads =
+pub reads-more : (c : ArrowColumn) (l : Leaf) (es : Option (List Value)) (os left : List Outcome) (ps : List Page) (p : RawPage) (levels : Levels) (ts zs : List Triple) → ArePagesIn l es os ps → All (IsServedPage c) os → AreStored (leaf_type c.data_type) l.physical ts (stored_in ps) → IsServedPage c (gives_page p levels) → ReadsTriples (leaf_type c.data_type) l es p zs → ReadsPages c l es (os ++ gives_page p levels ∷ left) (stored_in ps ++ zs)
+reads-more c l es [] left [] p levels ts zs a served s h reads = (h.1, inl reads)
+reads-more c l es [] left (q ∷ ps) p levels ts zs a served s h reads = absurd a
+reads-more c l es (gives_page r lv ∷ os) left [] p levels ts zs a served s h reads = absurd a
+reads-more c l es (gives_page r lv ∷ os) left (q ∷ ps) p levels ts zs a served s h reads =
     let t = leaf_type c.data_type in
-    let here = All-head IsServedPage (gives_page r lv) os served in
+    let here = All-head (IsServedPage c) (gives_page r lv) os served in
     let cut = stored-cut t l.physical ts q.triples (stored_in ps) s in
-    let whole = whole-reads t l es r q cut.0 here a.0 cut.2 in
-    (is-read c r.header direct here, inr (q.triples, stored_in ps ++ zs, whole.0, whole.1, reads-more c l es os left ps p levels cut.1 zs direct a.1 (All-tail IsServedPage (gives_page r lv) os served) cut.3 h reads, append_assoc q.triples (stored_in ps) zs))
-reads-more c l es (gives_dictionary n body ∷ os) left ps p levels ts zs direct a served s h reads = absurd a
-reads-more c l es (fails e ∷ os) left ps p levels ts zs direct a served s h reads = absurd a
+    let whole = whole-reads t l es r q cut.0 here.0 a.0 cut.2 in
+    (here.1, inr (q.triples, stored_in ps ++ zs, whole.0, whole.1, reads-more c l es os left ps p levels cut.1 zs a.1 (All-tail (IsServedPage c) (gives_page r lv) os served) cut.3 h reads, append_assoc q.triples (stored_in ps) zs))
+reads-more c l es (gives_dictionary n body ∷ os) left ps p levels ts zs a served s h reads = absurd a
+reads-more c l es (fails e ∷ os) left ps p levels ts zs a served s h reads = absurd a
 
 -- the pages taken, of which there is one
-pub reads-taken : (c : ArrowColumn) (l : Leaf) (es : Option (List Value)) (os left : List Outcome) (ps : List Page) (ts : List Triple) → is_dictionary c.data_type ≡ false → ArePagesIn l es os ps → All IsServedPage os → AreStored (leaf_type c.data_type) l.physical ts (stored_in ps) → 0 < length os → ReadsPages c l es (os ++ left) (stored_in ps)
-reads-taken c l es [] left ps ts direct a served s some = absurd (omega (arith, some))
-reads-taken c l es (gives_page r lv ∷ os) left [] ts direct a served s some = absurd a
-reads-taken c l es (gives_page r lv ∷ []) left (q ∷ []) ts direct a served s some =
+pub reads-taken : (c : ArrowColumn) (l : Leaf) (es : Option (List Value)) (os left : List Outcome) (ps : List Page) (ts : List Triple) → ArePagesIn l es os ps → All (IsServedPage c) os → AreStored (leaf_type c.data_type) l.physical ts (stored_in ps) → 0 < length os → ReadsPages c l es (os ++ left) (stored_in ps)
+reads-taken c l es [] left ps ts a served s some = absurd (omega (arith, some))
+reads-taken c l es (gives_page r lv ∷ os) left [] ts a served s some = absurd a
+reads-taken c l es (gives_page r lv ∷ []) left (q ∷ []) ts a served s some =
     let t = leaf_type c.data_type in
-    let here = All-head IsServedPage (gives_page r lv) [] served in
+    let here = All-head (IsServedPage c) (gives_page r lv) [] served in
     let cut = stored-cut t l.physical ts q.triples [] s in
-    (is-read c r.header direct here, inl (rw (append-nil q.triples) (whole-reads t l es r q cut.0 here a.0 cut.2).0))
-reads-taken c l es (gives_page r lv ∷ []) left (q ∷ x ∷ ps) ts direct a served s some = absurd a.1
-reads-taken c l es (gives_page r lv ∷ o ∷ os) left (q ∷ ps) ts direct a served s some =
+    (here.1, inl (rw (append-nil q.triples) (whole-reads t l es r q cut.0 here.0 a.0 cut.2).0))
+reads-taken c l es (gives_page r lv ∷ []) left (q ∷ x ∷ ps) ts a served s some = absurd a.1
+reads-taken c l es (gives_page r lv ∷ o ∷ os) left (q ∷ ps) ts a served s some =
     let t = leaf_type c.data_type in
-    let here = All-head IsServedPage (gives_page r lv) (o ∷ os) served in
+    let here = All-head (IsServedPage c) (gives_page r lv) (o ∷ os) served in
     let cut = stored-cut t l.physical ts q.triples (stored_in ps) s in
-    let whole = whole-reads t l es r q cut.0 here a.0 cut.2 in
-    (is-read c r.header direct here, inr (q.triples, stored_in ps, whole.0, whole.1, reads-taken c l es (o ∷ os) left ps cut.1 direct a.1 (All-tail IsServedPage (gives_page r lv) (o ∷ os) served) cut.3 (omega arith), refl))
-reads-taken c l es (gives_dictionary n body ∷ os) left ps ts direct a served s some = absurd a
-reads-taken c l es (fails e ∷ os) left ps ts direct a served s some = absurd a
+    let whole = whole-reads t l es r q cut.0 here.0 a.0 cut.2 in
+    (here.1, inr (q.triples, stored_in ps, whole.0, whole.1, reads-taken c l es (o ∷ os) left ps cut.1 a.1 (All-tail (IsServedPage c) (gives_page r lv) (o ∷ os) served) cut.3 (omega arith), refl))
+reads-taken c l es (gives_dictionary n body ∷ os) left ps ts a served s some = absurd a
+reads-taken c l es (fails e ∷ os) left ps ts a served s some = absurd a
 
 -- ---- parts of a column
 starts : (t : Triple) → (nat_eq t.repetition 0 ≡ true) ⊎ (nat_eq t.repetition 0 ≡ false)

@@ -8,25 +8,20 @@ use Rattle.std.proofs.lemmas.List.{length-map, length-replicate, length-take, ta
 use Rattle.std.proofs.lemmas.Option.{same_Some, slice_get_within}
 use Rattle.shredding.specs.Shape.{LeafType}
 use Rattle.shredding.specs.Slot.{Value, truth, number, bytes}
-use Rattle.pq_files.specs.Chunk.{count_in}
 use Rattle.pq_files.specs.Indices.{IsIndices, IsIndexed}
-use Rattle.pq_files.specs.Page.{Encoding, plain, dictionary, HasEncoding, IsSpelled}
-use Rattle.pq_files.specs.PageReasons.{IsOutside, IsRead}
+use Rattle.pq_files.specs.Page.{Encoding, dictionary, IsSpelled}
+use Rattle.pq_files.specs.PageReasons.{IsOutside}
 use Rattle.pq_files.specs.Plain.{IsOne, InARow, IsPlain}
-use Rattle.pq_files.specs.Prefixes.{BeginsValues}
-use Rattle.pq_files.proofs.PageOnce.{encoding_same}
 use Rattle.pq_files.proofs.PlainOnce.{plain_same}
 use Rattle.pq_numbers.specs.Texts.{Begins}
 use Rattle.pq_runs.specs.Hybrid.{Item as Index, given, hybrid}
 use Rattle.pq_runs.proofs.Complete.{reads}
 use Rattle.pq_runs.proofs.Sound.{is_spelled}
-use Rattle.pq_tree.specs.Headers.{Header}
 use Rattle.pq_tree.specs.Physical.{Physical, boolean, int32, int64, int96, float, double, byte_array, fixed}
 use Rattle.pq_tree.specs.Tree.{Leaf}
 use Rattle.read_pieces.specs.Leaves.{IsLoaded, IsValue, ReadsPlain, in_bytes}
 use Rattle.read_walk.specs.Values.{Stored}
-use Rattle.read_column.specs.Dictionary.{AreTextsOf, HasValues, IsEntry, IsLaid, StopsAt, Texts, all_of, indices_in}
-use Rattle.read_column.specs.Opened.{encoding_by}
+use Rattle.read_column.specs.Dictionary.{AreTextsOf, IsEntry, IsLaid, StopsAt, Texts, all_of, indices_in}
 use Rattle.read_column.proofs.Fewer.{fewer-read}
 use Rattle.read_column.proofs.Fronts.{hybrid-front}
 use Rattle.read_column.proofs.Taking.{le-holds, lt-fails, lt-holds}
@@ -218,7 +213,7 @@ zip-front R (suc k) [] (y ∷ ys) a = absurd a
 zip-front R (suc k) (x ∷ xs) [] a = absurd a
 zip-front R (suc k) (x ∷ xs) (y ∷ ys) a = (a.0, zip-front R k xs ys a.1)
 
-row-front : (p : Physical) (k : ℕ) (text : List ℕ) (vs : List Value) → InARow p text vs → (a : List ℕ) × (b : List ℕ) × (text ≡ a ++ b) × InARow p a (take k vs)
+pub row-front : (p : Physical) (k : ℕ) (text : List ℕ) (vs : List Value) → InARow p text vs → (a : List ℕ) × (b : List ℕ) × (text ≡ a ++ b) × InARow p a (take k vs)
 row-front p zero text vs r = ([], text, refl, refl)
 row-front p (suc k) text [] r = ([], text, refl, refl)
 row-front p (suc k) text (v ∷ vs) r =
@@ -281,9 +276,9 @@ given-indices n (w ∷ runs) ns rest (suc k) e few = by (nat_le w 32) refl
         record { text = w ∷ s.begins.text; rest = s.begins.rest; parts = ap (λ (xs : List ℕ). w ∷ xs) s.begins.parts; spells = (le-holds w 32 h, s.begins.spells) })
 
 -- ---- a section and its values
--- the first values of a section, of so many at most, are those of plain bytes
-abbrev pub HoldsValues : Encoding → Leaf → Option (List Value) → ℕ → List ℕ → List ℕ → Type 0
-HoldsValues e l es n section values = (ss : List Value) → length ss ≤ n → (Begins (IsSpelled e l es) section ss → Begins (IsPlain l.physical) values ss) × (Begins (IsPlain l.physical) values ss → Begins (IsSpelled e l es) section ss)
+-- the values of a section are those of plain bytes
+abbrev pub AreBoth : Encoding → Leaf → Option (List Value) → List ℕ → List ℕ → List Value → Type 0
+AreBoth e l es section values ss = (Begins (IsSpelled e l es) section ss → Begins (IsPlain l.physical) values ss) × (Begins (IsPlain l.physical) values ss → Begins (IsSpelled e l es) section ss)
 
 to-plain : (t : LeafType) (l : Leaf) (stored : List ℕ → List Stored) (texts : Texts) (es : List Value) (n : ℕ) (section values : List ℕ) (ss : List Value) → (l.physical ≡ boolean → ⊥) → AllZip (IsEntry stored l.physical) texts es → IsLaid texts (indices_in n section) values → length ss ≤ n → Begins (IsIndexed es) section ss → Begins (IsPlain l.physical) values ss
 to-plain t l stored texts es n section values ss other a laid few b =
@@ -326,24 +321,12 @@ to-indexed t l stored texts es n section values ss r other a laid b =
       spells = subst (λ (vs : List Value). IsIndexed es front.text vs) (sym same) (take k laid.indices, front.spells, zip-front (λ m v. slice_get es m ≡ Some v) k laid.indices at.own at.at);
     }
 
-by-dictionary : (t : LeafType) (l : Leaf) (stored : List ℕ → List Stored) (d : Option Texts) (es : Option (List Value)) (texts : Texts) (n : ℕ) (section values : List ℕ) → ReadsPlain t l.physical stored → in_bytes stored ≡ true → AreTextsOf stored l.physical d es → d ≡ Some texts → IsLaid texts (indices_in n section) values → HoldsValues dictionary l es n section values
-by-dictionary t l stored None es texts n section values r own a e laid ss few = absurd (cc e)
-by-dictionary t l stored (Some x) None texts n section values r own a e laid ss few = absurd a
-by-dictionary t l stored (Some x) (Some es) texts n section values r own a e laid ss few =
+pub by-dictionary : (t : LeafType) (l : Leaf) (stored : List ℕ → List Stored) (d : Option Texts) (es : Option (List Value)) (texts : Texts) (n : ℕ) (section values : List ℕ) (ss : List Value) → ReadsPlain t l.physical stored → in_bytes stored ≡ true → AreTextsOf stored l.physical d es → d ≡ Some texts → IsLaid texts (indices_in n section) values → length ss ≤ n → AreBoth dictionary l es section values ss
+by-dictionary t l stored None es texts n section values ss r own a e laid few = absurd (cc e)
+by-dictionary t l stored (Some x) None texts n section values ss r own a e laid few = absurd a
+by-dictionary t l stored (Some x) (Some es) texts n section values ss r own a e laid few =
     let other = own-bytes t l.physical stored r own in
     let mine : AllZip (IsEntry stored l.physical) texts es = subst (λ (y : Texts). AllZip (IsEntry stored l.physical) y es) (same_Some x texts e) (a own) in (
       λ b. to-plain t l stored texts es n section values ss other mine laid few (record { text = b.text; rest = b.rest; parts = b.parts; spells = b.spells.1 }),
       λ b. (let c = to-indexed t l stored texts es n section values ss r other mine laid b in record { text = c.text; rest = c.rest; parts = c.parts; spells = (other, c.spells) }),
     )
-
-pub holds-values : (t : LeafType) (l : Leaf) (stored : List ℕ → List Stored) (d : Option Texts) (es : Option (List Value)) (h : Header) (indexed : Bool) (section values : List ℕ) → ReadsPlain t l.physical stored → AreTextsOf stored l.physical d es → HasEncoding h (encoding_by indexed) → (indexed ≡ true → in_bytes stored ≡ true) → HasValues d h section values → HoldsValues (encoding_by indexed) l es (count_in h) section values
-holds-values t l stored d es h false section values r a enc own (inl x) ss few = (λ b. rw x.1 b, λ b. rw x.1 at b)
-holds-values t l stored d es h false section values r a enc own (inr x) ss few = absurd (let f : plain ≡ dictionary = encoding_same h plain dictionary enc x.0 in cc f)
-holds-values t l stored d es h true section values r a enc own (inl x) ss few = absurd (let f : plain ≡ dictionary = encoding_same h plain dictionary x.0 enc in cc f)
-holds-values t l stored d es h true section values r a enc own (inr x) ss few = by-dictionary t l stored d es x.1 (count_in h) section values r (own refl) a x.2 x.3 ss few
-
--- ---- the values that can be read of a section
-pub begins-values : (indexed : Bool) (l : Leaf) (es : Option (List Value)) (called : ℕ) (section : List ℕ) (vs : List Value) → length vs ≤ called → Begins (IsSpelled (encoding_by indexed) l es) section vs → BeginsValues (encoding_by indexed) l es called section vs × IsRead l (encoding_by indexed)
-begins-values false l es called section vs few b = ((few, b), tt)
-begins-values true l None called section vs few b = absurd b.spells
-begins-values true l (Some es) called section vs few b = ((few, record { text = b.text; rest = b.rest; parts = b.parts; spells = b.spells.1 }), b.spells.0)

@@ -23,7 +23,7 @@ use Rattle.pq_tree.specs.Tree.{Leaf}
 use Rattle.read_pieces.specs.Columns.{ColumnOpening, RefusesPiece}
 use Rattle.read_pieces.specs.Leaves.{IsLoaded, ReadsPlain, in_bytes}
 use Rattle.read_walk.specs.Values.{Stored}
-use Rattle.read_column.specs.Dictionary.{AreTextsOf, CannotHold, HoldsEntries, IsEntry, Texts}
+use Rattle.read_column.specs.Dictionary.{AreTextsOf, CannotHold, HoldsEntries, IsEntry, Means, Texts, means}
 use Rattle.read_column.specs.Opened.{IsServedPage}
 use Rattle.read_column.specs.Queues.{Waiting}
 use Rattle.read_column.specs.Reading.{IsReading, reading}
@@ -86,14 +86,14 @@ front-none stored c l (gives_dictionary n body ∷ os) None None behind a f e no
 front-none stored c l (gives_dictionary n body ∷ os) None (Some es) behind a f e none = absurd a
 front-none stored c l (gives_dictionary n body ∷ os) (Some x) es behind a f e none = absurd (cc e)
 
-nothing-taken : (stored : List ℕ → List Stored) (limit : ℕ) (o : ColumnOpening) (pieces : List (List Triple)) (os : List Outcome) (d : Option Texts) (q : Waiting) (b : Bool) → (r : IsReading stored limit o pieces (reading os d q b)) → b ≡ false → d ≡ None → r.taken ≡ []
+nothing-taken : (stored : List ℕ → List Stored) (limit : ℕ) (o : ColumnOpening) (pieces : List (List Triple)) (os : List Outcome) (d : Means) (q : Waiting) (b : Bool) → (r : IsReading stored limit o pieces (reading os d q b)) → b ≡ false → d.entries ≡ None → r.taken ≡ []
 nothing-taken stored limit o pieces os d q b r began none = elim r.began [
   | inl x ↦ absurd (not-own b began x.0)
-  | inr x ↦ front-none stored o.column o.leaf r.taken d r.entries r.behind r.texts r.front none x.1
+  | inr x ↦ front-none stored o.column o.leaf r.taken d.entries r.entries r.behind r.texts r.front none x.1
 ]
 
 -- the first page was taken
-pub entries-taken : (stored : List ℕ → List Stored) (limit : ℕ) (o : ColumnOpening) (pieces : List (List Triple)) (n : ℕ) (body : List ℕ) (os : List Outcome) (d : Option Texts) (q : Waiting) (b : Bool) (texts : Texts) → IsReading stored limit o pieces (reading (gives_dictionary n body ∷ os) d q b) → b ≡ false → d ≡ None → HoldsEntries stored n body texts → IsReading stored limit o pieces (reading os (Some texts) q b)
+pub entries-taken : (stored : List ℕ → List Stored) (limit : ℕ) (o : ColumnOpening) (pieces : List (List Triple)) (n : ℕ) (body : List ℕ) (os : List Outcome) (d : Means) (q : Waiting) (b : Bool) (texts : Texts) → IsReading stored limit o pieces (reading (gives_dictionary n body ∷ os) d q b) → b ≡ false → d.entries ≡ None → HoldsEntries stored n body texts → IsReading stored limit o pieces (reading os (means (Some texts) d.deltas) q b)
 entries-taken stored limit o pieces n body os d q b texts r began none h =
     let t = leaf_type o.column.data_type in
     let taken : r.taken ≡ [] = nothing-taken stored limit o pieces (gives_dictionary n body ∷ os) d q b r began none in
@@ -117,10 +117,11 @@ entries-taken stored limit o pieces n body os d q b texts r began none h =
       behind = [];
       front = (e.entries, refl, e.are, e.inside, refl);
       texts = e.texts-are;
+      deltas = r.deltas;
       began = inr (began, refl);
       pages = [];
       are = tt;
-      served = All-nil IsServedPage;
+      served = All-nil (IsServedPage o.column);
       triples = rw pages at r.triples;
     }
   where
@@ -141,7 +142,7 @@ no-page [] e a = a
 no-page (x ∷ os) e a = cc e
 
 -- it is not the first
-pub entries-misplaced : (stored : List ℕ → List Stored) (limit : ℕ) (o : ColumnOpening) (pieces : List (List Triple)) (n : ℕ) (body : List ℕ) (os : List Outcome) (d : Option Texts) (q : Waiting) (b : Bool) → (r : IsReading stored limit o pieces (reading (gives_dictionary n body ∷ os) d q b)) → (b ≡ true) ⊎ (is_some d ≡ true) → HasMisplaced o.outcomes
+pub entries-misplaced : (stored : List ℕ → List Stored) (limit : ℕ) (o : ColumnOpening) (pieces : List (List Triple)) (n : ℕ) (body : List ℕ) (os : List Outcome) (d : Means) (q : Waiting) (b : Bool) → (r : IsReading stored limit o pieces (reading (gives_dictionary n body ∷ os) d q b)) → (b ≡ true) ⊎ (is_some d.entries ≡ true) → HasMisplaced o.outcomes
 entries-misplaced stored limit o pieces n body os d q b r why = record {
   before = r.taken;
   outcome = gives_dictionary n body;
@@ -150,8 +151,8 @@ entries-misplaced stored limit o pieces n body os d q b r why = record {
   misplaced = inl (λ none. by none why r.began, tt);
 }
   where
-    by : r.taken ≡ [] → (b ≡ true) ⊎ (is_some d ≡ true) → ((b ≡ true) × AnyOf GivesPage r.behind) ⊎ ((b ≡ false) × (r.behind ≡ [])) → ⊥
-    by none (inr s) began = not-nothing stored o.column o.leaf r.taken d r.entries r.behind r.texts r.front s none
+    by : r.taken ≡ [] → (b ≡ true) ⊎ (is_some d.entries ≡ true) → ((b ≡ true) × AnyOf GivesPage r.behind) ⊎ ((b ≡ false) × (r.behind ≡ [])) → ⊥
+    by none (inr s) began = not-nothing stored o.column o.leaf r.taken d.entries r.entries r.behind r.texts r.front s none
     by none (inl x) (inr y) = not-own b y.0 x
     by none (inl x) (inl y) = no-page r.behind (behind-none o.column o.leaf r.taken r.entries r.behind r.front none) y.1
 
@@ -176,7 +177,7 @@ not-held t l stored n body e es r why are inside =
       | inr out ↦ outside-in t l.physical (out.1).front (out.1).rest n es (out.1).few (rw (← are.count, (out.1).parts) at read.1) inside
     ]
 
-pub entries-refused : (stored : List ℕ → List Stored) (limit : ℕ) (o : ColumnOpening) (pieces : List (List Triple)) (n : ℕ) (body : List ℕ) (os : List Outcome) (d : Option Texts) (q : Waiting) (b : Bool) (e : Error) → (r : IsReading stored limit o pieces (reading (gives_dictionary n body ∷ os) d q b)) → ((e ≡ OutOfSpec S3) × ((b ≡ true) ⊎ (is_some d ≡ true))) ⊎ ((b ≡ false) × (d ≡ None) × CannotHold stored n body e) → RefusesPiece o e
+pub entries-refused : (stored : List ℕ → List Stored) (limit : ℕ) (o : ColumnOpening) (pieces : List (List Triple)) (n : ℕ) (body : List ℕ) (os : List Outcome) (d : Means) (q : Waiting) (b : Bool) (e : Error) → (r : IsReading stored limit o pieces (reading (gives_dictionary n body ∷ os) d q b)) → ((e ≡ OutOfSpec S3) × ((b ≡ true) ⊎ (is_some d.entries ≡ true))) ⊎ ((b ≡ false) × (d.entries ≡ None) × CannotHold stored n body e) → RefusesPiece o e
 entries-refused stored limit o pieces n body os d q b e r (inl s3) = inr (inr (inl (s3.0, entries-misplaced stored limit o pieces n body os d q b r s3.1)))
 entries-refused stored limit o pieces n body os d q b e r (inr x) =
     let t = leaf_type o.column.data_type in

@@ -22,17 +22,19 @@ use Rattle.pq_tree.specs.Physical.{Physical}
 use Rattle.pq_tree.specs.Tree.{Leaf, max_definition, max_repetition}
 use Rattle.read_pieces.specs.Leaves.{IsLoaded, ReadsPlain, in_bytes}
 use Rattle.read_walk.specs.Gives.{given}
-use Rattle.read_walk.specs.Pairs.{Item}
+use Rattle.read_walk.specs.Pairs.{Item, Pair}
 use Rattle.read_walk.specs.Spelled.{HasLevels, NoneAbove}
 use Rattle.read_walk.specs.Values.{Stored}
 use Rattle.read_walk.specs.Walk.{pair_of, values_of}
 use Rattle.read_walk.proofs.Grammar.{pairs-read}
-use Rattle.read_column.specs.Dictionary.{AreTextsOf, Texts}
-use Rattle.read_column.specs.Opened.{encoding_by}
-use Rattle.read_column.specs.Reading.{HasItems}
+use Rattle.read_column.specs.Deltas.{deltas_in, present_in}
+use Rattle.read_column.specs.Dictionary.{AreTextsOf, Means}
+use Rattle.read_column.specs.Reading.{HasItems, HasPairs}
+use Rattle.read_column.specs.declared.deltas.Deltas.{Deltas}
 use Rattle.read_column.proofs.CanRead.{count-is}
-use Rattle.read_column.proofs.Dictionaries.{holds-values}
 use Rattle.read_column.proofs.Pages.{defs-stored, pairs-of, reps-stored, values-few}
+use Rattle.read_column.proofs.Present.{pairs-stored, present-values}
+use Rattle.read_column.proofs.Values.{holds-values}
 use Rattle.read_column.proofs.Widths.{has-width}
 
 -- ---- lists
@@ -92,10 +94,18 @@ pub record Foreseen (w : Way) (stored : List Stored) (items : List Item) (us : L
   pub values : stored ≡ map Some (values_of us) ++ rest
   pub within : All (IsWithin w) us
 
-pub foreseen : (t : LeafType) (l : Leaf) (w : Way) (stored : List ℕ → List Stored) (d : Option Texts) (es : Option (List Value)) (p : RawPage) (levels : Levels) (items : List Item) (values : List ℕ) (q : Page) (us : List Triple) → ReadsPlain t l.physical stored → AreTextsOf stored l.physical d es → levels ≡ leaf_levels l → HasItems (in_bytes stored) d p levels items values → IsPageIn l es p q → AreStored t l.physical us q.triples → All (IsWithin w) us → Foreseen w (stored values) items us
-foreseen t l w stored d es p levels items values q us plainly texts of-leaf has in-page are within =
+-- its pairs, and what its section begins with
+pub record PairsForeseen (l : Leaf) (es : Option (List Value)) (e : Encoding) (p : RawPage) (top : ℕ) (items : List Item) (section : List ℕ) (vs : List Value) (us : List Triple) : Type 0 where
+  pub pairs : items ≡ map Ok (map pair_of us)
+  pub spelled : Begins (IsSpelled e l es) section vs
+  pub present : length vs ≡ present_in top items
+  pub few : length vs ≤ count_in p.header
+
+pub pairs-foreseen : (t : LeafType) (l : Leaf) (own : Bool) (k : Deltas) (e : Encoding) (es : Option (List Value)) (p : RawPage) (levels : Levels) (items : List Item) (section : List ℕ) (q : Page) (us : List Triple) → levels ≡ leaf_levels l → (has : HasPairs own k e p levels items section) → IsPageIn l es p q → AreStored t l.physical us q.triples → PairsForeseen l es e p has.definition items section (values_in q.triples) us
+pairs-foreseen t l own k e es p levels items section q us of-leaf has in-page are =
     let is = in-page.is in
     let o = has.opened in
+    let vs = values_in q.triples in
     let reps = map (λ (u : Triple). u.repetition) us in
     let defs = map (λ (u : Triple). u.definition) us in
     let rep : has.repetition ≡ max_repetition l = o.repetitions ∙ ap (λ (x : Levels). x.repetition) of-leaf in
@@ -104,20 +114,44 @@ foreseen t l w stored d es p levels items values q us plainly texts of-leaf has 
     let same = split_same l p.header p.body is.sections has.sections is.split split in
     let v = has-width has.repetition in
     let dw = has-width has.definition in
-    let size : length us ≡ has.n = sym (length-map us (λ (u : Triple). u.repetition)) ∙ (ap length (sym (reps-stored t l.physical us q.triples are)) ∙ (length-map q.triples (λ (u : Triple). u.repetition) ∙ (count-is p.header q.triples (has.indexed, o.encoding) is.counted ∙ sym o.count))) in
+    let counted = count-is p.header q.triples (e, o.encoding) is.counted in
+    let size : length us ≡ has.n = sym (length-map us (λ (u : Triple). u.repetition)) ∙ (ap length (sym (reps-stored t l.physical us q.triples are)) ∙ (length-map q.triples (λ (u : Triple). u.repetition) ∙ (counted ∙ sym o.count))) in
     let rs : FileLevels has.repetition has.sections.repetition reps = rw (rep, ← same.repetition, ← reps-stored t l.physical us q.triples are) is.repetitions in
     let ds : FileLevels has.definition has.sections.definition defs = rw (def, ← same.definition, ← defs-stored t l.physical us q.triples are) is.definitions in
     let read = (pairs-read has.repetition v.0 has.definition dw.0 has.n has.sections.repetition has.sections.definition reps defs (length-map us (λ (u : Triple). u.repetition) ∙ size) (length-map us (λ (u : Triple). u.definition) ∙ size)).0 (levels-as has.repetition v.0 has.sections.repetition reps v.1 rs, levels-as has.definition dw.0 has.sections.definition defs dw.1 ds) in
-    let e : is.encoding ≡ encoding_by has.indexed = encoding_same p.header is.encoding (encoding_by has.indexed) is.has_encoding o.encoding in
-    let spelled : Begins (IsSpelled (encoding_by has.indexed) l es) is.sections.values (values_in q.triples) = subst (λ (x : Encoding). Begins (IsSpelled x l es) is.sections.values (values_in q.triples)) e is.values in
-    let few : length (values_in q.triples) ≤ count_in p.header = omega (arith, values-few q.triples, count-is p.header q.triples (has.indexed, o.encoding) is.counted) in
-    let holds = holds-values t l stored d es p.header has.indexed has.sections.values values plainly texts o.encoding o.entries has.bytes (values_in q.triples) few in
-    let loads = plainly.read values (values_in q.triples) (holds.0 (rw same.values at spelled)) in
-    let front = loaded-is t l.physical (take (length (values_in q.triples)) (stored values)) (values_of us) (values_in q.triples) loads.1 (values-stored t l.physical us q.triples are) in
+    let pairs : items ≡ map Ok (map pair_of us) = has.are v.0 dw.0 v.1 dw.1 ∙ (read ∙ pairs-of us) in
+    let same-encoding : is.encoding ≡ e = encoding_same p.header is.encoding e is.has_encoding o.encoding in
+    let here : Begins (IsSpelled e l es) is.sections.values vs = subst (λ (x : Encoding). Begins (IsSpelled x l es) is.sections.values vs) same-encoding is.values in
     record {
-      pairs = has.are v.0 dw.0 v.1 dw.1 ∙ (read ∙ pairs-of us);
-      rest = drop (length (values_in q.triples)) (stored values);
-      values = sym (take-append-drop (length (values_in q.triples)) (stored values)) ∙ ap (λ (xs : List Stored). xs ++ drop (length (values_in q.triples)) (stored values)) front;
+      pairs = pairs;
+      spelled = subst (λ (x : List ℕ). Begins (IsSpelled e l es) x vs) (same.values ∙ sym has.bytes) here;
+      present = sym (present-values (max_definition l) q.triples is.present) ∙ (ap (λ (ps : List Pair). present_in (max_definition l) (map Ok ps)) (pairs-stored t l.physical us q.triples are) ∙ (ap (present_in (max_definition l)) (sym pairs) ∙ ap (λ (n : ℕ). present_in n items) (sym def)));
+      few = omega (arith, values-few q.triples, counted);
+    }
+
+abbrev pub pairs-of-items : (own : Bool) (d : Means) (p : RawPage) (levels : Levels) (items : List Item) (values : List ℕ) → (has : HasItems own d p levels items values) → HasPairs own d.deltas has.encoding p levels items has.sections.values
+pairs-of-items own d p levels items values has = record {
+  sections = has.sections;
+  repetition = has.repetition;
+  definition = has.definition;
+  n = has.n;
+  opened = has.opened;
+  are = has.are;
+  bytes = refl;
+}
+
+pub foreseen : (t : LeafType) (l : Leaf) (w : Way) (stored : List ℕ → List Stored) (d : Means) (es : Option (List Value)) (flat : Bool) (p : RawPage) (levels : Levels) (items : List Item) (values : List ℕ) (q : Page) (us : List Triple) → ReadsPlain t l.physical stored → AreTextsOf stored l.physical d.entries es → d.deltas ≡ deltas_in flat l.physical → levels ≡ leaf_levels l → HasItems (in_bytes stored) d p levels items values → IsPageIn l es p q → AreStored t l.physical us q.triples → All (IsWithin w) us → Foreseen w (stored values) items us
+foreseen t l w stored d es flat p levels items values q us plainly texts deltas of-leaf has in-page are within =
+    let o = has.opened in
+    let vs = values_in q.triples in
+    let f = pairs-foreseen t l (in_bytes stored) d.deltas has.encoding es p levels items has.sections.values q us of-leaf (pairs-of-items (in_bytes stored) d p levels items values has) in-page are in
+    let holds = holds-values t l stored d es flat has.encoding (count_in p.header) (present_in has.definition items) has.sections.values values vs plainly texts deltas o.read has.bytes f.few f.present in
+    let loads = plainly.read values vs (holds.0 f.spelled) in
+    let front = loaded-is t l.physical (take (length vs) (stored values)) (values_of us) vs loads.1 (values-stored t l.physical us q.triples are) in
+    record {
+      pairs = f.pairs;
+      rest = drop (length vs) (stored values);
+      values = sym (take-append-drop (length vs) (stored values)) ∙ ap (λ (xs : List Stored). xs ++ drop (length vs) (stored values)) front;
       within = within;
     }
 

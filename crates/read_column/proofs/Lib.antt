@@ -6,6 +6,9 @@ pub mod Long
 pub mod Pages
 pub mod Fewer
 pub mod Dictionaries
+pub mod Present
+pub mod Turned
+pub mod Values
 pub mod Placing
 pub mod Laying
 pub mod Pairs

@@ -12,11 +12,13 @@ use Rattle.shredding.specs.Shape.{LeafType, Way}
 use Rattle.shredding.specs.Shred.{Triple, max_definition as way_definition}
 use Rattle.pq_files.specs.Chunk.{RawPage, count_in}
 use Rattle.pq_files.specs.Levels.{HasLevels as FileLevels}
-use Rattle.pq_files.specs.Page.{IsSpelled, Sections, rows_in, values_in}
+use Rattle.pq_files.specs.Page.{Sections, delta, rows_in, values_in}
 use Rattle.pq_files.specs.PageReasons.{GoesOn, HasPairs}
+use Rattle.pq_files.specs.Plain.{IsPlain}
 use Rattle.pq_files.specs.RowReasons.{ReadsTriples}
 use Rattle.pq_files.specs.Stored.{AreStored}
 use Rattle.pq_files.proofs.Unique.{split_same}
+use Rattle.pq_headline.specs.Columns.{is_alone}
 use Rattle.pq_headline.specs.FieldReasons.{EntriesPass, IsPieceOf, PassesLists, PassesOffsets, PassesTexts, ReadsFront}
 use Rattle.pq_headline.specs.Openings.{leaf_levels, piece_size}
 use Rattle.pq_pages.specs.Outcomes.{Levels, Outcome, gives_page}
@@ -41,20 +43,22 @@ use Rattle.read_walk.proofs.Grammar.{pairs-read}
 use Rattle.read_walk.proofs.Walking.{begun-append, marks-pairs, values-append, walk-append}
 use Rattle.pq_numbers.specs.Texts.{Begins}
 use Rattle.shredding.specs.Slot.{Value}
-use Rattle.read_column.specs.Dictionary.{AreTextsOf, Texts}
-use Rattle.read_column.specs.Opened.{ArePairsOf, encoding_by, first_goes_on}
+use Rattle.read_column.specs.Deltas.{IsReadBy, deltas_in, present_in}
+use Rattle.read_column.specs.Dictionary.{AreTextsOf, HasValues, Means}
+use Rattle.read_column.specs.Opened.{ArePairsOf, first_goes_on}
 use Rattle.read_column.specs.Queues.{Waiting}
 use Rattle.read_column.specs.Reading.{HasItems, IsReading, reading, stored_in}
 use Rattle.read_column.specs.Taken.{joined, AreSized, BeginsPair, TakesPairs}
-use Rattle.read_column.proofs.CanRead.{called-defs, piece-of, reads-more, reads-triples, shows-pairs, values-called}
+use Rattle.read_column.proofs.CanRead.{called-defs, is-read, piece-of, reads-more, reads-triples, shows-pairs, values-called}
 use Rattle.read_column.proofs.Columns.{begins-stored, front-on, rows-joined, stored-both, stored-parts}
-use Rattle.read_column.proofs.Dictionaries.{holds-values}
 use Rattle.read_column.proofs.Foreseen.{levels-as, values-stored}
 use Rattle.read_column.proofs.Fronts.{hybrid-front}
 use Rattle.read_column.proofs.Pages.{defs-stored, inside-stored, is-some-stored, pairs-of, reps-stored, rows-stored, runs-of, spelled-values, stored-put, values-few}
-use Rattle.read_column.proofs.Passes.{call-for, filled, lists-pass, texts-pass}
+use Rattle.read_column.proofs.Passes.{call-for, filled, lists-pass, not-long, texts-pass}
 use Rattle.read_column.proofs.Readings.{begins-joined}
 use Rattle.read_column.proofs.Taking.{begins-append, begins-taken, bytes-append, joined-append, lt-holds, ok-append, piece-few, rows-piece, some-append}
+use Rattle.read_column.proofs.Turned.{is-flat, of-numbers}
+use Rattle.read_column.proofs.Values.{part-values}
 use Rattle.read_column.proofs.Ways.{begun-pairs, definition-thin, rows-append}
 use Rattle.read_column.proofs.Widths.{has-width}
 
@@ -128,21 +132,16 @@ front-levels s r d n items ts rest are e =
     }
 
 -- ---- how many values all pairs of a page call for
-abbrev items-called : ℕ → List Item → ℕ
-items-called m [] = 0
-items-called m (Ok p ∷ is) = cond (nat_eq p.1 m) 1 0 + items-called m is
-items-called m (Err e ∷ is) = 0
-
-called-some : (m : ℕ) (ts : List Triple) (rest : List Item) → count_by (λ t. nat_eq t.definition m) ts ≤ items-called m (map Ok (map pair_of ts) ++ rest)
+called-some : (m : ℕ) (ts : List Triple) (rest : List Item) → count_by (λ t. nat_eq t.definition m) ts ≤ present_in m (map Ok (map pair_of ts) ++ rest)
 called-some m [] rest = omega arith
 called-some m (t ∷ ts) rest = omega (arith, sum_by-cons (λ (u : Triple). cond (nat_eq u.definition m) 1 0) t ts, called-some m ts rest)
 
-called-all : (m : ℕ) (ts : List Triple) → items-called m (map Ok (map pair_of ts)) ≡ count_by (λ t. nat_eq t.definition m) ts
+called-all : (m : ℕ) (ts : List Triple) → present_in m (map Ok (map pair_of ts)) ≡ count_by (λ t. nat_eq t.definition m) ts
 called-all m [] = refl
 called-all m (t ∷ ts) = ap (λ (n : ℕ). cond (nat_eq t.definition m) 1 0 + n) (called-all m ts) ∙ sym (sum_by-cons (λ (u : Triple). cond (nat_eq u.definition m) 1 0) t ts)
 
 -- all pairs of a page, where it has them, are its items
-items-of-all : (own : Bool) (d : Option Texts) (l : Leaf) (p : RawPage) (levels : Levels) (items : List Item) (values : List ℕ) (all : List Triple) → levels ≡ leaf_levels l → HasItems own d p levels items values → HasPairs l p all → items ≡ map Ok (map pair_of all)
+items-of-all : (own : Bool) (d : Means) (l : Leaf) (p : RawPage) (levels : Levels) (items : List Item) (values : List ℕ) (all : List Triple) → levels ≡ leaf_levels l → HasItems own d p levels items values → HasPairs l p all → items ≡ map Ok (map pair_of all)
 items-of-all own d l p levels items values all of-leaf has pairs =
     let o = has.opened in
     let reps = map (λ (u : Triple). u.repetition) all in
@@ -170,18 +169,22 @@ present-as t p top (u ∷ ts) [] a h = absurd a
 present-as t p top (u ∷ ts) (z ∷ zs) a h =
     All-cons (λ (x : Triple). is_some x.value ≡ nat_eq x.definition top) z zs (is-some-stored t p u.value z.value a.0.«value» ∙ (All-head (λ (x : Triple). is_some x.value ≡ nat_eq x.definition top) u ts h ∙ ap (λ (d : ℕ). nat_eq d top) (sym a.0.definition))) (present-as t p top ts zs a.1 (All-tail (λ (x : Triple). is_some x.value ≡ nat_eq x.definition top) u ts h))
 
-pub record PartReads (t : LeafType) (l : Leaf) (es : Option (List Value)) (p : RawPage) (ts : List Triple) : Type 0 where
+pub record PartStored (t : LeafType) (l : Leaf) (values : List ℕ) (ts : List Triple) : Type 0 where
   pub stored : List Triple
   pub are : AreStored t l.physical ts stored
-  pub reads : ReadsTriples t l es p stored
+  pub begins : Begins (IsPlain l.physical) values (values_in stored)
 
-pub part-reads : (t : LeafType) (l : Leaf) (stored : List ℕ → List Stored) (d : Option Texts) (es : Option (List Value)) (p : RawPage) (levels : Levels) (items : List Item) (values : List ℕ) (ts : List Triple) (rest : List Item) (more : List Stored) → ReadsPlain t l.physical stored → AreTextsOf stored l.physical d es → levels ≡ leaf_levels l → HasItems (in_bytes stored) d p levels items values → items ≡ map Ok (map pair_of ts) ++ rest → stored values ≡ map Some (values_of ts) ++ more → ArePresent (max_definition l) ts → BeginsRow ts → PartReads t l es p ts
-part-reads t l stored d es p levels items values ts rest more plainly texts of-leaf has pairs e present begins =
-    let o = has.opened in
-    let s = has.sections in
+pub part-stored : (t : LeafType) (l : Leaf) (stored : List ℕ → List Stored) (values : List ℕ) (ts : List Triple) (more : List Stored) → ReadsPlain t l.physical stored → stored values ≡ map Some (values_of ts) ++ more → PartStored t l values ts
+part-stored t l stored values ts more plainly e =
     let spelled = spelled-values t l.physical stored values (values_of ts) more plainly e in
     let put = stored-put t l.physical ts spelled.stored spelled.are in
-    let zs = put.triples in
+    record { stored = put.triples; are = put.are; begins = rw put.values spelled.begins }
+
+pub part-reads : (t : LeafType) (l : Leaf) (stored : List ℕ → List Stored) (d : Means) (es : Option (List Value)) (flat : Bool) (p : RawPage) (levels : Levels) (items : List Item) (values : List ℕ) (ts : List Triple) (rest : List Item) → ReadsPlain t l.physical stored → AreTextsOf stored l.physical d.entries es → d.deltas ≡ deltas_in flat l.physical → levels ≡ leaf_levels l → (has : HasItems (in_bytes stored) d p levels items values) → (has.encoding ≡ delta → ⊥) → items ≡ map Ok (map pair_of ts) ++ rest → (put : PartStored t l values ts) → ArePresent (max_definition l) ts → BeginsRow ts → ReadsTriples t l es p put.stored
+part-reads t l stored d es flat p levels items values ts rest plainly texts deltas of-leaf has other pairs put present begins =
+    let o = has.opened in
+    let s = has.sections in
+    let zs = put.stored in
     let front = front-levels s has.repetition has.definition has.n items ts rest has.are pairs in
     let rep : has.repetition ≡ max_repetition l = o.repetitions ∙ ap (λ (x : Levels). x.repetition) of-leaf in
     let def : has.definition ≡ max_definition l = o.definitions ∙ ap (λ (x : Levels). x.definition) of-leaf in
@@ -191,14 +194,12 @@ part-reads t l stored d es p levels items values ts rest more plainly texts of-l
     let defs : FileLevels (max_definition l) s.definition (map (λ z. z.definition) zs) = rw (defs-stored t l.physical ts zs put.are, ← def) front.definitions in
     let there = present-as t l.physical (max_definition l) ts zs put.are present in
     let same-called : count_by (λ z. nat_eq z.definition (max_definition l)) zs ≡ count_by (λ u. nat_eq u.definition (max_definition l)) ts = called-defs (max_definition l) zs ∙ (ap (λ (ds : List ℕ). count_by (λ d. nat_eq d (max_definition l)) ds) (defs-stored t l.physical ts zs put.are) ∙ sym (called-defs (max_definition l) ts)) in
-    let few : length spelled.stored ≤ count_in p.header = omega (arith, ap length (sym put.values), values-few zs, size, front.few, o.count) in
-    let begins-here : Begins (IsSpelled (encoding_by has.indexed) l es) s.values spelled.stored = (holds-values t l stored d es p.header has.indexed s.values values plainly texts o.encoding o.entries has.bytes spelled.stored few).1 spelled.begins in
-    let enough : length (values_in zs) ≤ items-called (max_definition l) items = omega (arith, values-called l zs there, same-called, called-some (max_definition l) ts rest, ap (items-called (max_definition l)) pairs) in
-    record {
-      stored = zs;
-      are = put.are;
-      reads = reads-triples t l es has.indexed p s zs (items-called (max_definition l) items) o.encoding (runs-of l levels p.header of-leaf o.runs) split reps defs (omega (arith, size, front.few, o.count)) (begins-stored t l.physical ts zs put.are begins) there (λ all h. ap (items-called (max_definition l)) (items-of-all (in_bytes stored) d l p levels items values all of-leaf has h) ∙ called-all (max_definition l) all) enough (rw put.values begins-here) (inside-stored t l.physical ts zs put.are);
-    }
+    let few : length (values_in zs) ≤ count_in p.header = omega (arith, values-few zs, size, front.few, o.count) in
+    let called : present_in has.definition items ≡ present_in (max_definition l) items = ap (λ (n : ℕ). present_in n items) def in
+    let enough : length (values_in zs) ≤ present_in (max_definition l) items = omega (arith, values-called l zs there, same-called, called-some (max_definition l) ts rest, ap (present_in (max_definition l)) pairs) in
+    let laid : HasValues d has.encoding (count_in p.header) (present_in (max_definition l) items) s.values values = subst (λ (n : ℕ). HasValues d has.encoding (count_in p.header) n s.values values) called has.bytes in
+    let begins-here = part-values t l stored d es flat has.encoding (count_in p.header) (present_in (max_definition l) items) s.values values (values_in zs) plainly texts deltas o.read laid other few enough put.begins in
+    reads-triples t l es has.encoding p s zs (present_in (max_definition l) items) o.encoding (runs-of l levels p.header of-leaf o.runs) split reps defs (omega (arith, size, front.few, o.count)) (begins-stored t l.physical ts zs put.are begins) there (λ all h. ap (present_in (max_definition l)) (items-of-all (in_bytes stored) d l p levels items values all of-leaf has h) ∙ called-all (max_definition l) all) begins-here (inside-stored t l.physical ts zs put.are)
 
 -- ---- the piece that is too long
 sized-join : (n : Option ℕ) (left mid rest : ℕ) (xs ys : List (List Triple)) → AreSized n left xs mid → AreSized n mid ys rest → AreSized n left (xs ++ ys) rest
@@ -211,7 +212,7 @@ present-of w top ts e a = All-weaker (IsWithin w) (λ t. is_some t.value ≡ nat
 behind-two : {A : Type 0} (xs ys rest all next : List A) → all ≡ xs ++ next → next ≡ ys ++ rest → all ≡ (xs ++ ys) ++ rest
 behind-two xs ys rest all next a b = a ∙ (ap (λ t. xs ++ t) b ∙ sym (append_assoc xs ys rest))
 
-pub passes : (stored : List ℕ → List Stored) (limit : ℕ) (o : ColumnOpening) (pieces : List (List Triple)) (p : RawPage) (levels : Levels) (os : List Outcome) (d : Option Texts) (q : Waiting) (b : Bool) (items : List Item) (values : List ℕ) (n : Option ℕ) (queue : Waiting) (page' : List Item) (left' : List Stored) (more : List Triple) (rest : List Item) (behind : List Stored) → (r : IsReading stored limit o pieces (reading (gives_page p levels ∷ os) d q b)) → HasItems (in_bytes stored) d p levels items values → levels ≡ leaf_levels o.leaf → BeginsPair items → n ≡ o.chunk_size → (takes : TakesPairs n o.column.way r.middle (joined r.whole ++ r.last) queue items page' (stored values) left') → 0 < queue.rows → page' ≡ map Ok (map pair_of more) ++ rest → left' ≡ map Some (values_of more) ++ behind → ArePresent (max_definition o.leaf) more → rows_in more ≤ queue.rows - count queue.state →
+pub passes : (stored : List ℕ → List Stored) (limit : ℕ) (o : ColumnOpening) (pieces : List (List Triple)) (p : RawPage) (levels : Levels) (os : List Outcome) (d : Means) (q : Waiting) (b : Bool) (items : List Item) (values : List ℕ) (n : Option ℕ) (queue : Waiting) (page' : List Item) (left' : List Stored) (more : List Triple) (rest : List Item) (behind : List Stored) → (r : IsReading stored limit o pieces (reading (gives_page p levels ∷ os) d q b)) → HasItems (in_bytes stored) d p levels items values → levels ≡ leaf_levels o.leaf → BeginsPair items → n ≡ o.chunk_size → (takes : TakesPairs n o.column.way r.middle (joined r.whole ++ r.last) queue items page' (stored values) left') → 0 < queue.rows → page' ≡ map Ok (map pair_of more) ++ rest → left' ≡ map Some (values_of more) ++ behind → ArePresent (max_definition o.leaf) more → rows_in more ≤ queue.rows - count queue.state →
     ((piece : List Triple) → AreStored (leaf_type o.column.data_type) o.leaf.physical (takes.last ++ more) piece → PassesLists o.column.way 1 o.column.limits piece ⊎ PassesTexts o.column.data_type (values_in piece) ⊎ EntriesPass o.column.data_type r.entries) → PassesOffsets o.chunk_size o.column o.leaf o.outcomes
 passes stored limit o pieces p levels os d q b items values n queue page' left' more rest behind r has of-leaf first size takes some next vals present few long =
     let w = o.column.way in
@@ -222,7 +223,7 @@ passes stored limit o pieces p levels os d q b items values n queue page' left' 
     let e-items : items ≡ map Ok (map pair_of ts) ++ rest = rw (map-append pair_of takes.taken more, ok-append (map pair_of takes.taken) (map pair_of more)) (behind-two (map Ok (map pair_of takes.taken)) (map Ok (map pair_of more)) rest items page' takes.pairs next) in
     let e-vals : stored values ≡ map Some (values_of ts) ++ behind = rw (values-append takes.taken more, some-append (values_of takes.taken) (values_of more)) (behind-two (map Some (values_of takes.taken)) (map Some (values_of more)) behind (stored values) left' takes.values vals) in
     let there : ArePresent (max_definition l) ts = All-append (λ (x : Triple). is_some x.value ≡ nat_eq x.definition (max_definition l)) takes.taken more (present-of w (max_definition l) takes.taken (sym r.readable.definition) takes.within) present in
-    let part = part-reads t l stored d r.entries p levels items values ts rest behind r.readable.values.plain r.texts of-leaf has e-items e-vals there (begins-taken items rest ts e-items first) in
+    let part = part-stored t l stored values ts behind r.readable.values.plain e-vals in
     let all = stored-both t l.physical (joined pieces ++ (joined r.whole ++ r.last)) ts (stored_in r.pages) part.stored r.triples part.are in
     let regrouped : (joined pieces ++ (joined r.whole ++ r.last)) ++ ts ≡ joined (pieces ++ takes.whole) ++ (takes.last ++ more) =
     append_assoc (joined pieces) (joined r.whole ++ r.last) ts ∙ (ap (λ (xs : List Triple). joined pieces ++ xs) (sym (append_assoc (joined r.whole ++ r.last) takes.taken more) ∙ (ap (λ (xs : List Triple). xs ++ more) (sym takes.all) ∙ append_assoc (joined takes.whole) takes.last more)) ∙ (sym (append_assoc (joined pieces) (joined takes.whole) (takes.last ++ more)) ∙ ap (λ (xs : List Triple). xs ++ (takes.last ++ more)) (sym (joined-append pieces takes.whole)))) in
@@ -236,6 +237,11 @@ passes stored limit o pieces p levels os d q b items values n queue page' left' 
     let begins-a : BeginsRow cut.0 = begins-stored t l.physical (joined (pieces ++ takes.whole)) cut.0 cut.3 (rw append-nil at (begins-joined o.chunk_size o.rows k.rest (pieces ++ takes.whole) [] sized tt)) in
     let rows-a : rows_in cut.0 ≡ rows_of_all (pieces ++ takes.whole) = rows-stored t l.physical (joined (pieces ++ takes.whole)) cut.0 cut.3 ∙ rows-joined (pieces ++ takes.whole) in
     let is-piece = piece-of o.chunk_size o.rows k.rest (pieces ++ takes.whole) cut.0 cut.1 [] sized rows-a (omega (arith, some, size-is, piece-few o.chunk_size k.rest)) (omega (arith, few-b, size-is, piece-few o.chunk_size k.rest)) (inr refl) (omega (arith, few-b, size-is)) begins-a (rw append-nil begins-b) tt in
+    let passed = long cut.1 cut.4 in
+    let other : has.encoding ≡ delta → ⊥ = λ e. (
+    let read : IsReadBy (in_bytes stored) d.deltas delta = rw (← e) has.opened.read in
+    not-long o.column t l.physical r.entries (takes.last ++ more) cut.1 (is-flat (in_bytes stored) (is_alone w) d.deltas l.physical delta (inl refl) r.deltas read) (of-numbers (in_bytes stored) (is_alone w) d.deltas l.physical r.deltas read) r.readable.lists r.readable.direct cut.4 passed) in
+    let reads = part-reads t l stored d r.entries (is_alone w) p levels items values ts rest r.readable.values.plain r.texts r.deltas of-leaf has other e-items part there (begins-taken items rest ts e-items first) in
     let whole-is : cut.0 ++ (cut.1 ++ []) ≡ stored_in r.pages ++ part.stored = ap (λ (xs : List Triple). cut.0 ++ xs) (append-nil cut.1) ∙ sym cut.2 in
     record {
       entries = r.entries;
@@ -243,18 +249,18 @@ passes stored limit o pieces p levels os d q b items values n queue page' left' 
       reads = record {
         behind = r.behind ++ gives_page p levels ∷ os;
         front = subst (λ (xs : List Outcome). ReadsFront o.column l xs r.entries (r.behind ++ gives_page p levels ∷ os)) (sym r.outcomes) (front-on o.column l r.taken (gives_page p levels ∷ os) r.entries r.behind (λ _. tt) r.front);
-        pages = reads-more o.column l r.entries r.behind os r.pages p levels (joined pieces ++ (joined r.whole ++ r.last)) part.stored r.readable.direct r.are r.served r.triples (has.indexed, has.opened.encoding) part.reads;
+        pages = reads-more o.column l r.entries r.behind os r.pages p levels (joined pieces ++ (joined r.whole ++ r.last)) part.stored r.are r.served r.triples ((has.encoding, has.opened.encoding), is-read o.column l p.header (in_bytes stored) d.deltas has.encoding r.readable.direct has.opened.encoding has.opened.read r.deltas) reads;
       };
       piece = cut.1;
       is_piece = subst (λ (zs : List Triple). IsPieceOf o.chunk_size zs cut.1) whole-is is-piece;
-      passes = long cut.1 cut.4;
+      passes = passed;
     }
 
 -- the greatest definition level of the state
 top-is : (w v : Way) (top : ℕ) → v ≡ thin w → top ≡ way_definition w → way_definition v ≡ top
 top-is w v top e f = ap way_definition e ∙ (definition-thin w ∙ sym f)
 
-pub lists-long : (counts : ItemsAreCounted) (stored : List ℕ → List Stored) (limit : ℕ) (o : ColumnOpening) (pieces : List (List Triple)) (p : RawPage) (levels : Levels) (os : List Outcome) (d : Option Texts) (q : Waiting) (b : Bool) (items : List Item) (values : List ℕ) (n : Option ℕ) (queue : Waiting) (page' : List Item) (left' : List Stored) → (r : IsReading stored limit o pieces (reading (gives_page p levels ∷ os) d q b)) → HasItems (in_bytes stored) d p levels items values → levels ≡ leaf_levels o.leaf → BeginsPair items → n ≡ o.chunk_size → (takes : TakesPairs n o.column.way r.middle (joined r.whole ++ r.last) queue items page' (stored values) left') → 0 < queue.rows → GrowsTooLong (queue.rows - count queue.state) page' left' queue.state → PassesOffsets o.chunk_size o.column o.leaf o.outcomes
+pub lists-long : (counts : ItemsAreCounted) (stored : List ℕ → List Stored) (limit : ℕ) (o : ColumnOpening) (pieces : List (List Triple)) (p : RawPage) (levels : Levels) (os : List Outcome) (d : Means) (q : Waiting) (b : Bool) (items : List Item) (values : List ℕ) (n : Option ℕ) (queue : Waiting) (page' : List Item) (left' : List Stored) → (r : IsReading stored limit o pieces (reading (gives_page p levels ∷ os) d q b)) → HasItems (in_bytes stored) d p levels items values → levels ≡ leaf_levels o.leaf → BeginsPair items → n ≡ o.chunk_size → (takes : TakesPairs n o.column.way r.middle (joined r.whole ++ r.last) queue items page' (stored values) left') → 0 < queue.rows → GrowsTooLong (queue.rows - count queue.state) page' left' queue.state → PassesOffsets o.chunk_size o.column o.leaf o.outcomes
 lists-long counts stored limit o pieces p levels os d q b items values n queue page' left' r has of-leaf first size takes some x =
     let w = o.column.way in
     let t = leaf_type o.column.data_type in
@@ -271,7 +277,7 @@ lists-long counts stored limit o pieces p levels os d q b items values n queue p
     let is-long : HasLongItems (walk (map mark_of (takes.last ++ more)) (empty_state w)) = subst (λ (ks : List Kept). HasLongItems ks) (sym built) x.long in
     passes stored limit o pieces p levels os d q b items values n queue page' left' more x.rest x.there.rest r has of-leaf first size takes some next vals f.present few (λ piece are. inl (lists-pass t l.physical w o.column.limits (walk (map mark_of (takes.last ++ more)) (empty_state w)) (takes.last ++ more) piece (counts w (takes.last ++ more)) is-long r.readable.lists r.readable.limited are))
 
-pub texts-long : (stored : List ℕ → List Stored) (limit : ℕ) (o : ColumnOpening) (pieces : List (List Triple)) (p : RawPage) (levels : Levels) (os : List Outcome) (d : Option Texts) (q : Waiting) (b : Bool) (items : List Item) (values : List ℕ) (n : Option ℕ) (queue : Waiting) (page' : List Item) (left' : List Stored) (ps : List Pair) (rest : List Item) → (r : IsReading stored limit o pieces (reading (gives_page p levels ∷ os) d q b)) → HasItems (in_bytes stored) d p levels items values → levels ≡ leaf_levels o.leaf → BeginsPair items → n ≡ o.chunk_size → (takes : TakesPairs n o.column.way r.middle (joined r.whole ++ r.last) queue items page' (stored values) left') → 0 < queue.rows → AreWanted (queue.rows - count queue.state) page' ps rest → AreTooLong limit (called (way_definition (kept_way queue.state)) (map (λ x. x.1) ps)) left' queue.leaf → PassesOffsets o.chunk_size o.column o.leaf o.outcomes
+pub texts-long : (stored : List ℕ → List Stored) (limit : ℕ) (o : ColumnOpening) (pieces : List (List Triple)) (p : RawPage) (levels : Levels) (os : List Outcome) (d : Means) (q : Waiting) (b : Bool) (items : List Item) (values : List ℕ) (n : Option ℕ) (queue : Waiting) (page' : List Item) (left' : List Stored) (ps : List Pair) (rest : List Item) → (r : IsReading stored limit o pieces (reading (gives_page p levels ∷ os) d q b)) → HasItems (in_bytes stored) d p levels items values → levels ≡ leaf_levels o.leaf → BeginsPair items → n ≡ o.chunk_size → (takes : TakesPairs n o.column.way r.middle (joined r.whole ++ r.last) queue items page' (stored values) left') → 0 < queue.rows → AreWanted (queue.rows - count queue.state) page' ps rest → AreTooLong limit (called (way_definition (kept_way queue.state)) (map (λ x. x.1) ps)) left' queue.leaf → PassesOffsets o.chunk_size o.column o.leaf o.outcomes
 texts-long stored limit o pieces p levels os d q b items values n queue page' left' ps rest r has of-leaf first size takes some wanted x =
     let w = o.column.way in
     let t = leaf_type o.column.data_type in
@@ -285,7 +291,7 @@ texts-long stored limit o pieces p levels os d q b items values n queue page' le
     let vals : left' ≡ map Some (values_of more) ++ x.rest = rw f.values x.next in
     let few : rows_in more ≤ queue.rows - count queue.state = omega (arith, begun-pairs more, ap begun f.pairs, wanted.few, ap begun c.parts, begun-append c.front c.back) in
     let bytes : limit ≤ bytes_of (values_of (takes.last ++ more)) = omega (arith, ap bytes_of (values-append takes.last more), bytes-append (values_of takes.last) (values_of more), k.bytes, ap bytes_of f.values, x.long) in
-    passes stored limit o pieces p levels os d q b items values n queue page' left' more (map Ok c.back ++ rest) x.rest r has of-leaf first size takes some next vals f.present few (λ piece are. inr (inl (texts-pass o.column.data_type t l.physical limit (values_of (takes.last ++ more)) (values_in piece) r.readable.values.limited (values-stored t l.physical (takes.last ++ more) piece are) bytes)))
+    passes stored limit o pieces p levels os d q b items values n queue page' left' more (map Ok c.back ++ rest) x.rest r has of-leaf first size takes some next vals f.present few (λ piece are. inr (inl (texts-pass o.column.data_type t l.physical limit (values_of (takes.last ++ more)) (values_in piece) r.readable.values.limited (values-stored t l.physical (takes.last ++ more) piece are) x.some bytes)))
 
 -- ---- a page that goes on with a row
 first-pair : (items : List Item) → first_goes_on items ≡ true → (p : Pair) × (rest : List Item) × (items ≡ Ok p ∷ rest) × (0 < p.0)
@@ -293,7 +299,7 @@ first-pair [] e = absurd (cc e)
 first-pair (Ok p ∷ is) e = (p, is, refl, lt-holds 0 p.0 e)
 first-pair (Err x ∷ is) e = absurd (cc e)
 
-pub goes-on-in : (own : Bool) (d : Option Texts) (l : Leaf) (p : RawPage) (levels : Levels) (items : List Item) (values : List ℕ) → levels ≡ leaf_levels l → HasItems own d p levels items values → first_goes_on items ≡ true → GoesOn l p
+pub goes-on-in : (own : Bool) (d : Means) (l : Leaf) (p : RawPage) (levels : Levels) (items : List Item) (values : List ℕ) → levels ≡ leaf_levels l → HasItems own d p levels items values → first_goes_on items ≡ true → GoesOn l p
 goes-on-in own d l p levels items values of-leaf has on =
     let o = has.opened in
     let s = has.sections in

@@ -1,5 +1,5 @@
 -- A page that was taken is one of the column.
-use Rattle.std.proofs.Common.{◌≡◌, ℕ, suc, ◌+◌, ◌≤◌, is_some, nat_eq, Option, Some, None, Ok, List, [], ◌∷◌, ◌++◌, map, length, take, All, refl, arith, ap, sym, subst, ◌∙◌, length-append, cond}
+use Rattle.std.proofs.Common.{◌≡◌, ℕ, suc, ◌+◌, ◌≤◌, Bool, is_some, nat_eq, Option, Some, None, Ok, List, [], ◌∷◌, ◌++◌, map, length, take, All, refl, arith, ap, sym, subst, ◌∙◌, length-append, cond}
 use Rattle.std.specs.List.{AllZip, cons_option}
 use Rattle.std.proofs.lemmas.List.{length-map, take_at}
 use Rattle.std.proofs.lemmas.List.Elements.{All-nil, All-cons, All-head, All-tail}
@@ -23,15 +23,17 @@ use Rattle.pq_tree.specs.Physical.{Physical}
 use Rattle.pq_tree.specs.Tree.{Leaf, max_definition, max_repetition}
 use Rattle.read_pieces.specs.Leaves.{IsLoaded, ReadsPlain, in_bytes}
 use Rattle.read_walk.specs.Gives.{given}
-use Rattle.read_walk.specs.Pairs.{Item, pair_items}
+use Rattle.read_walk.specs.Pairs.{Item, Pair, pair_items}
 use Rattle.read_walk.specs.Spelled.{NoneAbove}
 use Rattle.read_walk.specs.Values.{Stored}
 use Rattle.read_walk.specs.Walk.{pair_of, values_of}
 use Rattle.read_walk.proofs.Grammar.{from-pairs}
-use Rattle.read_column.specs.Dictionary.{AreTextsOf, Texts}
-use Rattle.read_column.specs.Opened.{ArePairsOf, IsServed, SayRuns, StatesRows, encoding_by}
+use Rattle.read_column.specs.Deltas.{deltas_in, present_in}
+use Rattle.read_column.specs.Dictionary.{AreTextsOf, Means}
+use Rattle.read_column.specs.Opened.{ArePairsOf, IsServed, SayRuns, StatesRows}
 use Rattle.read_column.specs.Reading.{HasItems}
-use Rattle.read_column.proofs.Dictionaries.{holds-values}
+use Rattle.read_column.proofs.Present.{pairs-stored, present-values}
+use Rattle.read_column.proofs.Values.{holds-values}
 use Rattle.read_column.proofs.Ways.{rows-cons}
 use Rattle.read_column.proofs.Widths.{has-width}
 
@@ -198,9 +200,9 @@ pub values-few : (ts : List Triple) → length (values_in ts) ≤ length ts
 values-few [] = omega arith
 values-few (t ∷ ts) = few-more t.value (values_in ts) (length ts) (values-few ts)
 
-pub taken-page : (t : LeafType) (l : Leaf) (w : Way) (stored : List ℕ → List Stored) (d : Option Texts) (es : Option (List Value)) (p : RawPage) (levels : Levels) (items : List Item) (values : List ℕ) (ts : List Triple) (rest : List Stored) →
-    ReadsPlain t l.physical stored → AreTextsOf stored l.physical d es → levels ≡ leaf_levels l → max_definition l ≡ way_definition w → HasItems (in_bytes stored) d p levels items values → items ≡ map Ok (map pair_of ts) → stored values ≡ map Some (values_of ts) ++ rest → All (IsWithin w) ts → BeginsRow ts → StatesRows p.header (rows_in ts) → IsTakenPage t l es p ts
-taken-page t l w stored d es p levels items values ts rest plainly texts of-leaf top has pairs e within begins rows =
+pub taken-page : (t : LeafType) (l : Leaf) (w : Way) (stored : List ℕ → List Stored) (d : Means) (es : Option (List Value)) (flat : Bool) (p : RawPage) (levels : Levels) (items : List Item) (values : List ℕ) (ts : List Triple) (rest : List Stored) →
+    ReadsPlain t l.physical stored → AreTextsOf stored l.physical d.entries es → d.deltas ≡ deltas_in flat l.physical → levels ≡ leaf_levels l → max_definition l ≡ way_definition w → HasItems (in_bytes stored) d p levels items values → items ≡ map Ok (map pair_of ts) → stored values ≡ map Some (values_of ts) ++ rest → All (IsWithin w) ts → BeginsRow ts → StatesRows p.header (rows_in ts) → IsTakenPage t l es p ts
+taken-page t l w stored d es flat p levels items values ts rest plainly texts deltas of-leaf top has pairs e within begins rows =
     let o = has.opened in
     let s = has.sections in
     let spelled = spelled-values t l.physical stored values (values_of ts) rest plainly e in
@@ -211,7 +213,9 @@ taken-page t l w stored d es p levels items values ts rest plainly texts of-leaf
     let def : has.definition ≡ max_definition l = o.definitions ∙ ap (λ (x : Levels). x.definition) of-leaf in
     let size : length zs ≡ length ts = sym (length-map zs (λ (z : Triple). z.repetition)) ∙ (ap length (reps-stored t l.physical ts zs put.are) ∙ length-map ts (λ (u : Triple). u.repetition)) in
     let called : length spelled.stored ≤ count_in p.header = omega (arith, ap length (sym put.values), values-few zs, size, levels-are.count, o.count) in
-    let begins-here : Begins (IsSpelled (encoding_by has.indexed) l es) s.values spelled.stored = (holds-values t l stored d es p.header has.indexed s.values values plainly texts o.encoding o.entries has.bytes spelled.stored called).1 spelled.begins in
+    let there = present-stored t l.physical w (max_definition l) ts zs (sym top) put.are within in
+    let count : length spelled.stored ≡ present_in has.definition items = ap length (sym put.values) ∙ (sym (present-values (max_definition l) zs there) ∙ (ap (λ (ps : List Pair). present_in (max_definition l) (map Ok ps)) (pairs-stored t l.physical ts zs put.are) ∙ (ap (present_in (max_definition l)) (sym pairs) ∙ ap (λ (n : ℕ). present_in n items) (sym def)))) in
+    let begins-here : Begins (IsSpelled has.encoding l es) s.values spelled.stored = (holds-values t l stored d es flat has.encoding (count_in p.header) (present_in has.definition items) s.values values spelled.stored plainly texts deltas o.read has.bytes called count).1 spelled.begins in
     record {
       page = record { header = p.header; triples = zs };
       is = record {
@@ -222,11 +226,11 @@ taken-page t l w stored d es p levels items values ts rest plainly texts of-leaf
           runs = runs-of l levels p.header of-leaf o.runs;
           repetitions = rw (reps-stored t l.physical ts zs put.are, ← rep) levels-are.repetitions;
           definitions = rw (defs-stored t l.physical ts zs put.are, ← def) levels-are.definitions;
-          present = present-stored t l.physical w (max_definition l) ts zs (sym top) put.are within;
-          encoding = encoding_by has.indexed;
+          present = there;
+          encoding = has.encoding;
           has_encoding = o.encoding;
           values = rw put.values begins-here;
-          counted = is-counted p.header zs (has.indexed, o.encoding) (sym o.count ∙ (sym levels-are.count ∙ sym size)) (subst (StatesRows p.header) (sym (rows-stored t l.physical ts zs put.are)) rows);
+          counted = is-counted p.header zs (has.encoding, o.encoding) (sym o.count ∙ (sym levels-are.count ∙ sym size)) (subst (StatesRows p.header) (sym (rows-stored t l.physical ts zs put.are)) rows);
           begins_row = begins-zs t l.physical ts zs put.are begins;
         };
       };

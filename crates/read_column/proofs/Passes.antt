@@ -1,17 +1,18 @@
 -- What passes the offsets of a piece.
-use Rattle.std.proofs.Common.{◌≡◌, inl, inr, ℕ, zero, suc, ◌+◌, ◌^◌, ◌≤◌, Bool, true, false, is_some, nat_eq, nat_le, ◌&&◌, cond, Some, None, List, [], ◌∷◌, ◌++◌, map, length, All, refl, arith, ap, sym, subst, ◌∙◌, sum_by}
-use Rattle.std.specs.List.{AllZip}
+use Rattle.std.proofs.Common.{◌≡◌, ◌⊎◌, inl, inr, ℕ, zero, suc, ◌+◌, ◌^◌, ◌<◌, ◌≤◌, pos, negsuc, Bool, true, false, is_some, nat_eq, nat_le, ◌&&◌, cond, Option, Some, None, List, [], ◌∷◌, ◌++◌, map, length, All, refl, arith, ap, sym, subst, ◌∙◌, sum_by}
+use Rattle.std.specs.List.{AllZip, cons_option}
 use Rattle.std.proofs.lemmas.List.Elements.{All-nil, All-cons, All-head, All-tail}
 use Rattle.std.proofs.lemmas.List.Sums.{sum_by-cons}
-use Rattle.columns_core.specs.Tree.{TypeTree, t_binary, t_large_binary, t_utf8, t_large_utf8}
+use Rattle.columns_core.specs.Tree.{TypeTree, t_binary, t_large_binary, t_utf8, t_large_utf8, t_dictionary}
 use Rattle.shredding.specs.Local.{inside}
-use Rattle.shredding.specs.Shape.{LeafType, Way, nothing, truths, text, binary, signed, unsigned, fixed_bytes, decimal, months, days}
+use Rattle.shredding.specs.Shape.{LeafType, Way, at_leaf, in_list, in_struct, nothing, truths, text, binary, signed, unsigned, fixed_bytes, decimal, months, days}
 use Rattle.shredding.specs.Shred.{Triple, max_repetition}
 use Rattle.shredding.specs.Slot.{Value, truth, number, bytes}
+use Rattle.pq_files.specs.Page.{values_in}
 use Rattle.pq_files.specs.Reasons.{AnyOf}
-use Rattle.pq_files.specs.Stored.{AreStored, IsStored}
-use Rattle.pq_headline.specs.Columns.{large_limit}
-use Rattle.pq_headline.specs.FieldReasons.{PassesLists, PassesTexts, items_in, text_size}
+use Rattle.pq_files.specs.Stored.{AreStored, IsStored, IsStoredOption}
+use Rattle.pq_headline.specs.Columns.{ArrowColumn, is_alone, is_dictionary, large_limit}
+use Rattle.pq_headline.specs.FieldReasons.{EntriesPass, PassesLists, PassesTexts, items_in, text_size}
 use Rattle.pq_tree.specs.Physical.{Physical, boolean, int32, int64, byte_array, fixed}
 use Rattle.read_items.specs.Items.{items_from, list_counts}
 use Rattle.read_laws.specs.State.{Kept, kept_leaf, kept_list, kept_struct}
@@ -142,8 +143,85 @@ passes-more t_large_utf8 vs ws h p = omega (arith, h, p)
 passes-more t_large_binary vs ws h p = omega (arith, h, p)
 passes-more t vs ws h p = absurd p
 
-pub texts-pass : (data_type : TypeTree) (t : LeafType) (p : Physical) (limit : ℕ) (vs ss : List Value) → ((xs : List Value) → All (λ v. (s : Value) × IsStored t p v s) xs → limit ≤ sum_by text_size xs → PassesTexts data_type xs) → AllZip (IsStored t p) vs ss → limit ≤ bytes_of vs → PassesTexts data_type ss
-texts-pass data_type t p limit vs ss limited a h = passes-more data_type vs ss (sizes-stored t p vs ss a) (limited vs (all-stored t p vs ss a) (omega (arith, h, sizes-same vs)))
+pub texts-pass : (data_type : TypeTree) (t : LeafType) (p : Physical) (limit : ℕ) (vs ss : List Value) → ((xs : List Value) → All (λ v. (s : Value) × IsStored t p v s) xs → 0 < limit → limit ≤ sum_by text_size xs → PassesTexts data_type xs) → AllZip (IsStored t p) vs ss → 0 < limit → limit ≤ bytes_of vs → PassesTexts data_type ss
+texts-pass data_type t p limit vs ss limited a some h = passes-more data_type vs ss (sizes-stored t p vs ss a) (limited vs (all-stored t p vs ss a) some (omega (arith, h, sizes-same vs)))
+
+-- ---- numbers of a flat column pass nothing
+sized-32 : (t : LeafType) (v s : Value) → IsStored t int32 v s → text_size s ≡ 0
+sized-32 nothing v s h = absurd h
+sized-32 truths v s h = absurd h
+sized-32 text v s h = absurd h
+sized-32 binary v s h = absurd h
+sized-32 (signed w) (number z) s h = ap text_size h.2
+sized-32 (signed w) (truth b) s h = absurd h
+sized-32 (signed w) (bytes b) s h = absurd h
+sized-32 (unsigned w) (number (pos n)) s h = ap text_size h.2
+sized-32 (unsigned w) (number (negsuc n)) s h = absurd h
+sized-32 (unsigned w) (truth b) s h = absurd h
+sized-32 (unsigned w) (bytes b) s h = absurd h
+sized-32 (fixed_bytes n) v s h = absurd h
+sized-32 decimal (number z) s h = ap text_size h.1
+sized-32 decimal (truth b) s h = absurd h
+sized-32 decimal (bytes b) s h = absurd h
+sized-32 months v s h = absurd h
+sized-32 days v s h = absurd h
+
+sized-64 : (t : LeafType) (v s : Value) → IsStored t int64 v s → text_size s ≡ 0
+sized-64 nothing v s h = absurd h
+sized-64 truths v s h = absurd h
+sized-64 text v s h = absurd h
+sized-64 binary v s h = absurd h
+sized-64 (signed w) (number z) s h = ap text_size h.2
+sized-64 (signed w) (truth b) s h = absurd h
+sized-64 (signed w) (bytes b) s h = absurd h
+sized-64 (unsigned w) (number (pos n)) s h = ap text_size h.2
+sized-64 (unsigned w) (number (negsuc n)) s h = absurd h
+sized-64 (unsigned w) (truth b) s h = absurd h
+sized-64 (unsigned w) (bytes b) s h = absurd h
+sized-64 (fixed_bytes n) v s h = absurd h
+sized-64 decimal (number z) s h = ap text_size h.1
+sized-64 decimal (truth b) s h = absurd h
+sized-64 decimal (bytes b) s h = absurd h
+sized-64 months v s h = absurd h
+sized-64 days v s h = absurd h
+
+sized : (t : LeafType) (p : Physical) (v s : Value) → (p ≡ int32) ⊎ (p ≡ int64) → IsStored t p v s → text_size s ≡ 0
+sized t p v s (inl e) h = sized-32 t v s (rw (← e) h)
+sized t p v s (inr e) h = sized-64 t v s (rw (← e) h)
+
+one-sized : (t : LeafType) (p : Physical) (v s : Option Value) (ss : List Value) → (p ≡ int32) ⊎ (p ≡ int64) → IsStoredOption t p v s → sum_by text_size ss ≡ 0 → sum_by text_size (cons_option s ss) ≡ 0
+one-sized t p None None ss n h e = e
+one-sized t p (Some v) (Some s) ss n h e = omega (arith, sum_by-cons text_size s ss, sized t p v s n h, e)
+one-sized t p None (Some s) ss n h e = absurd h
+one-sized t p (Some v) None ss n h e = absurd h
+
+all-sized : (t : LeafType) (p : Physical) (ts zs : List Triple) → (p ≡ int32) ⊎ (p ≡ int64) → AreStored t p ts zs → sum_by text_size (values_in zs) ≡ 0
+all-sized t p [] [] n a = refl
+all-sized t p [] (z ∷ zs) n a = absurd a
+all-sized t p (u ∷ ts) [] n a = absurd a
+all-sized t p (u ∷ ts) (z ∷ zs) n a = one-sized t p u.value z.value (values_in zs) n a.0.«value» (all-sized t p ts zs n a.1)
+
+no-texts : (t : TypeTree) (vs : List Value) → sum_by text_size vs ≡ 0 → PassesTexts t vs → ⊥
+no-texts t_utf8 vs e h = omega (arith, e, h)
+no-texts t_binary vs e h = omega (arith, e, h)
+no-texts t_large_utf8 vs e h = omega (arith, e, h)
+no-texts t_large_binary vs e h = omega (arith, e, h)
+no-texts t vs e h = h
+
+no-lists : (w : Way) (limits : List ℕ) (ts : List Triple) → is_alone w ≡ true → length limits ≡ max_repetition w → PassesLists w 1 limits ts → ⊥
+no-lists w [] ts flat n h = h
+no-lists (at_leaf m) (limit ∷ limits) ts flat n h = omega (arith, n)
+no-lists (in_list m w) (limit ∷ limits) ts flat n h = cc flat
+no-lists (in_struct m i w) (limit ∷ limits) ts flat n h = cc flat
+
+no-entries : (t : TypeTree) (es : Option (List Value)) → is_dictionary t ≡ false → EntriesPass t es → ⊥
+no-entries (t_dictionary key t s) es e h = cc e
+no-entries t es e h = h
+
+pub not-long : (c : ArrowColumn) (t : LeafType) (p : Physical) (es : Option (List Value)) (ts zs : List Triple) → is_alone c.way ≡ true → (p ≡ int32) ⊎ (p ≡ int64) → length c.limits ≡ max_repetition c.way → is_dictionary c.data_type ≡ false → AreStored t p ts zs → PassesLists c.way 1 c.limits zs ⊎ PassesTexts c.data_type (values_in zs) ⊎ EntriesPass c.data_type es → ⊥
+not-long c t p es ts zs flat n lists direct a (inl h) = no-lists c.way c.limits zs flat lists h
+not-long c t p es ts zs flat n lists direct a (inr (inl h)) = no-texts c.data_type (values_in zs) (all-sized t p ts zs n a) h
+not-long c t p es ts zs flat n lists direct a (inr (inr h)) = no-entries c.data_type es direct h
 
 -- ---- pairs with their values
 pub record IsFill (top : ℕ) (ps : List Pair) (vs : List Value) : Type 0 where

@@ -21,7 +21,7 @@ use Rattle.pq_tree.specs.Tree.{Leaf}
 use Rattle.read_laws.specs.State.{count}
 use Rattle.read_state.specs.declared.init.InitNested.TheVariants.{Primitive, List as ListOf, Struct}
 use Rattle.read_column.proofs.Pages.{rows-stored, taken-page}
-use Rattle.read_column.proofs.CanRead.{piece-of, reads-taken}
+use Rattle.read_column.proofs.CanRead.{is-read, piece-of, reads-taken}
 use Rattle.read_column.proofs.Columns.{StartsPlain, begins-stored, behind-none, continues, front-inside, front-on, holds-front, pages-begin, pages-push, rows-between, stored-append, stored-begins, stored-both, stored-parts, rows-joined, rows-sized}
 use Rattle.read_column.proofs.Taking.{begins-append, begins-taken, joined-last, sized-append, first-begins, piece-empty, piece-few, piece-some, rows-piece}
 use Rattle.read_column.proofs.Ways.{rows-append, rows-cons}
@@ -42,8 +42,11 @@ use Rattle.read_state.specs.Initial.{initial, IsWay}
 use Rattle.read_walk.specs.Pairs.{Item}
 use Rattle.read_walk.specs.Values.{Stored}
 use Rattle.read_walk.specs.Walk.{pair_of}
-use Rattle.pq_headline.specs.Columns.{ArrowColumn}
-use Rattle.read_column.specs.Dictionary.{Texts}
+use Rattle.pq_headline.specs.Columns.{ArrowColumn, is_alone}
+use Rattle.read_pieces.specs.Leaves.{in_bytes}
+use Rattle.read_column.specs.declared.deltas.Deltas.{Deltas}
+use Rattle.read_column.specs.Deltas.{deltas_in}
+use Rattle.read_column.specs.Dictionary.{Means, means}
 use Rattle.read_column.specs.Opened.{IsServedPage}
 use Rattle.read_column.specs.Queues.{Waiting, begun_queue, ends_in_leaf}
 use Rattle.read_column.specs.Reading.{IsFilled, IsReading, Reading, Steps, TakesAll, reading, stored_in}
@@ -60,10 +63,10 @@ taken-some (p ∷ os) after lent o t e =
     let h : Some p ≡ Some o = sym t.2 ∙ e in
     ap (λ (x : Outcome). x ∷ os) (same_Some p o h) ∙ ap (λ (xs : List Outcome). o ∷ xs) (sym t.1)
 
-pub queue-is : (stored : List ℕ → List Stored) (limit : ℕ) (o : ColumnOpening) (pieces : List (List Triple)) (os : List Outcome) (d : Option Texts) (q : Waiting) (b : Bool) → (r : IsReading stored limit o pieces (reading os d q b)) → r.queue ≡ q
+pub queue-is : (stored : List ℕ → List Stored) (limit : ℕ) (o : ColumnOpening) (pieces : List (List Triple)) (os : List Outcome) (d : Means) (q : Waiting) (b : Bool) → (r : IsReading stored limit o pieces (reading os d q b)) → r.queue ≡ q
 queue-is stored limit o pieces os d q b r = sym (same_Some q r.queue r.has)
 
-pub queued-of : (stored : List ℕ → List Stored) (limit : ℕ) (o : ColumnOpening) (pieces : List (List Triple)) (os : List Outcome) (d : Option Texts) (q : Waiting) (b : Bool) → (r : IsReading stored limit o pieces (reading os d q b)) → IsQueued o.column.way r.middle r.whole r.last q
+pub queued-of : (stored : List ℕ → List Stored) (limit : ℕ) (o : ColumnOpening) (pieces : List (List Triple)) (os : List Outcome) (d : Means) (q : Waiting) (b : Bool) → (r : IsReading stored limit o pieces (reading os d q b)) → IsQueued o.column.way r.middle r.whole r.last q
 queued-of stored limit o pieces os d q b r = subst (λ (v : Waiting). IsQueued o.column.way r.middle r.whole r.last v) (queue-is stored limit o pieces os d q b r) r.queued
 
 count-none : (parts : List InitNested) → count (map initial parts) ≡ 0
@@ -83,7 +86,7 @@ any-behind P [] o rest p = inl p
 any-behind P (x ∷ os) o rest p = inr (any-behind P os o rest p)
 
 -- the first outcome that is left is one of the source's
-pub any-left : (stored : List ℕ → List Stored) (limit : ℕ) (o : ColumnOpening) (pieces : List (List Triple)) (x : Outcome) (os : List Outcome) (d : Option Texts) (q : Waiting) (b : Bool) (P : Outcome → Type 0) → IsReading stored limit o pieces (reading (x ∷ os) d q b) → P x → AnyOf P o.outcomes
+pub any-left : (stored : List ℕ → List Stored) (limit : ℕ) (o : ColumnOpening) (pieces : List (List Triple)) (x : Outcome) (os : List Outcome) (d : Means) (q : Waiting) (b : Bool) (P : Outcome → Type 0) → IsReading stored limit o pieces (reading (x ∷ os) d q b) → P x → AnyOf P o.outcomes
 any-left stored limit o pieces x os d q b P r p = subst (λ (xs : List Outcome). AnyOf P xs) (sym r.outcomes) (any-behind P r.taken x os p)
 
 all-at : (P : Outcome → Type 0) (os : List Outcome) (o : Outcome) (rest : List Outcome) → All P (os ++ o ∷ rest) → P o
@@ -91,7 +94,7 @@ all-at P [] o rest a = All-head P o rest a
 all-at P (x ∷ os) o rest a = all-at P os o rest (All-tail P x (os ++ o ∷ rest) a)
 
 -- and what holds of all of them holds of it
-pub holds-left : (stored : List ℕ → List Stored) (limit : ℕ) (o : ColumnOpening) (pieces : List (List Triple)) (x : Outcome) (os : List Outcome) (d : Option Texts) (q : Waiting) (b : Bool) (P : Outcome → Type 0) → IsReading stored limit o pieces (reading (x ∷ os) d q b) → All P o.outcomes → P x
+pub holds-left : (stored : List ℕ → List Stored) (limit : ℕ) (o : ColumnOpening) (pieces : List (List Triple)) (x : Outcome) (os : List Outcome) (d : Means) (q : Waiting) (b : Bool) (P : Outcome → Type 0) → IsReading stored limit o pieces (reading (x ∷ os) d q b) → All P o.outcomes → P x
 holds-left stored limit o pieces x os d q b P r a = all-at P r.taken x os (subst (λ (xs : List Outcome). All P xs) r.outcomes a)
 
 pages-given : (l : Leaf) (es : Option (List Value)) (os : List Outcome) (ps : List Page) → ArePagesIn l es os ps → All IsGiven os
@@ -101,8 +104,8 @@ pages-given l es (gives_page p levels ∷ os) (q ∷ ps) a = All-cons IsGiven (g
 pages-given l es (gives_dictionary n body ∷ os) ps a = absurd a
 pages-given l es (fails e ∷ os) ps a = absurd a
 
-pub begins-reading : (stored : List ℕ → List Stored) (limit : ℕ) (o : ColumnOpening) (parts : List InitNested) (outcomes : List Outcome) → IsReadable o stored limit → o.outcomes ≡ outcomes → IsWay parts (thin o.column.way) → IsReading stored limit o [] (reading outcomes None (begun_queue parts o.chunk_size o.rows) false)
-begins-reading stored limit o parts outcomes r e way = record {
+pub begins-reading : (stored : List ℕ → List Stored) (limit : ℕ) (o : ColumnOpening) (parts : List InitNested) (outcomes : List Outcome) (k : Deltas) → IsReadable o stored limit → o.outcomes ≡ outcomes → IsWay parts (thin o.column.way) → k ≡ deltas_in (is_alone o.column.way) o.leaf.physical → IsReading stored limit o [] (reading outcomes (means None k) (begun_queue parts o.chunk_size o.rows) false)
+begins-reading stored limit o parts outcomes k r e way deltas = record {
   readable = r;
   queue = begun_queue parts o.chunk_size o.rows;
   has = refl;
@@ -131,20 +134,21 @@ begins-reading stored limit o parts outcomes r e way = record {
   behind = [];
   front = (refl, refl);
   texts = tt;
+  deltas = deltas;
   began = inr (refl, refl);
   pages = [];
   are = tt;
-  served = All-nil IsServedPage;
+  served = All-nil (IsServedPage o.column);
   triples = tt;
 }
 
-pub page-taken : (stored : List ℕ → List Stored) (limit : ℕ) (o : ColumnOpening) (pieces : List (List Triple)) (p : RawPage) (levels : Levels) (os : List Outcome) (d : Option Texts) (q q' : Waiting) (b : Bool) → (r : IsReading stored limit o pieces (reading (gives_page p levels ∷ os) d q b)) → TakesAll stored d q.chunk_size o.column.way r.middle (joined r.whole ++ r.last) q' p levels → IsReading stored limit o pieces (reading os d q' true)
+pub page-taken : (stored : List ℕ → List Stored) (limit : ℕ) (o : ColumnOpening) (pieces : List (List Triple)) (p : RawPage) (levels : Levels) (os : List Outcome) (d : Means) (q q' : Waiting) (b : Bool) → (r : IsReading stored limit o pieces (reading (gives_page p levels ∷ os) d q b)) → TakesAll stored d q.chunk_size o.column.way r.middle (joined r.whole ++ r.last) q' p levels → IsReading stored limit o pieces (reading os d q' true)
 page-taken stored limit o pieces p levels os d q q' b r t =
     let tk = t.takes.1 in
     let plainly = r.readable.values.plain in
     let of-leaf : levels ≡ leaf_levels o.leaf = holds-left stored limit o pieces (gives_page p levels) os d q b (IsOfLevels (leaf_levels o.leaf)) r r.readable.levels in
     let pairs : t.items ≡ map Ok (map pair_of tk.taken) = tk.pairs ∙ append-nil (map {B = Item} Ok (map pair_of tk.taken)) in
-    let page = taken-page (leaf_type o.column.data_type) o.leaf o.column.way stored d r.entries p levels t.items t.values tk.taken t.takes.0 plainly r.texts of-leaf r.readable.definition t.has pairs tk.values tk.within (begins-taken t.items [] tk.taken tk.pairs (first-begins t.items t.first)) t.rows in
+    let page = taken-page (leaf_type o.column.data_type) o.leaf o.column.way stored d r.entries (is_alone o.column.way) p levels t.items t.values tk.taken t.takes.0 plainly r.texts r.deltas of-leaf r.readable.definition t.has pairs tk.values tk.within (begins-taken t.items [] tk.taken tk.pairs (first-begins t.items t.first)) t.rows in
     let q-is = queue-is stored limit o pieces (gives_page p levels ∷ os) d q b r in
     let chunk : q'.chunk_size ≡ o.chunk_size = tk.chunk ∙ (ap (λ (v : Waiting). v.chunk_size) (sym q-is) ∙ r.chunk) in
     let outcome = gives_page p levels in
@@ -167,10 +171,11 @@ page-taken stored limit o pieces p levels os d q q' b r t =
       behind = r.behind ++ outcome ∷ [];
       front = front-on o.column o.leaf r.taken (outcome ∷ []) r.entries r.behind (λ _. tt) r.front;
       texts = r.texts;
+      deltas = r.deltas;
       began = inl (refl, any-behind GivesPage r.behind outcome [] tt);
       pages = r.pages ++ page.page ∷ [];
       are = pages-push o.leaf r.entries r.behind (outcome ∷ []) r.pages (page.page ∷ []) r.are (page.is, tt);
-      served = All-append IsServedPage r.behind (outcome ∷ []) r.served (All-cons IsServedPage outcome [] (t.has.indexed, t.has.opened.encoding) (All-nil IsServedPage));
+      served = All-append (IsServedPage o.column) r.behind (outcome ∷ []) r.served (All-cons (IsServedPage o.column) outcome [] ((t.has.encoding, t.has.opened.encoding), is-read o.column o.leaf p.header (in_bytes stored) d.deltas t.has.encoding r.readable.direct t.has.opened.encoding t.has.opened.read r.deltas) (All-nil (IsServedPage o.column)));
       triples = rw (← triples, pages) (stored-both (leaf_type o.column.data_type) o.leaf.physical (joined pieces ++ (joined r.whole ++ r.last)) tk.taken (stored_in r.pages) page.page.triples r.triples page.stored);
     }
 
@@ -220,7 +225,7 @@ pub no-rows : (ts : List Triple) → BeginsRow ts → rows_in ts ≤ 0 → ts �
 no-rows [] b n = refl
 no-rows (t ∷ ts) b n = absurd (let one : ◌≡◌ {A = ℕ} (cond (nat_eq t.repetition 0) 1 0) 1 = rw b refl in omega (arith, n, rows-cons t ts, one))
 
-pub ended-early : (stored : List ℕ → List Stored) (limit : ℕ) (o : ColumnOpening) (pieces : List (List Triple)) (d : Option Texts) (q : Waiting) (b : Bool) (e : Error) → IsReading stored limit o pieces (reading [] d q b) → e ≡ OutOfSpec S9 → 0 < q.rows → RefusesPiece o e
+pub ended-early : (stored : List ℕ → List Stored) (limit : ℕ) (o : ColumnOpening) (pieces : List (List Triple)) (d : Means) (q : Waiting) (b : Bool) (e : Error) → IsReading stored limit o pieces (reading [] d q b) → e ≡ OutOfSpec S9 → 0 < q.rows → RefusesPiece o e
 ended-early stored limit o pieces d q b e r is some = of-rows o e (inr (inr (inr (inr (inl is))))) (λ rows a.
     let c = continues stored limit o pieces (reading [] d q b) rows r (λ _. tt) a in
     let none : c.others ≡ [] = no-others o.leaf r.entries (leaf_type o.column.data_type) o.leaf.physical c.others c.rest c.pages c.stored in
@@ -229,7 +234,7 @@ ended-early stored limit o pieces d q b e r is some = of-rows o e (inr (inr (inr
     let q-is = queue-is stored limit o pieces [] d q b r in
     absurd (omega (arith, count, ap rows_in c.parts, rows-append (joined pieces ++ (joined r.whole ++ r.last)) c.others, ap rows_in none, a.count, all, less-last stored limit o pieces (reading [] d q b) r (omega (arith, some, ap (λ (v : Waiting). v.rows) q-is)), some, ap (λ (v : Waiting). v.rows) q-is)))
 
-pub source-fails : (stored : List ℕ → List Stored) (limit : ℕ) (o : ColumnOpening) (pieces : List (List Triple)) (e : Error) (os : List Outcome) (d : Option Texts) (q : Waiting) (b : Bool) → IsReading stored limit o pieces (reading (fails e ∷ os) d q b) → RefusesPiece o e
+pub source-fails : (stored : List ℕ → List Stored) (limit : ℕ) (o : ColumnOpening) (pieces : List (List Triple)) (e : Error) (os : List Outcome) (d : Means) (q : Waiting) (b : Bool) → IsReading stored limit o pieces (reading (fails e ∷ os) d q b) → RefusesPiece o e
 source-fails stored limit o pieces e os d q b r = inr (inl (holds-left stored limit o pieces (fails e) os d q b FailsAs r r.readable.failing, any-left stored limit o pieces (fails e) os d q b (λ x. x ≡ fails e) r refl))
 
 -- all outcomes are given, with the dictionary page in front
@@ -258,7 +263,7 @@ some-pages t p l es [] [] a b c are e some = absurd (omega (arith, ap rows_in e,
 some-pages t p l es [] (q ∷ ps) a b c are e some = absurd are
 some-pages t p l es (x ∷ os) ps a b c are e some = omega arith
 
-pub gives-piece : (stored : List ℕ → List Stored) (limit : ℕ) (o : ColumnOpening) (pieces : List (List Triple)) (outcomes : List Outcome) (d : Option Texts) (q q' : Waiting) (b : Bool) (p : List Kept × List Slot) → IsReading stored limit o pieces (reading outcomes d q b) → q ≡ record q' { whole = p ∷ q'.whole } → Gives stored limit o pieces p (reading outcomes d q' b)
+pub gives-piece : (stored : List ℕ → List Stored) (limit : ℕ) (o : ColumnOpening) (pieces : List (List Triple)) (outcomes : List Outcome) (d : Means) (q q' : Waiting) (b : Bool) (p : List Kept × List Slot) → IsReading stored limit o pieces (reading outcomes d q b) → q ≡ record q' { whole = p ∷ q'.whole } → Gives stored limit o pieces p (reading outcomes d q' b)
 gives-piece stored limit o pieces outcomes d q q' b p r e =
     let w = o.column.way in
     let t = leaf_type o.column.data_type in
@@ -293,7 +298,7 @@ gives-piece stored limit o pieces outcomes d q q' b p r e =
         reads = record {
           behind = r.behind ++ outcomes;
           front = subst (λ (xs : List Outcome). ReadsFront o.column o.leaf xs r.entries (r.behind ++ outcomes)) (sym r.outcomes) (front-on o.column o.leaf r.taken outcomes r.entries r.behind taken-some-page r.front);
-          pages = reads-taken o.column o.leaf r.entries r.behind outcomes r.pages (joined pieces ++ (joined r.whole ++ r.last)) r.readable.direct r.are r.served r.triples some-taken;
+          pages = reads-taken o.column o.leaf r.entries r.behind outcomes r.pages (joined pieces ++ (joined r.whole ++ r.last)) r.are r.served r.triples some-taken;
         };
         stored = second.0;
         are = second.3;
@@ -335,6 +340,7 @@ gives-piece stored limit o pieces outcomes d q q' b p r e =
         behind = r.behind;
         front = r.front;
         texts = r.texts;
+        deltas = r.deltas;
         began = r.began;
         pages = r.pages;
         are = r.are;
@@ -343,7 +349,7 @@ gives-piece stored limit o pieces outcomes d q q' b p r e =
       };
     }
 
-pub is-whole : (stored : List ℕ → List Stored) (limit : ℕ) (o : ColumnOpening) (pieces : List (List Triple)) (outcomes : List Outcome) (d : Option Texts) (q : Waiting) (b : Bool) → IsReading stored limit o pieces (reading outcomes d q b) → q.whole ≡ [] → q.rows ≡ 0 → outcomes ≡ [] → IsWhole o pieces
+pub is-whole : (stored : List ℕ → List Stored) (limit : ℕ) (o : ColumnOpening) (pieces : List (List Triple)) (outcomes : List Outcome) (d : Means) (q : Waiting) (b : Bool) → IsReading stored limit o pieces (reading outcomes d q b) → q.whole ≡ [] → q.rows ≡ 0 → outcomes ≡ [] → IsWhole o pieces
 is-whole stored limit o pieces outcomes d q b r w n e =
     let q-is = queue-is stored limit o pieces outcomes d q b r in
     let whole : r.whole ≡ [] = no-pieces o.column.way r.whole r.queue.whole (ap (λ (v : Waiting). v.whole) q-is ∙ w) r.queued.are in
@@ -362,7 +368,7 @@ is-whole stored limit o pieces outcomes d q b r w n e =
     }
 
 -- ---- the loop over pages
-pub ended : (stored : List ℕ → List Stored) (limit : ℕ) (o : ColumnOpening) (pieces : List (List Triple)) (taken : Bool) (after : List Outcome) (d : Option Texts) (q q' : Waiting) (b : Bool) → IsReading stored limit o pieces (reading [] d q b) → after ≡ [] → q' ≡ q → taken ≡ false → q.rows ≡ 0 → Steps stored limit o pieces taken q' after d b
+pub ended : (stored : List ℕ → List Stored) (limit : ℕ) (o : ColumnOpening) (pieces : List (List Triple)) (taken : Bool) (after : List Outcome) (d : Means) (q q' : Waiting) (b : Bool) → IsReading stored limit o pieces (reading [] d q b) → after ≡ [] → q' ≡ q → taken ≡ false → q.rows ≡ 0 → Steps stored limit o pieces taken q' after d b
 ended stored limit o pieces true after d q q' b r e same none rows = absurd (cc none)
 ended stored limit o pieces false after d q q' b r e same none rows = rw (e, same) (refl, rows, r)
 
@@ -370,14 +376,14 @@ pub not-not : (b : Bool) → not (not b) ≡ b
 not-not true = refl
 not-not false = refl
 
-pub ended-filled : (stored : List ℕ → List Stored) (limit : ℕ) (o : ColumnOpening) (pieces : List (List Triple)) (taken : Bool) (q : Waiting) (os : List Outcome) (d : Option Texts) (began : Bool) → taken ≡ false → Steps stored limit o pieces taken q os d began → IsFilled stored limit o pieces q os d began
+pub ended-filled : (stored : List ℕ → List Stored) (limit : ℕ) (o : ColumnOpening) (pieces : List (List Triple)) (taken : Bool) (q : Waiting) (os : List Outcome) (d : Means) (began : Bool) → taken ≡ false → Steps stored limit o pieces taken q os d began → IsFilled stored limit o pieces q os d began
 ended-filled stored limit o pieces true q os d began e s = absurd (cc e)
 ended-filled stored limit o pieces false q os d began e s = record {
   is = s.2;
   full = inr (s.0, s.1);
 }
 
-pub steps-on : (stored : List ℕ → List Stored) (limit : ℕ) (o : ColumnOpening) (pieces : List (List Triple)) (taken : Bool) (q : Waiting) (os : List Outcome) (d : Option Texts) (began : Bool) → taken ≡ true → Steps stored limit o pieces taken q os d began → IsReading stored limit o pieces (reading os d q began)
+pub steps-on : (stored : List ℕ → List Stored) (limit : ℕ) (o : ColumnOpening) (pieces : List (List Triple)) (taken : Bool) (q : Waiting) (os : List Outcome) (d : Means) (began : Bool) → taken ≡ true → Steps stored limit o pieces taken q os d began → IsReading stored limit o pieces (reading os d q began)
 steps-on stored limit o pieces true q os d began e s = s
 steps-on stored limit o pieces false q os d began e s = absurd (cc e)
 
@@ -385,7 +391,7 @@ pub begun-some : (parts : List InitNested) (o : Option Waiting) (q : Waiting) �
 begun-some parts None q e m = absurd (let h = sym e ∙ m in cc)
 begun-some parts (Some x) q e m = ap Some m
 
-pub nothing-more : (stored : List ℕ → List Stored) (limit : ℕ) (o : ColumnOpening) (pieces : List (List Triple)) (os : List Outcome) (d : Option Texts) (q : Waiting) (b : Bool) → IsFilled stored limit o pieces q os d b → q.whole ≡ [] → IsWhole o pieces
+pub nothing-more : (stored : List ℕ → List Stored) (limit : ℕ) (o : ColumnOpening) (pieces : List (List Triple)) (os : List Outcome) (d : Means) (q : Waiting) (b : Bool) → IsFilled stored limit o pieces q os d b → q.whole ≡ [] → IsWhole o pieces
 nothing-more stored limit o pieces os d q b f w = elim f.full [
   | inl some ↦ absurd (omega (arith, some, ap length w))
   | inr none ↦ is-whole stored limit o pieces os d q b f.is w none.1 none.0

@@ -15,12 +15,12 @@ use Rattle.shredding.proofs.Counts.{counted}
 use Rattle.shredding.proofs.Levels.{levels_are_within}
 use Rattle.shredding.proofs.Order.{columns_are_local}
 use Rattle.pq_files.specs.Chunk.{IsData, IsPageIn, Page, RawPage}
-use Rattle.pq_files.specs.Page.{Encoding, plain, dictionary, delta, delta_length, HasEncoding, LevelsAreRuns, encoding_numbered, rows_in}
+use Rattle.pq_files.specs.Page.{Encoding, plain, dictionary, delta, delta_length, HasEncoding, IsSpelled, LevelsAreRuns, encoding_numbered, rows_in, values_in}
 use Rattle.pq_files.specs.PageReasons.{IsOfVersion1, IsRead}
 use Rattle.pq_files.specs.Stored.{AreStored}
-use Rattle.pq_headline.specs.Columns.{ArrowColumn}
+use Rattle.pq_headline.specs.Columns.{ArrowColumn, is_alone}
 use Rattle.pq_files.specs.Reasons.{AnyOf}
-use Rattle.pq_headline.specs.FieldReasons.{GivesPage, BeginsWithEntries, HasMisplaced, HasN4Page, IsUnserved, ReadsFront}
+use Rattle.pq_headline.specs.FieldReasons.{GivesPage, BeginsWithEntries, HasMisplaced, HasN4Page, ReadsFront}
 use Rattle.pq_headline.specs.Openings.{leaf_levels, piece_size}
 use Rattle.pq_pages.specs.Held.{ArePagesIn}
 use Rattle.pq_pages.specs.Outcomes.{Levels, Outcome, gives_page, gives_dictionary, fails, IsOfLevels}
@@ -31,41 +31,58 @@ use Rattle.read_pieces.specs.Columns.{AreColumnRows, ColumnOpening, RefusesPiece
 use Rattle.read_walk.specs.Pairs.{Pair, Item}
 use Rattle.read_walk.specs.Values.{Stored}
 use Rattle.read_walk.specs.Walk.{begun, pair_of, values_of}
-use Rattle.pq_tree.specs.Physical.{Physical}
+use Rattle.pq_numbers.specs.Texts.{Begins}
+use Rattle.pq_tree.specs.Physical.{Physical, int32, int64, byte_array}
 use Rattle.read_pieces.specs.Leaves.{ReadsPlain, in_bytes}
 use Rattle.std.proofs.lemmas.Option.{same_Some}
-use Rattle.read_column.specs.Dictionary.{AreTextsOf, Texts}
+use Rattle.read_column.specs.Deltas.{HasFault, IsReadBy, SpellNone, deltas_in, present_in}
+use Rattle.read_column.specs.Dictionary.{AreTextsOf, Means, Texts}
+use Rattle.read_column.specs.declared.deltas.Deltas.{Deltas}
 use Rattle.read_column.specs.Opened.{IsServedIn, SayRuns, StatesRows, first_goes_on}
 use Rattle.read_column.specs.Queues.{Waiting}
-use Rattle.read_column.specs.Reading.{CountsOtherwise, HasItems, IsReading, RefusesPage, goes_on_error, reading, stored_in}
+use Rattle.read_column.specs.Reading.{CountsOtherwise, HasItems, HasNoDeltas, IsReading, RefusesPage, goes_on_error, reading, stored_in}
 use Rattle.read_column.specs.Taken.{joined, BeginsPair, StopsPage, TakesPairs}
 use Rattle.read_column.proofs.Columns.{continues, rows-joined, rows-sized, stored-begins}
 use Rattle.read_column.proofs.Long.{goes-on-in, lists-long, texts-long}
 use Rattle.read_column.proofs.Dictionaries.{are-bits}
-use Rattle.read_column.proofs.Foreseen.{all-behind, all-front, behind-taken, foreseen, stored-cut}
+use Rattle.read_column.proofs.Foreseen.{PairsForeseen, all-behind, all-front, behind-taken, foreseen, pairs-foreseen, stored-cut}
 use Rattle.read_column.proofs.Pages.{counts-rows, rows-stored}
+use Rattle.read_column.proofs.Present.{no-fault}
+use Rattle.read_column.proofs.Turned.{none-numbers, none-strings}
 use Rattle.read_column.proofs.Readings.{any-left, holds-left, of-rows, queue-is}
 use Rattle.read_column.proofs.Refused.{Chained, chained-behind, chained-front, no-fault-left, not-on, not-out-of-order, not-outside, not-too-few, not-unreadable, order-chained}
 use Rattle.read_column.proofs.Taking.{first-begins, lt-holds, piece-some}
 use Rattle.read_column.proofs.Ways.{begun-pairs, rows-append, rows-cons}
 
 -- ---- a page that is not served
--- an encoding that is not read here: deltas, one of no known number, or indices of truth values
-unread : (t : LeafType) (l : Leaf) (stored : List ℕ → List Stored) (h : Header) (o : Option Encoding) → ReadsPlain t l.physical stored → IsData h → ((e : Encoding) → HasEncoding h e → o ≡ Some e) → ((e : Encoding) → o ≡ Some e → HasEncoding h e) → (IsServedIn (in_bytes stored) h → ⊥) → (HasEncoding h delta ⊎ HasEncoding h delta_length) ⊎ ((e : Encoding) → HasEncoding h e → IsRead l e → ⊥)
-unread t l stored h None r is-data to back n = inr (λ e k read. absurd (cc (to e k)))
-unread t l stored h (Some plain) r is-data to back n = absurd (n (false, back plain refl, λ f. absurd (cc f)))
-unread t l stored h (Some delta) r is-data to back n = inl (inl (back delta refl))
-unread t l stored h (Some delta_length) r is-data to back n = inl (inr (back delta_length refl))
-unread t l stored h (Some dictionary) r is-data to back n = inr (λ e k read. not-read (in_bytes stored) refl (subst (λ (x : Encoding). IsRead l x) (sym (same_Some dictionary e (to e k))) read))
+-- Its encoding is not read here: deltas in a column that is not flat, or one that its physical type has not.
+abbrev Unread : ArrowColumn → Leaf → Header → Type 0
+Unread c l h = ((is_alone c.way ≡ false) × (HasEncoding h delta ⊎ HasEncoding h delta_length)) ⊎ ((e : Encoding) → HasEncoding h e → IsRead l e → ⊥)
+
+flat-numbers : (own : Bool) (p : Physical) → (p ≡ int32) ⊎ (p ≡ int64) → IsReadBy own (deltas_in true p) delta
+flat-numbers own p (inl e) = rw e tt
+flat-numbers own p (inr e) = rw e tt
+
+flat-strings : (own : Bool) (p : Physical) → p ≡ byte_array → IsReadBy own (deltas_in true p) delta_length
+flat-strings own p e = rw e tt
+
+unread : (t : LeafType) (c : ArrowColumn) (l : Leaf) (stored : List ℕ → List Stored) (k : Deltas) (h : Header) (flat : Bool) (o : Option Encoding) → is_alone c.way ≡ flat → k ≡ deltas_in flat l.physical → ReadsPlain t l.physical stored → ((e : Encoding) → HasEncoding h e → o ≡ Some e) → ((e : Encoding) → o ≡ Some e → HasEncoding h e) → (IsServedIn (in_bytes stored) k h → ⊥) → Unread c l h
+unread t c l stored k h flat None alone is r to back n = inr (λ e has read. absurd (cc (to e has)))
+unread t c l stored k h flat (Some plain) alone is r to back n = absurd (n (plain, back plain refl, tt))
+unread t c l stored k h false (Some delta) alone is r to back n = inl (alone, inl (back delta refl))
+unread t c l stored k h false (Some delta_length) alone is r to back n = inl (alone, inr (back delta_length refl))
+unread t c l stored k h true (Some delta) alone is r to back n = inr (λ e has read. n (delta, back delta refl, rw is (flat-numbers (in_bytes stored) l.physical (subst (λ (x : Encoding). IsRead l x) (sym (same_Some delta e (to e has))) read))))
+unread t c l stored k h true (Some delta_length) alone is r to back n = inr (λ e has read. n (delta_length, back delta_length refl, rw is (flat-strings (in_bytes stored) l.physical (subst (λ (x : Encoding). IsRead l x) (sym (same_Some delta_length e (to e has))) read))))
+unread t c l stored k h flat (Some dictionary) alone is r to back n = inr (λ e has read. not-read (in_bytes stored) refl (subst (λ (x : Encoding). IsRead l x) (sym (same_Some dictionary e (to e has))) read))
   where
     not-read : (b : Bool) → in_bytes stored ≡ b → IsRead l dictionary → ⊥
-    not-read true own read = n (true, back dictionary refl, λ f. own)
+    not-read true own read = n (dictionary, back dictionary refl, own)
     not-read false own read = are-bits t l.physical stored r own read
 
-unserved : (t : LeafType) (l : Leaf) (stored : List ℕ → List Stored) (h : Header) → ReadsPlain t l.physical stored → IsData h → (IsServedIn (in_bytes stored) h → ⊥) → (HasEncoding h delta ⊎ HasEncoding h delta_length) ⊎ ((e : Encoding) → HasEncoding h e → IsRead l e → ⊥)
-unserved t l stored (data_page h) r is-data n = unread t l stored (data_page h) (encoding_numbered h.encoding) r tt (λ e k. k) (λ e k. k) n
-unserved t l stored (data_page_2 h) r is-data n = unread t l stored (data_page_2 h) (encoding_numbered h.encoding) r tt (λ e k. k) (λ e k. k) n
-unserved t l stored (dictionary_page h) r is-data n = absurd is-data
+unserved : (t : LeafType) (c : ArrowColumn) (l : Leaf) (stored : List ℕ → List Stored) (k : Deltas) (h : Header) → k ≡ deltas_in (is_alone c.way) l.physical → ReadsPlain t l.physical stored → IsData h → (IsServedIn (in_bytes stored) k h → ⊥) → Unread c l h
+unserved t c l stored k (data_page h) is r is-data n = unread t c l stored k (data_page h) (is_alone c.way) (encoding_numbered h.encoding) refl is r (λ e x. x) (λ e x. x) n
+unserved t c l stored k (data_page_2 h) is r is-data n = unread t c l stored k (data_page_2 h) (is_alone c.way) (encoding_numbered h.encoding) refl is r (λ e x. x) (λ e x. x) n
+unserved t c l stored k (dictionary_page h) is r is-data n = absurd is-data
 
 no-runs : (l : Leaf) (h : Header) (levels : Levels) → levels ≡ leaf_levels l → (SayRuns levels h → ⊥) → IsData h × (LevelsAreRuns l h → ⊥)
 no-runs l (data_page h) levels e n = (tt, λ runs. n (rw e runs))
@@ -89,7 +106,7 @@ pub record PageOfRows (o : ColumnOpening) (es : Option (List Value)) (front : Li
   pub chained : Chained o.column.way own
   pub begins : BeginsRow own
 
-pub page-of-rows : (stored : List ℕ → List Stored) (limit : ℕ) (o : ColumnOpening) (pieces : List (List Triple)) (p : RawPage) (levels : Levels) (os : List Outcome) (d : Option Texts) (q : Waiting) (b : Bool) (rows : List Slot) → (r : IsReading stored limit o pieces (reading (gives_page p levels ∷ os) d q b)) → AreColumnRows o rows → PageOfRows o r.entries (joined pieces ++ (joined r.whole ++ r.last)) p rows
+pub page-of-rows : (stored : List ℕ → List Stored) (limit : ℕ) (o : ColumnOpening) (pieces : List (List Triple)) (p : RawPage) (levels : Levels) (os : List Outcome) (d : Means) (q : Waiting) (b : Bool) (rows : List Slot) → (r : IsReading stored limit o pieces (reading (gives_page p levels ∷ os) d q b)) → AreColumnRows o rows → PageOfRows o r.entries (joined pieces ++ (joined r.whole ++ r.last)) p rows
 page-of-rows stored limit o pieces p levels os d q b rows r a =
     let w = o.column.way in
     let t = leaf_type o.column.data_type in
@@ -113,7 +130,7 @@ page-of-rows stored limit o pieces p levels os d q b rows r a =
       begins = stored-begins t o.leaf.physical cut.0 (first.0).triples cut.3 first.3.is.begins_row;
     }
 
-pub levels-of : (stored : List ℕ → List Stored) (limit : ℕ) (o : ColumnOpening) (pieces : List (List Triple)) (p : RawPage) (levels : Levels) (os : List Outcome) (d : Option Texts) (q : Waiting) (b : Bool) → (r : IsReading stored limit o pieces (reading (gives_page p levels ∷ os) d q b)) → levels ≡ leaf_levels o.leaf
+pub levels-of : (stored : List ℕ → List Stored) (limit : ℕ) (o : ColumnOpening) (pieces : List (List Triple)) (p : RawPage) (levels : Levels) (os : List Outcome) (d : Means) (q : Waiting) (b : Bool) → (r : IsReading stored limit o pieces (reading (gives_page p levels ∷ os) d q b)) → levels ≡ leaf_levels o.leaf
 levels-of stored limit o pieces p levels os d q b r = holds-left stored limit o pieces (gives_page p levels) os d q b (IsOfLevels (leaf_levels o.leaf)) r r.readable.levels
 
 -- ---- the first pair
@@ -137,12 +154,12 @@ pub record ComesOfRows (o : ColumnOpening) (front taken : List Triple) (page' : 
   pub parts : column o.column.way rows ≡ front ++ (taken ++ (own ++ others))
   pub comes : StillComes o.column.way page' left' own
 
-pub comes-of-rows : (stored : List ℕ → List Stored) (limit : ℕ) (o : ColumnOpening) (pieces : List (List Triple)) (p : RawPage) (levels : Levels) (os : List Outcome) (d : Option Texts) (q : Waiting) (b : Bool) (items : List Item) (values : List ℕ) (n : Option ℕ) (queue : Waiting) (page' : List Item) (left' : List Stored) (rows : List Slot) → (r : IsReading stored limit o pieces (reading (gives_page p levels ∷ os) d q b)) → HasItems (in_bytes stored) d p levels items values → (takes : TakesPairs n o.column.way r.middle (joined r.whole ++ r.last) queue items page' (stored values) left') → AreColumnRows o rows → ComesOfRows o (joined pieces ++ (joined r.whole ++ r.last)) takes.taken page' left' rows
+pub comes-of-rows : (stored : List ℕ → List Stored) (limit : ℕ) (o : ColumnOpening) (pieces : List (List Triple)) (p : RawPage) (levels : Levels) (os : List Outcome) (d : Means) (q : Waiting) (b : Bool) (items : List Item) (values : List ℕ) (n : Option ℕ) (queue : Waiting) (page' : List Item) (left' : List Stored) (rows : List Slot) → (r : IsReading stored limit o pieces (reading (gives_page p levels ∷ os) d q b)) → HasItems (in_bytes stored) d p levels items values → (takes : TakesPairs n o.column.way r.middle (joined r.whole ++ r.last) queue items page' (stored values) left') → AreColumnRows o rows → ComesOfRows o (joined pieces ++ (joined r.whole ++ r.last)) takes.taken page' left' rows
 comes-of-rows stored limit o pieces p levels os d q b items values n queue page' left' rows r has takes a =
     let w = o.column.way in
     let t = leaf_type o.column.data_type in
     let x = page-of-rows stored limit o pieces p levels os d q b rows r a in
-    let f = foreseen t o.leaf w stored d r.entries p levels items values x.page x.own r.readable.values.plain r.texts (levels-of stored limit o pieces p levels os d q b r) has x.is x.stored x.within in
+    let f = foreseen t o.leaf w stored d r.entries (is_alone o.column.way) p levels items values x.page x.own r.readable.values.plain r.texts r.deltas (levels-of stored limit o pieces p levels os d q b r) has x.is x.stored x.within in
     let behind = behind-taken w x.own takes.taken page' left' f.rest x.within takes.within (sym f.pairs ∙ takes.pairs) (sym f.values ∙ takes.values) in
     let front = joined pieces ++ (joined r.whole ++ r.last) in
     record {
@@ -173,7 +190,7 @@ row-begins (u ∷ us) p is page' e f b =
     let one : ◌≡◌ {A = ℕ} (cond (nat_eq u.repetition 0) 1 0) 1 = rw z refl in
     omega (arith, rows-cons u us, one)
 
-too-many : (stored : List ℕ → List Stored) (limit : ℕ) (o : ColumnOpening) (pieces : List (List Triple)) (p : RawPage) (levels : Levels) (os : List Outcome) (d : Option Texts) (q : Waiting) (b : Bool) (items : List Item) (values : List ℕ) (n : Option ℕ) (queue : Waiting) (page' : List Item) (left' : List Stored) (rows : List Slot) (pair : Pair) (is : List Item) → (r : IsReading stored limit o pieces (reading (gives_page p levels ∷ os) d q b)) → HasItems (in_bytes stored) d p levels items values → (takes : TakesPairs n o.column.way r.middle (joined r.whole ++ r.last) queue items page' (stored values) left') → queue.rows ≡ 0 → page' ≡ Ok pair ∷ is → AreColumnRows o rows → ⊥
+too-many : (stored : List ℕ → List Stored) (limit : ℕ) (o : ColumnOpening) (pieces : List (List Triple)) (p : RawPage) (levels : Levels) (os : List Outcome) (d : Means) (q : Waiting) (b : Bool) (items : List Item) (values : List ℕ) (n : Option ℕ) (queue : Waiting) (page' : List Item) (left' : List Stored) (rows : List Slot) (pair : Pair) (is : List Item) → (r : IsReading stored limit o pieces (reading (gives_page p levels ∷ os) d q b)) → HasItems (in_bytes stored) d p levels items values → (takes : TakesPairs n o.column.way r.middle (joined r.whole ++ r.last) queue items page' (stored values) left') → queue.rows ≡ 0 → page' ≡ Ok pair ∷ is → AreColumnRows o rows → ⊥
 too-many stored limit o pieces p levels os d q b items values n queue page' left' rows pair is r has takes none next a =
     let w = o.column.way in
     let c = comes-of-rows stored limit o pieces p levels os d q b items values n queue page' left' rows r has takes a in
@@ -203,7 +220,7 @@ too-many stored limit o pieces p levels os d q b items values n queue page' left
 
 -- ---- V1 and N8
 
-stops : (counts : ItemsAreCounted) (stored : List ℕ → List Stored) (limit : ℕ) (o : ColumnOpening) (pieces : List (List Triple)) (p : RawPage) (levels : Levels) (os : List Outcome) (d : Option Texts) (q : Waiting) (b : Bool) (items : List Item) (values : List ℕ) (n : Option ℕ) (e : Error) → (r : IsReading stored limit o pieces (reading (gives_page p levels ∷ os) d q b)) → HasItems (in_bytes stored) d p levels items values → BeginsPair items → n ≡ o.chunk_size → StopsPage limit n o.column.way r.middle (joined r.whole ++ r.last) items (stored values) e → RefusesPiece o e
+stops : (counts : ItemsAreCounted) (stored : List ℕ → List Stored) (limit : ℕ) (o : ColumnOpening) (pieces : List (List Triple)) (p : RawPage) (levels : Levels) (os : List Outcome) (d : Means) (q : Waiting) (b : Bool) (items : List Item) (values : List ℕ) (n : Option ℕ) (e : Error) → (r : IsReading stored limit o pieces (reading (gives_page p levels ∷ os) d q b)) → HasItems (in_bytes stored) d p levels items values → BeginsPair items → n ≡ o.chunk_size → StopsPage limit n o.column.way r.middle (joined r.whole ++ r.last) items (stored values) e → RefusesPiece o e
 stops counts stored limit o pieces p levels os d q b items values n e r has first size s =
     let of-leaf = levels-of stored limit o pieces p levels os d q b r in
     let w = o.column.way in
@@ -239,11 +256,11 @@ front-any P c l (gives_page p levels ∷ os) es behind f a = subst (λ (xs : Lis
 front-any P c l (fails e ∷ os) es behind f a = subst (λ (xs : List Outcome). AnyOf P xs) f.1 a
 front-any P c l (gives_dictionary n body ∷ os) es behind f a = inr (subst (λ (xs : List Outcome). AnyOf P xs) f.4 a)
 
-goes-on : (stored : List ℕ → List Stored) (limit : ℕ) (o : ColumnOpening) (pieces : List (List Triple)) (p : RawPage) (levels : Levels) (os : List Outcome) (d : Option Texts) (q : Waiting) (is_first b : Bool) (items : List Item) (values : List ℕ) (e : Error) → b ≡ not is_first → (r : IsReading stored limit o pieces (reading (gives_page p levels ∷ os) d q b)) → HasItems (in_bytes stored) d p levels items values → first_goes_on items ≡ true → e ≡ goes_on_error p.header is_first → RefusesPiece o e
+goes-on : (stored : List ℕ → List Stored) (limit : ℕ) (o : ColumnOpening) (pieces : List (List Triple)) (p : RawPage) (levels : Levels) (os : List Outcome) (d : Means) (q : Waiting) (is_first b : Bool) (items : List Item) (values : List ℕ) (e : Error) → b ≡ not is_first → (r : IsReading stored limit o pieces (reading (gives_page p levels ∷ os) d q b)) → HasItems (in_bytes stored) d p levels items values → first_goes_on items ≡ true → e ≡ goes_on_error p.header is_first → RefusesPiece o e
 goes-on stored limit o pieces p levels os d q is_first b items values e same r has on is = elim (which p.header is_first e is) [
   | inl s5 ↦ of-rows o e (inr (inl s5)) (λ rows a.
       let x = page-of-rows stored limit o pieces p levels os d q b rows r a in
-      let f = foreseen (leaf_type o.column.data_type) o.leaf o.column.way stored d r.entries p levels items values x.page x.own r.readable.values.plain r.texts (levels-of stored limit o pieces p levels os d q b r) has x.is x.stored x.within in
+      let f = foreseen (leaf_type o.column.data_type) o.leaf o.column.way stored d r.entries (is_alone o.column.way) p levels items values x.page x.own r.readable.values.plain r.texts r.deltas (levels-of stored limit o pieces p levels os d q b r) has x.is x.stored x.within in
       not-first items x.own f.pairs x.begins on)
   | inr n8 ↦ inr (inr (inr (inr (inl (
     n8.0,
@@ -270,11 +287,11 @@ pairs-only (p ∷ ps) (q ∷ qs) e =
     let tail : map {B = Item} Ok ps ≡ map Ok qs = cc in
     ap (λ (x : Pair). x ∷ ps) head ∙ ap (λ (xs : List Pair). q ∷ xs) (pairs-only ps qs tail)
 
-other-rows : (stored : List ℕ → List Stored) (limit : ℕ) (o : ColumnOpening) (pieces : List (List Triple)) (p : RawPage) (levels : Levels) (os : List Outcome) (d : Option Texts) (q : Waiting) (b : Bool) (items : List Item) (values : List ℕ) (n : Option ℕ) (rows : List Slot) → (r : IsReading stored limit o pieces (reading (gives_page p levels ∷ os) d q b)) → HasItems (in_bytes stored) d p levels items values → CountsOtherwise n o.column.way r.middle (joined r.whole ++ r.last) p.header items (stored values) → AreColumnRows o rows → ⊥
+other-rows : (stored : List ℕ → List Stored) (limit : ℕ) (o : ColumnOpening) (pieces : List (List Triple)) (p : RawPage) (levels : Levels) (os : List Outcome) (d : Means) (q : Waiting) (b : Bool) (items : List Item) (values : List ℕ) (n : Option ℕ) (rows : List Slot) → (r : IsReading stored limit o pieces (reading (gives_page p levels ∷ os) d q b)) → HasItems (in_bytes stored) d p levels items values → CountsOtherwise n o.column.way r.middle (joined r.whole ++ r.last) p.header items (stored values) → AreColumnRows o rows → ⊥
 other-rows stored limit o pieces p levels os d q b items values n rows r has x a =
     let t = leaf_type o.column.data_type in
     let c = page-of-rows stored limit o pieces p levels os d q b rows r a in
-    let f = foreseen t o.leaf o.column.way stored d r.entries p levels items values c.page c.own r.readable.values.plain r.texts (levels-of stored limit o pieces p levels os d q b r) has c.is c.stored c.within in
+    let f = foreseen t o.leaf o.column.way stored d r.entries (is_alone o.column.way) p levels items values c.page c.own r.readable.values.plain r.texts r.deltas (levels-of stored limit o pieces p levels os d q b r) has c.is c.stored c.within in
     let taken = x.takes.1.taken in
     let pairs : map Ok (map pair_of c.own) ≡ map Ok (map pair_of taken) = sym f.pairs ∙ (x.takes.1.pairs ∙ append-nil (map {B = Item} Ok (map pair_of taken))) in
     let same : map pair_of c.own ≡ map pair_of taken = pairs-only (map pair_of c.own) (map pair_of taken) pairs in
@@ -282,13 +299,13 @@ other-rows stored limit o pieces p levels os d q b items values n rows r has x a
     x.otherwise (subst (StatesRows p.header) count (counts-rows p.header (c.page).triples c.is.is.counted))
 
 -- indices, and no dictionary page was taken
-no-entries : (stored : List ℕ → List Stored) (limit : ℕ) (o : ColumnOpening) (pieces : List (List Triple)) (p : RawPage) (levels : Levels) (os : List Outcome) (d : Option Texts) (q : Waiting) (b : Bool) → (r : IsReading stored limit o pieces (reading (gives_page p levels ∷ os) d q b)) → d ≡ None → HasEncoding p.header dictionary → HasMisplaced o.outcomes
+no-entries : (stored : List ℕ → List Stored) (limit : ℕ) (o : ColumnOpening) (pieces : List (List Triple)) (p : RawPage) (levels : Levels) (os : List Outcome) (d : Means) (q : Waiting) (b : Bool) → (r : IsReading stored limit o pieces (reading (gives_page p levels ∷ os) d q b)) → d.entries ≡ None → HasEncoding p.header dictionary → HasMisplaced o.outcomes
 no-entries stored limit o pieces p levels os d q b r none indices = record {
   before = r.taken;
   outcome = gives_page p levels;
   rest = os;
   parts = r.outcomes;
-  misplaced = inr (indices, λ begins. none-begins o.column o.leaf r.taken p levels os r.entries r.behind r.front (no-texts stored o.leaf.physical d r.entries none r.texts) (subst BeginsWithEntries r.outcomes begins));
+  misplaced = inr (indices, λ begins. none-begins o.column o.leaf r.taken p levels os r.entries r.behind r.front (no-texts stored o.leaf.physical d.entries r.entries none r.texts) (subst BeginsWithEntries r.outcomes begins));
 }
   where
     no-texts : (stored : List ℕ → List Stored) (p : Physical) (d : Option Texts) (es : Option (List Value)) → d ≡ None → AreTextsOf stored p d es → es ≡ None
@@ -302,19 +319,39 @@ no-entries stored limit o pieces p levels os d q b r none indices = record {
     none-begins c l (fails x ∷ taken) p levels os es behind f e b = b
     none-begins c l (gives_dictionary n body ∷ taken) p levels os es behind f e b = absurd (let h = sym f.1 ∙ e in cc h)
 
-pub page-refused : (counts : ItemsAreCounted) (stored : List ℕ → List Stored) (limit : ℕ) (o : ColumnOpening) (pieces : List (List Triple)) (p : RawPage) (levels : Levels) (os : List Outcome) (d : Option Texts) (q : Waiting) (is_first : Bool) (b : Bool) (e : Error) → b ≡ not is_first → (r : IsReading stored limit o pieces (reading (gives_page p levels ∷ os) d q b)) → RefusesPage stored d limit is_first q.chunk_size o.column.way r.middle (joined r.whole ++ r.last) p levels e → RefusesPiece o e
+-- ---- deltas that cannot be turned plain
+-- of rows all pairs can be read, and the section begins with their values
+no-deltas : (stored : List ℕ → List Stored) (limit : ℕ) (o : ColumnOpening) (pieces : List (List Triple)) (p : RawPage) (levels : Levels) (os : List Outcome) (d : Means) (q : Waiting) (b : Bool) (e : Error) → (r : IsReading stored limit o pieces (reading (gives_page p levels ∷ os) d q b)) → HasNoDeltas (in_bytes stored) d p levels e → RefusesPiece o e
+no-deltas stored limit o pieces p levels os d q b e r x = elim x.why [
+  | inl s4 ↦ of-rows o e (inl s4.0) (λ rows a. let f = of rows a in no-fault (map pair_of f.0.own) (subst HasFault f.1.pairs s4.1))
+  | inr s6 ↦ of-rows o e (inr (inr (inl s6.0))) (λ rows a. let f = of rows a in none x.encoding x.deltas x.has.opened.read (values_in f.0.page.triples) f.1.present f.1.spelled s6.1)
+]
+  where
+    of : (rows : List Slot) → AreColumnRows o rows → (y : PageOfRows o r.entries (joined pieces ++ (joined r.whole ++ r.last)) p rows) × PairsForeseen o.leaf r.entries x.encoding p x.has.definition x.items x.section (values_in y.page.triples) y.own
+    of rows a =
+        let y = page-of-rows stored limit o pieces p levels os d q b rows r a in
+        (y, pairs-foreseen (leaf_type o.column.data_type) o.leaf (in_bytes stored) d.deltas x.encoding r.entries p levels x.items x.section y.page y.own (levels-of stored limit o pieces p levels os d q b r) x.has y.is y.stored)
+
+    none : (f : Encoding) → (f ≡ delta) ⊎ (f ≡ delta_length) → IsReadBy (in_bytes stored) d.deltas f → (vs : List Value) → length vs ≡ present_in x.has.definition x.items → Begins (IsSpelled f o.leaf r.entries) x.section vs → SpellNone d.deltas (present_in x.has.definition x.items) x.section → ⊥
+    none plain w read vs size spelled s = elim w [ inl g ↦ absurd (cc g) | inr g ↦ absurd (cc g) ]
+    none dictionary w read vs size spelled s = elim w [ inl g ↦ absurd (cc g) | inr g ↦ absurd (cc g) ]
+    none delta w read vs size spelled s = none-numbers (in_bytes stored) o.leaf r.entries (is_alone o.column.way) d.deltas (present_in x.has.definition x.items) x.section vs r.deltas read s size spelled
+    none delta_length w read vs size spelled s = none-strings (in_bytes stored) o.leaf r.entries (is_alone o.column.way) d.deltas (present_in x.has.definition x.items) x.section vs r.deltas read s size spelled
+
+pub page-refused : (counts : ItemsAreCounted) (stored : List ℕ → List Stored) (limit : ℕ) (o : ColumnOpening) (pieces : List (List Triple)) (p : RawPage) (levels : Levels) (os : List Outcome) (d : Means) (q : Waiting) (is_first : Bool) (b : Bool) (e : Error) → b ≡ not is_first → (r : IsReading stored limit o pieces (reading (gives_page p levels ∷ os) d q b)) → RefusesPage stored d limit is_first q.chunk_size o.column.way r.middle (joined r.whole ++ r.last) p levels e → RefusesPiece o e
 page-refused counts stored limit o pieces p levels os d q is_first b e same r why = elim why [
   | inl (inl n4) ↦ elim n4.1 [
-    | inl n ↦ elim (unserved (leaf_type o.column.data_type) o.leaf stored p.header r.readable.values.plain n.0 n.1) [
-      | inl deltas ↦ inr (inr (inr (inl (n4.0, inr (any-left stored limit o pieces (gives_page p levels) os d q b IsUnserved r deltas)))))
-      | inr none ↦ inr (inr (inr (inl (n4.0, inl (any-left stored limit o pieces (gives_page p levels) os d q b (HasN4Page o.column o.leaf) r (inl (inl (n.0, inl none))))))))
+    | inl n ↦ elim (unserved (leaf_type o.column.data_type) o.column o.leaf stored d.deltas p.header r.deltas r.readable.values.plain n.0 n.1) [
+      | inl nested ↦ inr (inr (inr (inl (n4.0, any-left stored limit o pieces (gives_page p levels) os d q b (HasN4Page o.column o.leaf) r (inr (inr nested))))))
+      | inr none ↦ inr (inr (inr (inl (n4.0, any-left stored limit o pieces (gives_page p levels) os d q b (HasN4Page o.column o.leaf) r (inl (inl (n.0, inl none)))))))
     ]
-    | inr n ↦ (let x = no-runs o.leaf p.header levels (levels-of stored limit o pieces p levels os d q b r) n in inr (inr (inr (inl (n4.0, inl (any-left stored limit o pieces (gives_page p levels) os d q b (HasN4Page o.column o.leaf) r (inl (inl (x.0, inr x.1)))))))))
+    | inr n ↦ (let x = no-runs o.leaf p.header levels (levels-of stored limit o pieces p levels os d q b r) n in inr (inr (inr (inl (n4.0, any-left stored limit o pieces (gives_page p levels) os d q b (HasN4Page o.column o.leaf) r (inl (inl (x.0, inr x.1))))))))
   ]
   | inl (inr s4) ↦ (
       let of-leaf = levels-of stored limit o pieces p levels os d q b r in
       of-rows o e (inl s4.0) (λ rows a. let x = page-of-rows stored limit o pieces p levels os d q b rows r a in s4.1 o.leaf (sym (ap (λ (v : Levels). v.repetition) of-leaf)) (sym (ap (λ (v : Levels). v.definition) of-leaf)) x.is.is.sections x.is.is.split))
-  | inr (inl s3) ↦ inr (inr (inl (s3.0, no-entries stored limit o pieces p levels os d q b r s3.1 s3.2)))
+  | inr (inl (inl s3)) ↦ inr (inr (inl (s3.0, no-entries stored limit o pieces p levels os d q b r s3.1 s3.2)))
+  | inr (inl (inr deltas)) ↦ no-deltas stored limit o pieces p levels os d q b e r deltas
   | inr (inr x) ↦ elim x.why [
     | inl on ↦ goes-on stored limit o pieces p levels os d q is_first b x.items x.values e same r x.has on.0 on.1
     | inr (inl s) ↦ stops counts stored limit o pieces p levels os d q b x.items x.values q.chunk_size e r x.has (first-begins x.items s.0) (ap (λ (v : Waiting). v.chunk_size) (sym (queue-is stored limit o pieces (gives_page p levels ∷ os) d q b r)) ∙ r.chunk) s.1

@@ -19,7 +19,8 @@ use Rattle.read_state.proofs.Empty.{begin-empty}
 use Rattle.read_walk.specs.Pairs.{Item}
 use Rattle.read_walk.specs.Values.{Stored}
 use Rattle.read_walk.specs.Walk.{Extends, pair_of, begun, begins}
-use Rattle.read_column.specs.Queues.{ends_in_leaf, IsSound}
+use Rattle.pq_headline.specs.Columns.{is_alone}
+use Rattle.read_column.specs.Queues.{ends_in_leaf, is_leaf_alone, IsSound}
 
 -- ---- ways
 pub ends-way : (parts : List InitNested) → ends_in_leaf parts ≡ true → (w : Way) × IsWay parts w
@@ -38,6 +39,22 @@ way-ends [] w h = absurd h
 way-ends (Primitive n ∷ parts) w h = no-more n parts h.0
 way-ends (ListOf n ∷ parts) w h = way-ends parts h.0 h.1
 way-ends (Struct n ∷ parts) w h = way-ends parts h.0 h.1
+
+alone-thin : (w : Way) → is_alone (thin w) ≡ is_alone w
+alone-thin (at_leaf n) = refl
+alone-thin (in_list n w) = refl
+alone-thin (in_struct n i w) = refl
+
+-- a way is no more than its leaf where its parts are
+alone-parts : (parts : List InitNested) (w : Way) → IsWay parts w → is_leaf_alone parts ≡ is_alone w
+alone-parts [] w h = absurd h
+alone-parts (Primitive n ∷ []) w h = rw h.1 refl
+alone-parts (Primitive n ∷ part ∷ parts) w h = absurd (cc h.0)
+alone-parts (ListOf n ∷ parts) w h = rw h.2 refl
+alone-parts (Struct n ∷ parts) w h = rw h.2 refl
+
+pub way-alone : (parts : List InitNested) (w : Way) → IsWay parts (thin w) → is_leaf_alone parts ≡ is_alone w
+way-alone parts w h = alone-parts parts (thin w) h ∙ alone-thin w
 
 pub initial-empty : (parts : List InitNested) (w : Way) → IsWay parts w → map initial parts ≡ empty_state w
 initial-empty [] w h = absurd h

@@ -1,18 +1,18 @@
--- The entries of a dictionary, and indices of them as plain values (Parquet format, "Dictionary Page"; Encodings, "Dictionary Encoding").
+-- The entries of a dictionary, and values as plain bytes, by their indices too (Parquet format, "Dictionary Page"; Encodings, "Dictionary Encoding").
 use Rattle.std.specs.Prelude.{◌≡◌, ◌⊎◌, ℕ, ◌-◌, ◌*◌, ◌<◌, ◌≤◌, true, false, Option, Some, None, Ok, Err, List, [], ◌∷◌, ◌++◌, map, flat_map, length, take, drop, cond, nat_le, slice_get}
 use Rattle.std.specs.List.{AllZip}
 use Rattle.columns_base.specs.declared.error.Error.{Error}
 use Rattle.columns_base.specs.declared.error.Error.TheVariants.{OutOfSpec}
 use Rattle.columns_base.specs.declared.error.S.TheVariants.{S6, S7}
 use Rattle.shredding.specs.Slot.{Value}
-use Rattle.pq_files.specs.Chunk.{count_in}
-use Rattle.pq_files.specs.Page.{HasEncoding, plain, dictionary}
+use Rattle.pq_files.specs.Page.{Encoding, plain, dictionary, delta, delta_length}
 use Rattle.pq_files.specs.Plain.{IsPlain}
 use Rattle.pq_runs.specs.Hybrid.{Item as Index, given, hybrid}
-use Rattle.pq_tree.specs.Headers.{Header}
 use Rattle.pq_tree.specs.Physical.{Physical}
 use Rattle.read_pieces.specs.Leaves.{AreEights, IsValue, in_bytes}
 use Rattle.read_walk.specs.Values.{Stored}
+use Rattle.read_column.specs.Deltas.{AreTurned}
+use Rattle.read_column.specs.declared.deltas.Deltas.{Deltas}
 use Rattle.read_column.specs.declared.entries.Place.{Place}
 
 -- ---- entries
@@ -91,8 +91,20 @@ abbrev pub indices_in : ℕ → List ℕ → List Index
 indices_in n [] = []
 indices_in n (w ∷ runs) = cond (nat_le w 32) (hybrid w n runs) []
 
--- the values of a page's section as plain bytes: as they stand, or the entries at its indices
-abbrev pub HasValues : Option Texts → Header → List ℕ → List ℕ → Type 0
-HasValues d h section values =
-    (HasEncoding h plain × (values ≡ section))
-    ⊎ (HasEncoding h dictionary × (texts : Texts) × (d ≡ Some texts) × IsLaid texts (indices_in (count_in h) section) values)
+-- ---- a page's values
+
+-- what the values of a column's pages are told by, where they do not stand plain: the entries of its dictionary page, and its deltas
+pub record Means : Type 0 where
+  pub entries : Option Texts
+  pub deltas : Deltas
+
+abbrev pub means : Option Texts → Deltas → Means
+means d k = record { entries = d; deltas = k }
+
+-- The values of a section of so many pairs, of which so many have a value, as plain bytes: as they stand, the entries at its indices, or what its
+-- deltas make.
+abbrev pub HasValues : Means → Encoding → ℕ → ℕ → List ℕ → List ℕ → Type 0
+HasValues m plain pairs present section values = values ≡ section
+HasValues m dictionary pairs present section values = (texts : Texts) × (m.entries ≡ Some texts) × IsLaid texts (indices_in pairs section) values
+HasValues m delta pairs present section values = AreTurned m.deltas present section values
+HasValues m delta_length pairs present section values = AreTurned m.deltas present section values

@@ -1,3 +1,4 @@
+pub mod Deltas
 pub mod Opened
 pub mod Queues
 pub mod Reading
@@ -5,3 +6,4 @@ pub mod SlotCode
 pub mod Taken
 pub mod Dictionary
 pub mod Entries
+pub mod Laid

@@ -18,6 +18,11 @@ ends_in_leaf (Primitive n ∷ part ∷ parts) = false
 ends_in_leaf (ListOf n ∷ parts) = ends_in_leaf parts
 ends_in_leaf (Struct n ∷ parts) = ends_in_leaf parts
 
+-- no part but the leaf
+abbrev pub is_leaf_alone : List InitNested → Bool
+is_leaf_alone (Primitive n ∷ []) = true
+is_leaf_alone parts = false
+
 -- The parts of the way, how many rows go into a piece, the whole pieces, the last one's state and leaf slots, how many rows it gets, and how many
 -- are left behind it.
 pub record Waiting : Type 0 where

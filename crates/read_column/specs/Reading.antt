@@ -3,15 +3,16 @@ use Rattle.std.specs.Prelude.{◌≡◌, ◌⊎◌, ℕ, ◌<◌, Bool, true, fa
 use Rattle.columns_base.specs.declared.error.Error.{Error}
 use Rattle.columns_base.specs.declared.error.Error.TheVariants.{NotYetImplemented, OutOfSpec}
 use Rattle.columns_base.specs.declared.error.N.TheVariants.{N8}
-use Rattle.columns_base.specs.declared.error.S.TheVariants.{S3, S5, S9}
+use Rattle.columns_base.specs.declared.error.S.TheVariants.{S3, S4, S5, S6, S9}
 use Rattle.columns_core.specs.Shapes.{leaf_type}
 use Rattle.shredding.specs.Shape.{Way}
 use Rattle.shredding.specs.Shred.{Triple}
 use Rattle.shredding.specs.Slot.{Value}
-use Rattle.pq_files.specs.Chunk.{Page, RawPage}
-use Rattle.pq_files.specs.Page.{HasEncoding, Sections, dictionary, rows_in}
+use Rattle.pq_files.specs.Chunk.{Page, RawPage, count_in}
+use Rattle.pq_files.specs.Page.{Encoding, HasEncoding, Sections, dictionary, delta, delta_length, rows_in}
 use Rattle.pq_files.specs.Reasons.{AnyOf}
 use Rattle.pq_files.specs.Stored.{AreStored}
+use Rattle.pq_headline.specs.Columns.{is_alone}
 use Rattle.pq_headline.specs.FieldReasons.{GivesPage, ReadsFront}
 use Rattle.pq_pages.specs.Held.{ArePagesIn}
 use Rattle.pq_pages.specs.Outcomes.{Levels, Outcome}
@@ -20,36 +21,38 @@ use Rattle.read_pieces.specs.Columns.{ColumnOpening, IsReadable}
 use Rattle.read_pieces.specs.Leaves.{in_bytes}
 use Rattle.read_walk.specs.Pairs.{Item}
 use Rattle.read_walk.specs.Values.{Stored}
-use Rattle.read_column.specs.Dictionary.{AreTextsOf, HasValues, Texts}
+use Rattle.read_column.specs.Deltas.{HasFault, SpellNone, deltas_in, present_in}
+use Rattle.read_column.specs.Dictionary.{AreTextsOf, HasValues, Means}
+use Rattle.read_column.specs.declared.deltas.Deltas.{Deltas}
 use Rattle.read_column.specs.Opened.{ArePairsOf, CannotOpen, IsOpened, IsServedPage, StatesRows, first_goes_on}
 use Rattle.read_column.specs.Queues.{Waiting}
 use Rattle.read_column.specs.Taken.{joined, AreSized, IsOpen, IsQueued, StopsPage, TakesPage}
 
 -- ---- a page taken whole, or refused
 
--- the pairs of a page that is served, with indices or plain, and the section of its values
-pub record HasPairs (own indexed : Bool) (p : RawPage) (levels : Levels) (items : List Item) (section : List ℕ) : Type 0 where
+-- the pairs of a page that is served in this encoding, and the section of its values
+pub record HasPairs (own : Bool) (k : Deltas) (e : Encoding) (p : RawPage) (levels : Levels) (items : List Item) (section : List ℕ) : Type 0 where
   pub sections : Sections
   pub repetition : ℕ
   pub definition : ℕ
   pub n : ℕ
-  pub opened : IsOpened own indexed p levels sections repetition definition n
+  pub opened : IsOpened own k e p levels sections repetition definition n
   pub are : ArePairsOf sections repetition definition n items
   pub bytes : section ≡ sections.values
 
--- the items of a page that is served, and its values as plain bytes, in a column with these entries
-pub record HasItems (own : Bool) (d : Option Texts) (p : RawPage) (levels : Levels) (items : List Item) (values : List ℕ) : Type 0 where
-  pub indexed : Bool
+-- the items of a page that is served, and its values as plain bytes
+pub record HasItems (own : Bool) (d : Means) (p : RawPage) (levels : Levels) (items : List Item) (values : List ℕ) : Type 0 where
+  pub encoding : Encoding
   pub sections : Sections
   pub repetition : ℕ
   pub definition : ℕ
   pub n : ℕ
-  pub opened : IsOpened own indexed p levels sections repetition definition n
+  pub opened : IsOpened own d.deltas encoding p levels sections repetition definition n
   pub are : ArePairsOf sections repetition definition n items
-  pub bytes : HasValues d p.header sections.values values
+  pub bytes : HasValues d encoding (count_in p.header) (present_in definition items) sections.values values
 
 -- All its pairs, the first of which begins a row. As many rows begin as its header states.
-pub record TakesAll (stored : List ℕ → List Stored) (d : Option Texts) (n : Option ℕ) (w : Way) (before : ℕ) (old : List Triple) (q : Waiting) (p : RawPage) (levels : Levels) : Type 0 where
+pub record TakesAll (stored : List ℕ → List Stored) (d : Means) (n : Option ℕ) (w : Way) (before : ℕ) (old : List Triple) (q : Waiting) (p : RawPage) (levels : Levels) : Type 0 where
   pub items : List Item
   pub values : List ℕ
   pub has : HasItems (in_bytes stored) d p levels items values
@@ -81,31 +84,44 @@ RefusesRows stored limit is_first n w before old h items values e =
     ⊎ ((first_goes_on items ≡ false) × StopsPage limit n w before old items (stored values) e)
     ⊎ ((e ≡ OutOfSpec S9) × CountsOtherwise n w before old h items (stored values))
 
-pub record RefusesItems (stored : List ℕ → List Stored) (d : Option Texts) (limit : ℕ) (is_first : Bool) (n : Option ℕ) (w : Way) (before : ℕ) (old : List Triple) (p : RawPage) (levels : Levels) (e : Error) : Type 0 where
+pub record RefusesItems (stored : List ℕ → List Stored) (d : Means) (limit : ℕ) (is_first : Bool) (n : Option ℕ) (w : Way) (before : ℕ) (old : List Triple) (p : RawPage) (levels : Levels) (e : Error) : Type 0 where
   pub items : List Item
   pub values : List ℕ
   pub has : HasItems (in_bytes stored) d p levels items values
   pub why : RefusesRows stored limit is_first n w before old p.header items values e
 
 -- its values are indices, and there are no entries
-abbrev pub HasNoEntries : Option Texts → RawPage → Error → Type 0
-HasNoEntries d p e = (e ≡ OutOfSpec S3) × (d ≡ None) × HasEncoding p.header dictionary
+abbrev pub HasNoEntries : Means → RawPage → Error → Type 0
+HasNoEntries d p e = (e ≡ OutOfSpec S3) × (d.entries ≡ None) × HasEncoding p.header dictionary
 
-abbrev pub RefusesPage : (List ℕ → List Stored) → Option Texts → ℕ → Bool → Option ℕ → Way → ℕ → List Triple → RawPage → Levels → Error → Type 0
+-- Its values are deltas, and one of its pairs cannot be read, or its section does not begin with as many values as they call for.
+pub record HasNoDeltas (own : Bool) (d : Means) (p : RawPage) (levels : Levels) (e : Error) : Type 0 where
+  pub encoding : Encoding
+  pub deltas : (encoding ≡ delta) ⊎ (encoding ≡ delta_length)
+  pub items : List Item
+  pub section : List ℕ
+  pub has : HasPairs own d.deltas encoding p levels items section
+  pub why : ((e ≡ OutOfSpec S4) × HasFault items) ⊎ ((e ≡ OutOfSpec S6) × SpellNone d.deltas (present_in has.definition items) section)
+
+-- its values cannot be laid out plain
+abbrev pub CannotLay : Bool → Means → RawPage → Levels → Error → Type 0
+CannotLay own d p levels e = HasNoEntries d p e ⊎ HasNoDeltas own d p levels e
+
+abbrev pub RefusesPage : (List ℕ → List Stored) → Means → ℕ → Bool → Option ℕ → Way → ℕ → List Triple → RawPage → Levels → Error → Type 0
 RefusesPage stored d limit is_first n w before old p levels e =
-    CannotOpen (in_bytes stored) p levels e ⊎ HasNoEntries d p e ⊎ RefusesItems stored d limit is_first n w before old p levels e
+    CannotOpen (in_bytes stored) d.deltas p levels e ⊎ CannotLay (in_bytes stored) d p levels e ⊎ RefusesItems stored d limit is_first n w before old p levels e
 
 -- ---- the reader
 
--- what its source still gives, the entries of its dictionary page, its pieces, none after an error, and whether a data page was taken
+-- what its source still gives, what its pages' values are told by, its pieces, none after an error, and whether a data page was taken
 pub record Reading : Type 0 where
   pub outcomes : List Outcome
-  pub entries : Option Texts
+  pub means : Means
   pub queue : Option Waiting
   pub began : Bool
 
-abbrev pub reading : List Outcome → Option Texts → Waiting → Bool → Reading
-reading outcomes d q began = record { outcomes = outcomes; entries = d; queue = Some q; began = began }
+abbrev pub reading : List Outcome → Means → Waiting → Bool → Reading
+reading outcomes d q began = record { outcomes = outcomes; means = d; queue = Some q; began = began }
 
 -- the triples of pages, as they are stored
 abbrev pub stored_in : List Page → List Triple
@@ -128,19 +144,20 @@ pub record IsReading (stored : List ℕ → List Stored) (limit : ℕ) (o : Colu
   pub entries : Option (List Value)
   pub behind : List Outcome
   pub front : ReadsFront o.column o.leaf taken entries behind
-  pub texts : AreTextsOf stored o.leaf.physical r.entries entries
+  pub texts : AreTextsOf stored o.leaf.physical r.means.entries entries
+  pub deltas : r.means.deltas ≡ deltas_in (is_alone o.column.way) o.leaf.physical
   pub began : ((r.began ≡ true) × AnyOf GivesPage behind) ⊎ ((r.began ≡ false) × (behind ≡ []))
   pub pages : List Page
   pub are : ArePagesIn o.leaf entries behind pages
-  pub served : All IsServedPage behind
+  pub served : All (IsServedPage o.column) behind
   pub triples : AreStored (leaf_type o.column.data_type) o.leaf.physical (joined pieces ++ (joined whole ++ last)) (stored_in pages)
 
 -- A step of the reader: a page was taken, or nothing is left and no row is wanting.
-abbrev pub Steps : (List ℕ → List Stored) → ℕ → ColumnOpening → List (List Triple) → Bool → Waiting → List Outcome → Option Texts → Bool → Type 0
+abbrev pub Steps : (List ℕ → List Stored) → ℕ → ColumnOpening → List (List Triple) → Bool → Waiting → List Outcome → Means → Bool → Type 0
 Steps stored limit o pieces true q outcomes d began = IsReading stored limit o pieces (reading outcomes d q began)
 Steps stored limit o pieces false q outcomes d began = (outcomes ≡ []) × (q.rows ≡ 0) × IsReading stored limit o pieces (reading outcomes d q began)
 
 -- as far as it has to be read for a piece: one is whole, or nothing is left and no row is wanting
-pub record IsFilled (stored : List ℕ → List Stored) (limit : ℕ) (o : ColumnOpening) (pieces : List (List Triple)) (q : Waiting) (outcomes : List Outcome) (d : Option Texts) (began : Bool) : Type 0 where
+pub record IsFilled (stored : List ℕ → List Stored) (limit : ℕ) (o : ColumnOpening) (pieces : List (List Triple)) (q : Waiting) (outcomes : List Outcome) (d : Means) (began : Bool) : Type 0 where
   pub is : IsReading stored limit o pieces (reading outcomes d q began)
   pub full : (0 < length q.whole) ⊎ ((outcomes ≡ []) × (q.rows ≡ 0))

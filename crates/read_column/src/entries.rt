@@ -58,13 +58,13 @@ impl Entries {
 }
 
 // Where the value stands that begins here.
-fn next_place<L: LeafReader>(body: &[u8], start: usize) -> Result<Place>
-    requires own { in_bytes (λ text. L.stored text 0) ≡ true }
+fn next_place<L: LeafReader>(leaf: &L, body: &[u8], start: usize) -> Result<Place>
+    requires own { in_bytes (λ text. L.stored leaf.now text 0) ≡ true }
     requires within { start ≤ length body.now }
-    ensures ok { IfOk result (λ p. (p.start ≡ start) × IsPlaceIn (length body.now) p × (v : Value) × IsValue (λ text. L.stored text 0) (text_at body.now p) v) }
-    ensures err { IfErr result (λ e. ((e ≡ OutOfSpec S6) × (L.stored (drop start body.now) 0 ≡ [])) ⊎ ((e ≡ OutOfSpec S7) × BeginsOutside (λ text. L.stored text 0) (drop start body.now))) }
+    ensures ok { IfOk result (λ p. (p.start ≡ start) × IsPlaceIn (length body.now) p × (v : Value) × IsValue (λ text. L.stored leaf.now text 0) (text_at body.now p) v) }
+    ensures err { IfErr result (λ e. ((e ≡ OutOfSpec S6) × (L.stored leaf.now (drop start body.now) 0 ≡ [])) ⊎ ((e ≡ OutOfSpec S7) × BeginsOutside (λ text. L.stored leaf.now text 0) (drop start body.now))) }
 {
-    match L::value_size(&body[start..]) {
+    match leaf.value_size(&body[start..]) {
         Ok(size) => Ok(Place {
             start,
             end: start + size,
@@ -74,15 +74,20 @@ fn next_place<L: LeafReader>(body: &[u8], start: usize) -> Result<Place>
 }
 
 // Where so many values stand, one behind the other.
-fn places_of<L: LeafReader>(alloc: Global, body: &[u8], count: usize) -> Result<Vec<Place>>
-    requires { in_bytes (λ text. L.stored text 0) ≡ true }
-    ensures ok { IfOk result (λ places. ArePlaces (λ text. L.stored text 0) body.now places.items count) }
-    ensures err { IfErr result (λ e. (e ≡ Memory) ⊎ CannotHold (λ text. L.stored text 0) count body.now e) }
+fn places_of<L: LeafReader>(
+    alloc: Global,
+    leaf: &L,
+    body: &[u8],
+    count: usize,
+) -> Result<Vec<Place>>
+    requires { in_bytes (λ text. L.stored leaf.now text 0) ≡ true }
+    ensures ok { IfOk result (λ places. ArePlaces (λ text. L.stored leaf.now text 0) body.now places.items count) }
+    ensures err { IfErr result (λ e. (e ≡ Memory) ⊎ CannotHold (λ text. L.stored leaf.now text 0) count body.now e) }
 {
     let mut places = Vec::new(alloc);
     let mut end = 0;
     'values: while places.len() < count {
-        let place = match next_place::<L>(body, end) {
+        let place = match next_place(leaf, body, end) {
             Ok(place) => place,
             Err(error) => return Err(error),
         };
@@ -122,14 +127,19 @@ fn entries_at(alloc: Global, body: &[u8], places: Vec<Place>) -> Result<Entries>
 /// # Errors
 ///
 /// S6 where the body is cut, S7 where an entry is no value of the leaf's type, used or not; `Memory`.
-pub fn read_entries<L: LeafReader>(alloc: Global, body: &[u8], count: usize) -> Result<Entries>
-    ensures ok { IfOk result (λ texts. HoldsEntries (λ text. L.stored text 0) count body.now texts) }
-    ensures err { IfErr result (λ e. (e ≡ Memory) ⊎ CannotHold (λ text. L.stored text 0) count body.now e) }
+pub fn read_entries<L: LeafReader>(
+    alloc: Global,
+    leaf: &L,
+    body: &[u8],
+    count: usize,
+) -> Result<Entries>
+    ensures ok { IfOk result (λ texts. HoldsEntries (λ text. L.stored leaf.now text 0) count body.now texts) }
+    ensures err { IfErr result (λ e. (e ≡ Memory) ⊎ CannotHold (λ text. L.stored leaf.now text 0) count body.now e) }
 {
-    if !L::stands_in_bytes() {
+    if !leaf.stands_in_bytes() {
         return count_bits(alloc, body, count);
     }
-    let places = match places_of::<L>(alloc, body, count) {
+    let places = match places_of(alloc, leaf, body, count) {
         Ok(places) => places,
         Err(error) => return Err(error),
     };

@@ -1,6 +1,8 @@
 //! One column of a row group, read piece by piece from its pages.
 #![tactic(auto)]
 
+mod deltas;
+mod encoding;
 mod entries;
 mod indices;
 mod page;

@@ -1,28 +1,29 @@
 //! A data page as it is read.
-ghost use Rattle.std.specs.Prelude.{◌≡◌, ◌⊎◌, ◌↔◌, ◌++◌, ◌<◌, ◌≤◌, ◌^◌, ℕ, ℤ, Bool, true, List, Option, Some, None, IfErr, IfOk, IsTrue, MatchOption, MatchResult, length};
+ghost use Rattle.std.specs.Prelude.{◌≡◌, ◌⊎◌, ◌↔◌, ◌++◌, ◌<◌, ◌≤◌, ◌^◌, ℕ, ℤ, List, Option, Some, None, IfErr, IfOk, IsTrue, MatchOption, MatchResult, length};
 ghost use Rattle.columns_base.specs.declared.error.Error.TheVariants.{OutOfSpec};
 ghost use Rattle.columns_base.specs.declared.error.S.TheVariants.{S4};
 ghost use Rattle.pq_tree.specs.declared.types.DataPageHeader.TheVariants.{V1, V2};
 ghost use Rattle.pq_tree.specs.declared.types.TypedPageHeader.TheVariants as T;
 ghost use Rattle.pq_tree.specs.Tree.{Leaf, max_definition as leaf_definition, max_repetition as leaf_repetition};
 ghost use Rattle.pq_tree.specs.Views.{natural_part, typed_view};
-ghost use Rattle.pq_files.specs.Chunk.{IsData};
-ghost use Rattle.pq_files.specs.Page.{HasEncoding, Sections, IsSplit, IsSplit2, SaysRuns, encoding_numbered};
+ghost use Rattle.pq_files.specs.Page.{Sections, IsSplit, IsSplit2, SaysRuns};
 ghost use Rattle.pq_pages.specs.Outcomes.{levels_in, raw_page};
 ghost use Rattle.pq_pages.specs.Split.{sections};
 ghost use Rattle.read_walk.specs.Pairs.{Item};
-ghost use Rattle.read_column.specs.Opened.{ArePairsOf, CannotOpen, IsCutInto, IsOpened, IsServed, IsServedIn, SayRuns, StatesRows, encoding_by, first_goes_on};
-ghost use Rattle.read_column.specs.Reading.{HasPairs};
+ghost use Rattle.read_column.specs.Deltas.{HasFault, present_in};
+ghost use Rattle.read_column.specs.Opened.{ArePairsIn, CannotOpen, IsCutInto, IsOpenPage, IsSized, SayRuns, StatesRows, first_goes_on};
 
+use crate::deltas::{Deltas, count_present};
+use crate::encoding::{ValueEncoding, served_encoding};
 use columns_base::{Error, N, Result, S};
 use pq_pages::{DataPage, split_buffer, splits_are_of_pages};
 use pq_tree::{DataPageHeader, DataPageHeaderV1, DataPageHeaderV2, Descriptor};
 use read_walk::NestedPage;
 
-/// The sections of a data page that is served, whether its values are indices, the greatest levels of its column, and how many pairs it has.
+/// The encoding of a data page that is served, its sections, the greatest levels of its column, and how many pairs it has.
 #[derive(Debug, Drop)]
 pub struct OpenPage<'a> {
-    pub is_indexed: bool,
+    pub encoding: ValueEncoding,
     pub repetitions: &'a [u8],
     pub definitions: &'a [u8],
     pub values: &'a [u8],
@@ -39,43 +40,6 @@ fn natural(number: i32) -> usize
         return 0;
     }
     number as usize
-}
-
-// Whether values in the encoding of this number are indices; none where it is not read.
-fn is_indexed_by(encoding: i32) -> Option<bool>
-    ensures { MatchOption result ((indexed : Bool) → encoding_numbered encoding ≡ Some (encoding_by indexed) → ⊥) (λ indexed. encoding_numbered encoding ≡ Some (encoding_by indexed)) }
-{
-    if encoding == 0 {
-        return Some(false);
-    }
-    if encoding == 2 {
-        return Some(true);
-    }
-    if encoding == 8 {
-        return Some(true);
-    }
-    None
-}
-
-// Whether the values are indices; none where their encoding is not read.
-fn is_indexed(header: &DataPageHeader) -> Option<bool>
-    ensures { MatchOption result (IsData (typed_view (T.Data header.now)) × (IsServed (typed_view (T.Data header.now)) → ⊥)) (λ indexed. HasEncoding (typed_view (T.Data header.now)) (encoding_by indexed)) }
-{
-    match header {
-        DataPageHeader::V1(header) => is_indexed_by(header.encoding),
-        DataPageHeader::V2(header) => is_indexed_by(header.encoding),
-    }
-}
-
-// The same in a column where values stand in bytes of their own or not: only where they do are indices read.
-fn is_served(header: &DataPageHeader, own: bool) -> Option<bool>
-    ensures { MatchOption result (IsData (typed_view (T.Data header.now)) × (IsServedIn own (typed_view (T.Data header.now)) → ⊥)) (λ indexed. HasEncoding (typed_view (T.Data header.now)) (encoding_by indexed) × (indexed ≡ true → own ≡ true)) }
-{
-    match is_indexed(header) {
-        None => None,
-        Some(true) if !own => None,
-        Some(indexed) => Some(indexed),
-    }
 }
 
 /// Whether these are as many rows as the header states, if it is of version 2.
@@ -199,18 +163,18 @@ fn cut(page: &DataPage) -> Result<(&[u8], &[u8], &[u8])>
     }
 }
 
-/// Opens a data page, of a column where each value stands in bytes of its own or not.
+/// Opens a data page, of a column where each value stands in bytes of its own or not, and whose deltas are read so.
 ///
 /// # Errors
 ///
-/// N4 for another encoding than PLAIN and, where values stand in bytes of their own, those of a dictionary, or levels that are no runs; S4 where a
-/// section of levels lies outside of the body.
-pub fn open_page(page: &DataPage, own: bool) -> Result<OpenPage<'_>>
-    ensures ok { IfOk result (λ x. IsOpened own x.is_indexed (raw_page page.now) (levels_in page.now.descriptor) (sections x.repetitions.now x.definitions.now x.values.now) x.max_repetition x.max_definition x.count) }
-    ensures err { IfErr result (CannotOpen own (raw_page page.now) (levels_in page.now.descriptor)) }
+/// N4 for another encoding than PLAIN, where values stand in bytes of their own those of a dictionary, and that of the deltas, or levels that are
+/// no runs; S4 where a section of levels lies outside of the body.
+pub fn open_page(page: &DataPage, own: bool, deltas: Deltas) -> Result<OpenPage<'_>>
+    ensures ok { IfOk result (IsOpenPage own deltas (raw_page page.now) (levels_in page.now.descriptor)) }
+    ensures err { IfErr result (CannotOpen own deltas (raw_page page.now) (levels_in page.now.descriptor)) }
 {
     let header = page.header();
-    let Some(is_indexed) = is_served(header, own) else {
+    let Some(encoding) = served_encoding(header, own, deltas) else {
         return Err(Error::NotYetImplemented(N::N4));
     };
     let (max_repetition, max_definition) = greatest_levels(page);
@@ -220,7 +184,7 @@ pub fn open_page(page: &DataPage, own: bool) -> Result<OpenPage<'_>>
     let count = page.num_values();
     match cut(page) {
         Ok((repetitions, definitions, values)) => Ok(OpenPage {
-            is_indexed,
+            encoding,
             repetitions,
             definitions,
             values,
@@ -239,7 +203,7 @@ impl<'a> OpenPage<'a> {
     ///
     /// S4 where a greatest level has more than 32 bits.
     pub fn pairs(&self) -> Result<NestedPage<'a>>
-        ensures { MatchResult result (λ items. ArePairsOf (sections self.now.repetitions.now self.now.definitions.now self.now.values.now) self.now.max_repetition self.now.max_definition self.now.count items) (λ e. (e ≡ OutOfSpec S4) × ((2 ^ 32 ≤ self.now.max_repetition) ⊎ (2 ^ 32 ≤ self.now.max_definition))) }
+        ensures { MatchResult result (ArePairsIn self.now) (λ e. (e ≡ OutOfSpec S4) × ((2 ^ 32 ≤ self.now.max_repetition) ⊎ (2 ^ 32 ≤ self.now.max_definition))) }
     {
         NestedPage::try_new(
             self.repetitions,
@@ -256,7 +220,7 @@ impl<'a> OpenPage<'a> {
     ///
     /// S4 where a greatest level has more than 32 bits.
     pub fn pairs_and_first(&self) -> Result<(NestedPage<'a>, bool)>
-        ensures { MatchResult result (λ x. ArePairsOf (sections self.now.repetitions.now self.now.definitions.now self.now.values.now) self.now.max_repetition self.now.max_definition self.now.count x.0 × (x.1 ≡ first_goes_on x.0)) (λ e. (e ≡ OutOfSpec S4) × ((2 ^ 32 ≤ self.now.max_repetition) ⊎ (2 ^ 32 ≤ self.now.max_definition))) }
+        ensures { MatchResult result (λ x. ArePairsIn self.now x.0 × (x.1 ≡ first_goes_on x.0)) (λ e. (e ≡ OutOfSpec S4) × ((2 ^ 32 ≤ self.now.max_repetition) ⊎ (2 ^ 32 ≤ self.now.max_definition))) }
     {
         let mut first = match self.pairs() {
             Ok(first) => first,
@@ -265,6 +229,22 @@ impl<'a> OpenPage<'a> {
         let goes_on = goes_on(&mut first);
         match self.pairs() {
             Ok(pairs) => Ok((pairs, goes_on)),
+            Err(error) => Err(error),
+        }
+    }
+
+    /// How many of its pairs are at the greatest definition level, so that they have a value.
+    ///
+    /// # Errors
+    ///
+    /// S4 where a pair cannot be read.
+    pub fn present(&self) -> Result<usize>
+        requires { IsSized self.now }
+        ensures ok { (items : List Item) → ArePairsIn self.now items → IfOk result (λ n. n ≡ present_in self.now.max_definition items) }
+        ensures err { (items : List Item) → ArePairsIn self.now items → IfErr result (λ e. (e ≡ OutOfSpec S4) × HasFault items) }
+    {
+        match self.pairs() {
+            Ok(pairs) => count_present(pairs, self.max_definition),
             Err(error) => Err(error),
         }
     }
@@ -280,33 +260,31 @@ pub fn goes_on(pairs: &mut NestedPage<'_>) -> bool
     }
 }
 
-/// The pairs of a data page that is served, the section of its values, whether they are indices, and whether the first pair goes on with a row.
+/// A data page that is served, its pairs, and whether the first goes on with a row.
 #[derive(Drop)]
 pub struct PagePairs<'a> {
+    pub open: OpenPage<'a>,
     pub pairs: NestedPage<'a>,
-    pub section: &'a [u8],
-    pub is_indexed: bool,
     pub goes_on: bool,
 }
 
-/// Opens a data page for its pairs, of a column where each value stands in bytes of its own or not.
+/// Opens a data page for its pairs, of a column where each value stands in bytes of its own or not, and whose deltas are read so.
 ///
 /// # Errors
 ///
 /// Those of `open_page`.
-pub fn open_pairs(page: &DataPage, own: bool) -> Result<PagePairs<'_>>
-    ensures ok { IfOk result (λ x. HasPairs own x.is_indexed (raw_page page.now) (levels_in page.now.descriptor) x.pairs x.section.now × (x.goes_on ≡ first_goes_on x.pairs)) }
-    ensures err { IfErr result (CannotOpen own (raw_page page.now) (levels_in page.now.descriptor)) }
+pub fn open_pairs(page: &DataPage, own: bool, deltas: Deltas) -> Result<PagePairs<'_>>
+    ensures ok { IfOk result (λ x. IsOpenPage own deltas (raw_page page.now) (levels_in page.now.descriptor) x.open × ArePairsIn x.open x.pairs × (x.goes_on ≡ first_goes_on x.pairs)) }
+    ensures err { IfErr result (CannotOpen own deltas (raw_page page.now) (levels_in page.now.descriptor)) }
 {
-    let open = match open_page(page, own) {
+    let open = match open_page(page, own, deltas) {
         Ok(open) => open,
         Err(error) => return Err(error),
     };
     match open.pairs_and_first() {
         Ok((pairs, goes_on)) => Ok(PagePairs {
+            open,
             pairs,
-            section: open.values,
-            is_indexed: open.is_indexed,
             goes_on,
         }),
         Err(error) => Err(error),

@@ -136,11 +136,12 @@ impl<L: LeafReader> Queue<L> {
     /// Those of the leaf's `extend`.
     pub fn extend<'a, 'b>(
         self,
+        leaf: &L,
         page: &mut NestedPage<'a>,
         bytes: &mut PlainBytes<'b>,
     ) -> Result<Self>
-        ensures ok { IfOk result (λ q. ExtendsLast self q page.old page.new (L.stored bytes.old.values.now bytes.old.bit) (L.stored bytes.new.values.now bytes.new.bit)) }
-        ensures err { IfErr result (Refuses L.byte_limit (self.rows - count self.state) page.old (L.stored bytes.old.values.now bytes.old.bit) self.state self.leaf) }
+        ensures ok { IfOk result (λ q. ExtendsLast self q page.old page.new (L.stored leaf.now bytes.old.values.now bytes.old.bit) (L.stored leaf.now bytes.new.values.now bytes.new.bit)) }
+        ensures err { IfErr result (Refuses L.byte_limit (self.rows - count self.state) page.old (L.stored leaf.now bytes.old.values.now bytes.old.bit) self.state self.leaf) }
     {
         let Queue {
             alloc,
@@ -153,7 +154,7 @@ impl<L: LeafReader> Queue<L> {
             left,
         } = self;
         let wanted = rows - nested.len();
-        match L::extend(page, bytes, &mut nested, &mut values, wanted) {
+        match leaf.extend(page, bytes, &mut nested, &mut values, wanted) {
             Ok(()) => Ok(Queue {
                 alloc,
                 parts,

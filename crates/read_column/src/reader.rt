@@ -1,5 +1,5 @@
 //! The reader of a column.
-ghost use Rattle.std.specs.Prelude.{◌≡◌, ◌⊎◌, ◌<◌, [], length, is_some, IfErr, IfOk, OnOk, IsTrue, List, Some, None, true, false};
+ghost use Rattle.std.specs.Prelude.{◌≡◌, ◌⊎◌, ◌<◌, [], length, is_some, IfErr, IfOk, OnOk, IsTrue, List, ℕ, Some, None, true, false};
 ghost use Rattle.columns_base.specs.declared.error.Error.TheVariants.{Memory, OutOfSpec};
 ghost use Rattle.columns_base.specs.declared.error.S.TheVariants.{S3, S9};
 ghost use Rattle.shredding.specs.Along.{thin};
@@ -7,13 +7,17 @@ ghost use Rattle.shredding.specs.Shred.{Triple};
 ghost use Rattle.read_pieces.specs.Columns.{ColumnOpening, GivesPiece, IsReadable, RefusesPiece};
 ghost use Rattle.read_pieces.specs.Pieces.{IsPiece};
 ghost use Rattle.read_state.specs.Initial.{IsWay};
-ghost use Rattle.read_column.specs.Dictionary.{CannotHold, HoldsEntries, Texts};
+ghost use Rattle.pq_tree.specs.Views.{physical_view};
+ghost use Rattle.read_walk.specs.Values.{Stored};
+ghost use Rattle.read_column.specs.Dictionary.{CannotHold, HoldsEntries, Texts, means};
 ghost use Rattle.read_column.specs.Reading.{IsFilled, IsReading, Steps, reading};
 
+use crate::deltas::{Deltas, deltas_of};
 use crate::entries::{Entries, read_entries};
+use crate::parts::is_flat;
 use crate::queue::Queue;
 use crate::take::take_page;
-use columns_base::{Error, Result, S};
+use columns_base::{Error, PhysicalType, Result, S};
 use pq_pages::{DictPage, Page, Pages};
 use read_items::items_are_counted;
 use read_pieces::LeafReader;
@@ -21,7 +25,8 @@ use read_state::{InitNested, NestedState};
 use std::alloc::Global;
 use std::marker::Model;
 
-/// Reads one column of a row group in pieces of whole rows, from any source of its pages. Today's pages are PLAIN or by a dictionary, of version 1 or 2.
+/// Reads one column of a row group in pieces of whole rows, from any source of its pages: PLAIN, by a dictionary, or, in a flat column of numbers or
+/// byte strings, of deltas; of version 1 or 2.
 ///
 /// After an error it gives nothing more.
 #[derive(Drop)]
@@ -30,6 +35,7 @@ pub struct ColumnReader<I: Pages, L: LeafReader> {
     pages: I,
     // Of its dictionary page, once that was taken.
     entries: Option<Entries>,
+    deltas: Deltas,
     queue: Option<Queue<L>>,
     // Whether a data page was taken.
     began: bool,
@@ -38,13 +44,14 @@ pub struct ColumnReader<I: Pages, L: LeafReader> {
 impl<I: Pages, L: LeafReader> Model for ColumnReader<I, L> {
     ghost use Rattle.std.specs.Coded.{codes};
     ghost use Rattle.read_column.specs.SlotCode.{slot_code};
+    ghost use Rattle.read_column.specs.Dictionary.{means};
     ghost use Rattle.read_column.specs.Reading.{Reading};
 
     ghost Value = { Reading };
 
     ghost coded = { Prim.hlevel (codes, slot_code) };
 
-    ghost view = { λ r. record { outcomes = I.outcomes r.pages; entries = r.entries; queue = r.queue; began = r.began } };
+    ghost view = { λ r. record { outcomes = I.outcomes r.pages; means = means r.entries r.deltas; queue = r.queue; began = r.began } };
 }
 
 // Nothing is left; no row may be wanting then.
@@ -61,12 +68,13 @@ fn end<L: LeafReader>(queue: Queue<L>) -> Result<(Queue<L>, bool)>
 // Takes the entries of a dictionary page, before which no page may stand.
 fn take_entries<L: LeafReader>(
     alloc: Global,
+    leaf: &L,
     page: &DictPage,
     entries: &mut Option<Entries>,
     began: bool,
 ) -> Result<()>
-    ensures ok { OnOk result ((began ≡ false) × (entries.old ≡ None) × (texts : Texts) × (entries.new ≡ Some texts) × HoldsEntries (λ text. L.stored text 0) page.now.num_values page.now.buffer.items texts) }
-    ensures err { IfErr result (λ e. (e ≡ Memory) ⊎ ((e ≡ OutOfSpec S3) × ((began ≡ true) ⊎ IsTrue (is_some entries.old))) ⊎ ((began ≡ false) × (entries.old ≡ None) × CannotHold (λ text. L.stored text 0) page.now.num_values page.now.buffer.items e)) }
+    ensures ok { OnOk result ((began ≡ false) × (entries.old ≡ None) × (texts : Texts) × (entries.new ≡ Some texts) × HoldsEntries (λ text. L.stored leaf.now text 0) page.now.num_values page.now.buffer.items texts) }
+    ensures err { IfErr result (λ e. (e ≡ Memory) ⊎ ((e ≡ OutOfSpec S3) × ((began ≡ true) ⊎ IsTrue (is_some entries.old))) ⊎ ((began ≡ false) × (entries.old ≡ None) × CannotHold (λ text. L.stored leaf.now text 0) page.now.num_values page.now.buffer.items e)) }
 {
     if began {
         return Err(Error::OutOfSpec(S::S3));
@@ -74,7 +82,7 @@ fn take_entries<L: LeafReader>(
     if entries.is_some() {
         return Err(Error::OutOfSpec(S::S3));
     }
-    match read_entries::<L>(alloc, &page.buffer, page.num_values) {
+    match read_entries(alloc, leaf, &page.buffer, page.num_values) {
         Ok(read) => {
             *entries = Some(read);
             Ok(())
@@ -86,14 +94,16 @@ fn take_entries<L: LeafReader>(
 // Takes the next page whole. Answers whether there was one.
 fn take_next<I: Pages, L: LeafReader>(
     alloc: Global,
+    leaf: &L,
     pages: &mut I,
     entries: &mut Option<Entries>,
+    deltas: Deltas,
     began: &mut bool,
     queue: Queue<L>,
 ) -> Result<(Queue<L>, bool)>
-    ensures ok { (o : ColumnOpening) (pieces : List (List Triple)) → IsReading (λ text. L.stored text 0) L.byte_limit o pieces (reading (I.outcomes pages.old) entries.old queue began.old) → IfOk result (λ x. Steps (λ text. L.stored text 0) L.byte_limit o pieces x.1 x.0 (I.outcomes pages.new) entries.new began.new) }
+    ensures ok { (o : ColumnOpening) (pieces : List (List Triple)) → IsReading (λ text. L.stored leaf.now text 0) L.byte_limit o pieces (reading (I.outcomes pages.old) (means entries.old deltas) queue began.old) → IfOk result (λ x. Steps (λ text. L.stored leaf.now text 0) L.byte_limit o pieces x.1 x.0 (I.outcomes pages.new) (means entries.new deltas) began.new) }
     ensures less { IfOk result (λ x. IsTrue x.1 → length (I.outcomes pages.new) < length (I.outcomes pages.old)) }
-    ensures err { (o : ColumnOpening) (pieces : List (List Triple)) → IsReading (λ text. L.stored text 0) L.byte_limit o pieces (reading (I.outcomes pages.old) entries.old queue began.old) → IfErr result (RefusesPiece o) }
+    ensures err { (o : ColumnOpening) (pieces : List (List Triple)) → IsReading (λ text. L.stored leaf.now text 0) L.byte_limit o pieces (reading (I.outcomes pages.old) (means entries.old deltas) queue began.old) → IfErr result (RefusesPiece o) }
 {
     items_are_counted();
     match pages.advance() {
@@ -102,11 +112,13 @@ fn take_next<I: Pages, L: LeafReader>(
     }
     match pages.get() {
         None => end(queue),
-        Some(Page::Dict(page)) => match take_entries::<L>(alloc, page, entries, *began) {
+        Some(Page::Dict(page)) => match take_entries(alloc, leaf, page, entries, *began) {
             Ok(()) => Ok((queue, true)),
             Err(error) => Err(error),
         },
-        Some(Page::Data(page)) => match take_page(alloc, queue, page, entries, !*began) {
+        Some(Page::Data(page)) => match take_page(
+            alloc, leaf, queue, page, entries, deltas, !*began,
+        ) {
             Ok(queue) => {
                 *began = true;
                 Ok((queue, true))
@@ -119,17 +131,19 @@ fn take_next<I: Pages, L: LeafReader>(
 // Takes pages until a piece is whole, or they end.
 fn fill<I: Pages, L: LeafReader>(
     alloc: Global,
+    leaf: &L,
     pages: &mut I,
     entries: &mut Option<Entries>,
+    deltas: Deltas,
     began: &mut bool,
     queue: Queue<L>,
 ) -> Result<Queue<L>>
-    ensures ok { (o : ColumnOpening) (pieces : List (List Triple)) → IsReading (λ text. L.stored text 0) L.byte_limit o pieces (reading (I.outcomes pages.old) entries.old queue began.old) → IfOk result (λ q. IsFilled (λ text. L.stored text 0) L.byte_limit o pieces q (I.outcomes pages.new) entries.new began.new) }
-    ensures err { (o : ColumnOpening) (pieces : List (List Triple)) → IsReading (λ text. L.stored text 0) L.byte_limit o pieces (reading (I.outcomes pages.old) entries.old queue began.old) → IfErr result (RefusesPiece o) }
+    ensures ok { (o : ColumnOpening) (pieces : List (List Triple)) → IsReading (λ text. L.stored leaf.now text 0) L.byte_limit o pieces (reading (I.outcomes pages.old) (means entries.old deltas) queue began.old) → IfOk result (λ q. IsFilled (λ text. L.stored leaf.now text 0) L.byte_limit o pieces q (I.outcomes pages.new) (means entries.new deltas) began.new) }
+    ensures err { (o : ColumnOpening) (pieces : List (List Triple)) → IsReading (λ text. L.stored leaf.now text 0) L.byte_limit o pieces (reading (I.outcomes pages.old) (means entries.old deltas) queue began.old) → IfErr result (RefusesPiece o) }
 {
     let mut queue = queue;
     'pages: while !queue.has_whole() {
-        let (next, is_taken) = match take_next(alloc, pages, entries, began, queue) {
+        let (next, is_taken) = match take_next(alloc, leaf, pages, entries, deltas, began, queue) {
             Ok(step) => step,
             Err(error) => return Err(error),
         };
@@ -142,8 +156,8 @@ fn fill<I: Pages, L: LeafReader>(
 }
 
 impl<I: Pages, L: LeafReader> ColumnReader<I, L> {
-    /// The reader of a column whose pages the source gives, of so many rows, along the parts of the way to its leaf; with a chunk size each piece
-    /// has as many rows, or as are left. Parts that are no way to a leaf have no piece.
+    /// The reader of a column of this physical type whose pages the source gives, of so many rows, along the parts of the way to its leaf; with a
+    /// chunk size each piece has as many rows, or as are left. Parts that are no way to a leaf have no piece.
     ///
     /// # Errors
     ///
@@ -151,41 +165,47 @@ impl<I: Pages, L: LeafReader> ColumnReader<I, L> {
     pub fn new(
         alloc: Global,
         pages: I,
+        physical_type: PhysicalType,
         nested: Vec<InitNested>,
         chunk_size: Option<usize>,
         num_rows: usize,
     ) -> Result<Self>
-        ensures ok { (o : ColumnOpening) → IsReadable o (λ text. L.stored text 0) L.byte_limit → o.outcomes ≡ I.outcomes pages → IsWay nested.items (thin o.column.way) → o.rows ≡ num_rows → o.chunk_size ≡ chunk_size → IfOk result (λ r. IsReading (λ text. L.stored text 0) L.byte_limit o [] r) }
+        ensures ok { (o : ColumnOpening) (stored : List ℕ → List Stored) (limit : ℕ) → IsReadable o stored limit → o.leaf.physical ≡ physical_view physical_type → o.outcomes ≡ I.outcomes pages → IsWay nested.items (thin o.column.way) → o.rows ≡ num_rows → o.chunk_size ≡ chunk_size → IfOk result (λ r. IsReading stored limit o [] r) }
         ensures err { IfErr result (λ e. e ≡ Memory) }
     {
+        let deltas = deltas_of(physical_type, is_flat(&nested));
         let queue = Queue::new(alloc, nested, chunk_size, num_rows)?;
         Ok(ColumnReader {
             alloc,
             pages,
             entries: None,
+            deltas,
             queue,
             began: false,
         })
     }
 
-    /// The next piece: of exactly as many rows as go into a piece, or as are left. None once all rows were given and the pages have ended; after an
+    /// The next piece, whose values the leaf's reader reads: of exactly as many rows as go into a piece, or as are left. None once all rows were given and the pages have ended; after an
     /// error nothing is said of further calls.
     ///
     /// # Errors
     ///
-    /// S3 or N4 of the source; S3 for a dictionary page behind another page, or indices without one; N4 for a page that is not read yet; S5 or N8 where a page's first pair goes on with a row; S4, S6, S7 and S10 where a
+    /// S3 or N4 of the source; S3 for a dictionary page behind another page, or indices without one; N4 for a page in an encoding that its physical
+    /// type has not, or of deltas in a column that is not flat; S5 or N8 where a page's first pair goes on with a row; S4, S6, S7 and S10 where a
     /// page's levels or values, or a dictionary's entries, used or not, are not those of rows; S9 where the pages have more or fewer rows than the group, or one
     /// of version 2 than its header states; V1 where a piece passes the offsets of its array; `Memory`.
-    pub fn next_piece(&mut self) -> Option<Result<(NestedState, L::Values)>>
-        ensures { (o : ColumnOpening) (pieces : List (List Triple)) → IsReading (λ text. L.stored text 0) L.byte_limit o pieces self.old → GivesPiece (IsReading (λ text. L.stored text 0) L.byte_limit) (λ v ts. IsPiece o.column.way ts v.0 (L.slots v.1)) o pieces result self.new }
+    pub fn next_piece(&mut self, leaf: &L) -> Option<Result<(NestedState, L::Values)>>
+        ensures { (o : ColumnOpening) (pieces : List (List Triple)) → IsReading (λ text. L.stored leaf.now text 0) L.byte_limit o pieces self.old → GivesPiece (IsReading (λ text. L.stored leaf.now text 0) L.byte_limit) (λ v ts. IsPiece o.column.way ts v.0 (L.slots v.1)) o pieces result self.new }
     {
         let Some(queue) = self.queue.take() else {
             return None;
         };
         let mut queue = match fill(
             self.alloc,
+            leaf,
             &mut self.pages,
             &mut self.entries,
+            self.deltas,
             &mut self.began,
             queue,
         ) {

@@ -88,12 +88,19 @@ fn reader(
 ) -> Result<ColumnReader<VecPages, Numbers<i8, i32>>> {
     let mut parts = Vec::new(alloc);
     parts.push(InitNested::Primitive(!is_required))?;
-    ColumnReader::new(alloc, VecPages::new(pages), parts, None, rows)
+    ColumnReader::new(
+        alloc,
+        VecPages::new(pages),
+        PhysicalType::Int32,
+        parts,
+        None,
+        rows,
+    )
 }
 
 // The one piece has these numbers, 0 in the place of nulls, and so many nulls.
 fn gives(mut reader: ColumnReader<VecPages, Numbers<i8, i32>>, want: &[i8], nulls: usize) -> bool {
-    match reader.next_piece() {
+    match reader.next_piece(&Numbers::new()) {
         Some(Ok((_, values))) => {
             let (numbers, validity) = values.into_parts();
             match validity.into_bitmap() {
@@ -140,7 +147,7 @@ fn entries_stand_for_indices(rt: HostRuntime) -> Result<()> {
 }
 
 fn refuses(mut reader: ColumnReader<VecPages, Numbers<i8, i32>>, want: Error) -> bool {
-    match reader.next_piece() {
+    match reader.next_piece(&Numbers::new()) {
         Some(Err(error)) => error == want,
         _ => false,
     }

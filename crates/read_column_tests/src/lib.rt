@@ -2,6 +2,8 @@
 #![tactic(auto)]
 
 #[cfg(test)]
+mod delta_tests;
+#[cfg(test)]
 mod dictionary_tests;
 #[cfg(test)]
 mod reader_tests;

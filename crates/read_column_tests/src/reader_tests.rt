@@ -155,7 +155,14 @@ fn reader_2(
     let mut parts = Vec::new(alloc);
     parts.push(InitNested::List(true))?;
     parts.push(InitNested::Primitive(true))?;
-    ColumnReader::new(alloc, VecPages::new(pages), parts, Some(3), 8)
+    ColumnReader::new(
+        alloc,
+        VecPages::new(pages),
+        PhysicalType::Int32,
+        parts,
+        Some(3),
+        8,
+    )
 }
 
 // The reader of two pages, of so many rows, in pieces of three.
@@ -172,12 +179,19 @@ fn reader(
     let mut parts = Vec::new(alloc);
     parts.push(InitNested::List(true))?;
     parts.push(InitNested::Primitive(true))?;
-    ColumnReader::new(alloc, VecPages::new(pages), parts, Some(3), rows)
+    ColumnReader::new(
+        alloc,
+        VecPages::new(pages),
+        PhysicalType::Int32,
+        parts,
+        Some(3),
+        rows,
+    )
 }
 
 // The next piece's leaf has so many slots.
 fn gives(reader: &mut ColumnReader<VecPages, Numbers<i32, i32>>, slots: usize) -> bool {
-    match reader.next_piece() {
+    match reader.next_piece(&Numbers::new()) {
         Some(Ok((nested, values))) => nested.leaf_len() == slots && values.len() == slots,
         _ => false,
     }
@@ -185,7 +199,7 @@ fn gives(reader: &mut ColumnReader<VecPages, Numbers<i32, i32>>, slots: usize) -
 
 // Nothing more comes.
 fn ends(reader: &mut ColumnReader<VecPages, Numbers<i32, i32>>) -> bool {
-    match reader.next_piece() {
+    match reader.next_piece(&Numbers::new()) {
         None => true,
         Some(_) => false,
     }
@@ -212,7 +226,7 @@ fn pieces_go_over_pages(rt: HostRuntime) -> Result<()> {
 // The first error, behind the pieces.
 fn refuses(reader: &mut ColumnReader<VecPages, Numbers<i32, i32>>, want: Error) -> bool {
     for _ in 0..4 {
-        match reader.next_piece() {
+        match reader.next_piece(&Numbers::new()) {
             Some(Ok(_)) => {}
             Some(Err(error)) => return error == want,
             None => return false,

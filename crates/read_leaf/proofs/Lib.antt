@@ -12,3 +12,8 @@ pub mod MixedStrings
 pub mod AmongNulls
 pub mod PlainBits
 pub mod TruthSlots
+pub mod NothingRead
+pub mod MixedValues
+pub mod FixedRead
+pub mod IntervalsRead
+pub mod DecimalsRead

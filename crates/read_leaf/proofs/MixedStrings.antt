@@ -98,8 +98,8 @@ module _ (allows : List ℕ → Bool) where
 
   -- ---- one string
 
-  pub cannot-long : (limit : ℕ) (text s rest : List ℕ) (old : List (List ℕ)) (e : Error) → string_at text ≡ Some (s, rest) → allows s ≡ true → (e ≡ Memory) ⊎ ((e ≡ Overflow V1) × (limit ≤ total_bytes old + length s)) → CannotTake limit 1 (stored_strings allows text) old e
-  cannot-long limit text s rest old e is a why = λ slots same. string-long limit allows text s rest slots e is a (elim why [ inl memory ↦ inl memory | inr long ↦ inr (long.0, omega (arith, long.1, same)) ])
+  pub cannot-long : (limit : ℕ) (text s rest : List ℕ) (old : List (List ℕ)) (e : Error) → string_at text ≡ Some (s, rest) → allows s ≡ true → (e ≡ Memory) ⊎ ((e ≡ Overflow V1) × (0 < limit) × (limit ≤ total_bytes old + length s)) → CannotTake limit 1 (stored_strings allows text) old e
+  cannot-long limit text s rest old e is a why = λ slots same. string-long limit allows text s rest slots e is a (elim why [ inl memory ↦ inl memory | inr long ↦ inr (long.0, long.1, omega (arith, long.2, same)) ])
 
   -- ---- what is decoded
 

@@ -115,10 +115,10 @@ string-missing limit allows text slots e = inr (inl (refl, rw (none-stand text e
 pub string-outside : (limit : ℕ) (allows : List ℕ → Bool) (text s rest : List ℕ) (slots : List Slot) → string_at text ≡ Some (s, rest) → allows s ≡ false → CannotDecode limit 1 (stored_strings allows text) slots (OutOfSpec S7)
 string-outside limit allows text s rest slots e a = inr (inr (inl (refl, record { values = []; rest = stored_strings allows rest; next = refused allows text s rest e a; within = omega arith })))
 
-pub string-long : (limit : ℕ) (allows : List ℕ → Bool) (text s rest : List ℕ) (slots : List Slot) (e : Error) → string_at text ≡ Some (s, rest) → allows s ≡ true → (e ≡ Memory) ⊎ ((e ≡ Overflow V1) × (limit ≤ bytes_in slots + length s)) → CannotDecode limit 1 (stored_strings allows text) slots e
+pub string-long : (limit : ℕ) (allows : List ℕ → Bool) (text s rest : List ℕ) (slots : List Slot) (e : Error) → string_at text ≡ Some (s, rest) → allows s ≡ true → (e ≡ Memory) ⊎ ((e ≡ Overflow V1) × (0 < limit) × (limit ≤ bytes_in slots + length s)) → CannotDecode limit 1 (stored_strings allows text) slots e
 string-long limit allows text s rest slots e is a why = elim why [
   | inl memory ↦ inl memory
-  | inr long ↦ inr (inr (inr (long.0, record { values = bytes s ∷ []; rest = stored_strings allows rest; next = allowed allows text s rest is a; within = omega arith; long = omega (arith, long.1) })))
+  | inr long ↦ inr (inr (inr (long.0, record { values = bytes s ∷ []; rest = stored_strings allows rest; next = allowed allows text s rest is a; within = omega arith; some = long.1; long = omega (arith, long.2) })))
 ]
 
 -- ---- one after another

@@ -4,3 +4,5 @@ pub mod PlainValues
 pub mod Ranges
 pub mod Loads
 pub mod Truths
+pub mod Fixed
+pub mod FixedTypes

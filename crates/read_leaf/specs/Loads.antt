@@ -12,9 +12,9 @@ use Rattle.shredding.specs.Shape.{signed, unsigned, Fits}
 use Rattle.pq_tree.specs.Physical.{int32, int64}
 use Rattle.read_leaf.specs.Numbers.{has_bits, as_signed, as_unsigned}
 use Rattle.read_leaf.specs.Ranges.{LoadsStored, LoadedIsStored}
-use Rattle.columns_core.specs.Natives.{stores_i8, stores_i16, stores_i32, stores_i64, stores_u8, stores_u16, stores_u32, stores_u64}
+use Rattle.columns_core.specs.Natives.{stores_i8, stores_i16, stores_i32, stores_i64, stores_i128, stores_u8, stores_u16, stores_u32, stores_u64}
 use Rattle.columns_core.specs.Shapes.{leaf_type}
-use Rattle.columns_core.specs.Tree.{TypeTree, t_int8, t_int16, t_int32, t_int64, t_uint8, t_uint16, t_uint32, t_uint64, t_timestamp, t_date32, t_date64, t_time32, t_time64, t_duration, t_interval}
+use Rattle.columns_core.specs.Tree.{TypeTree, t_int8, t_int16, t_int32, t_int64, t_uint8, t_uint16, t_uint32, t_uint64, t_timestamp, t_date32, t_date64, t_time32, t_time64, t_duration, t_interval, t_decimal}
 use Rattle.columns_core.specs.declared.types.IntervalUnit.TheVariants.{YearMonth}
 use Rattle.pq_files.specs.Statistics.{has_order}
 
@@ -119,6 +119,8 @@ loaded-stored = record {
       let t = wide 64 (inr refl) (omega arith) z v f in
       let e = whole w64 64 z (bits-below w64 z (sfits-64 z f)) in
       ((λ h. t.0 (e ∙ h)), (λ h. sym e ∙ t.1 h)));
+  decimal_32 = (λ z v f. ((λ h. let s = some-same z v h in (rw s at f, ap number s)), (λ h. ap Some (num-same z v h.1))));
+  decimal_64 = (λ z v f. ((λ h. let s = some-same z v h in (rw s at f, ap number s)), (λ h. ap Some (num-same z v h.1))));
 }
 
 -- ---- of each type
@@ -144,6 +146,14 @@ loads-i64 (t_time64 u) e h = loaded-stored.signed_64
 loads-i64 (t_timestamp u z) e h = loaded-stored.signed_64
 loads-i64 (t_duration u) e h = loaded-stored.signed_64
 loads-i64 t e h = absurd (true≢false (sym e))
+
+pub loads-i128 : (t : TypeTree) → stores_i128 t ≡ true → has_order (leaf_type t) ≡ true → LoadsStored (λ z. Some z) (leaf_type t) int32 32
+loads-i128 (t_decimal p s) e h = loaded-stored.decimal_32
+loads-i128 t e h = absurd (true≢false (sym e))
+
+pub loads-wide-i128 : (t : TypeTree) → stores_i128 t ≡ true → has_order (leaf_type t) ≡ true → LoadsStored (λ z. Some z) (leaf_type t) int64 64
+loads-wide-i128 (t_decimal p s) e h = loaded-stored.decimal_64
+loads-wide-i128 t e h = absurd (true≢false (sym e))
 
 pub loads-u8 : (t : TypeTree) → stores_u8 t ≡ true → has_order (leaf_type t) ≡ true → LoadsStored (as_unsigned w32 8) (leaf_type t) int32 32
 loads-u8 t_uint8 e h = loaded-stored.narrow_unsigned 8 (omega arith)

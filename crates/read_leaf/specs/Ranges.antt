@@ -3,7 +3,7 @@ use Rattle.std.specs.Prelude.{◌≡◌, ◌↔◌, ℕ, ◌≤◌, ℤ, pos, tr
 use Rattle.std.specs.Str.{is_utf8}
 use Rattle.std.specs.Int.{w32, w64, cast_unsigned}
 use Rattle.shredding.specs.Slot.{Value, number, bytes}
-use Rattle.shredding.specs.Shape.{LeafType, signed, unsigned, text, binary, Fits}
+use Rattle.shredding.specs.Shape.{LeafType, signed, unsigned, decimal, text, binary, Fits}
 use Rattle.pq_tree.specs.Physical.{Physical, int32, int64, byte_array}
 use Rattle.pq_files.specs.Stored.{IsStored}
 use Rattle.read_leaf.specs.Numbers.{as_signed, as_unsigned}
@@ -22,6 +22,8 @@ pub record LoadedIsStored : Type 0 where
   pub unsigned_32 : LoadsStored (λ z. Some (pos (cast_unsigned w32 z))) (unsigned 32) int32 32
   pub wide_unsigned : LoadsStored (as_unsigned w64 32) (unsigned 32) int64 64
   pub unsigned_64 : LoadsStored (λ z. Some (pos (cast_unsigned w64 z))) (unsigned 64) int64 64
+  pub decimal_32 : LoadsStored (λ z. Some z) decimal int32 32
+  pub decimal_64 : LoadsStored (λ z. Some z) decimal int64 64
 
 -- a byte string is loaded as a value exactly where the table stores the value so: of texts those in UTF-8, of byte strings all
 pub record StringsAreStored : Type 0 where

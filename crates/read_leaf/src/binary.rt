@@ -1,5 +1,5 @@
 //! Byte strings that grow.
-ghost use Rattle.std.specs.Prelude.{◌≡◌, ◌⊎◌, ◌+◌, ◌≤◌, ◌++◌, ◌∷◌, [], List, ℕ, IfOk, OnOk, IfErr, replicate, length as list_length};
+ghost use Rattle.std.specs.Prelude.{◌≡◌, ◌⊎◌, ◌+◌, ◌<◌, ◌≤◌, ◌++◌, ◌∷◌, [], List, ℕ, IfOk, OnOk, IfErr, replicate, length as list_length};
 ghost use Rattle.columns_base.specs.declared.error.Error.{Error};
 ghost use Rattle.columns_base.specs.declared.error.V.{V};
 ghost use Rattle.columns_slots.specs.Bytes.{pieces};
@@ -52,9 +52,11 @@ impl<O: Offset> Binary<O> {
     /// V1 where the bytes of all strings are more than the offset type counts; `Memory`. The strings are then as before.
     pub fn push(&mut self, string: &[u8]) -> Result<()>
         ensures ok { OnOk result (self.new ≡ self.old ++ string.now ∷ []) }
-        ensures err { IfErr result (λ e. ((e ≡ Error.Memory) ⊎ ((e ≡ Error.Overflow V.V1) × (O.limit ≤ total_bytes self.old + list_length string.now))) × (self.new ≡ self.old)) }
+        ensures err { IfErr result (λ e. ((e ≡ Error.Memory) ⊎ ((e ≡ Error.Overflow V.V1) × (0 < O.limit) × (O.limit ≤ total_bytes self.old + list_length string.now))) × (self.new ≡ self.old)) }
     {
         self.values.reserve(string.len())?;
+        // That the last offset fits says that some do.
+        let _end = self.offsets.last().to_usize();
         self.offsets.try_push_usize(string.len())?;
         self.values.extend_from_slice(string).unwrap();
         Ok(())

@@ -1,11 +1,14 @@
-//! Decoders of a leaf's plain values (Parquet format, Encodings, "Plain"), for the level walk of `read_walk`: truth values, whole numbers, dates and
-//! times over INT32 and INT64, and texts and byte strings. Values are taken in whole stretches, nulls too.
+//! Decoders of a leaf's plain values (Parquet format, Encodings, "Plain"), for the level walk of `read_walk`: truth values, whole numbers, dates,
+//! times and decimals over INT32 and INT64, and texts and byte strings. Values are taken in whole stretches, nulls too.
 #![tactic(auto)]
 
 mod binary;
 mod cut;
+mod fixed;
+mod fixed_values;
 mod laws;
 mod loaded;
+mod nulls;
 mod primitive;
 mod set_bits;
 mod stored;
@@ -13,9 +16,11 @@ mod strings;
 mod truths;
 
 pub use binary::Binary;
+pub use fixed::{FixedDecoder, FixedValue};
 pub use laws::{
     fronts_are_read, loaded_is_stored, numbers_are_read, strings_are_read, strings_are_stored,
 };
+pub use nulls::{NullDecoder, NullValues};
 pub use primitive::{NumberValues, PlainNumbers, PrimitiveDecoder};
 pub use stored::{FromStored, StoredNumber};
 pub use strings::{Bytes, PlainStrings, StringDecoder, StringKind, StringValues, Text};

@@ -246,3 +246,51 @@ impl FromStored<i64> for u64 {
         0
     }
 }
+
+impl FromStored<i32> for i128 {
+    ghost use Rattle.std.specs.Prelude.{Some, pos};
+    ghost use Rattle.columns_core.specs.Natives.{within_signed};
+
+    ghost loaded = { λ z. Some z };
+
+    ghost loaded_number = { λ x. within_signed 128 x };
+
+    ghost use Rattle.columns_native.specs.Ordered.{ordered_i128};
+    ghost use Rattle.read_leaf.specs.Loads.{loads-i128};
+
+    ghost valued = { ordered_i128 };
+
+    ghost loads = { loads-i128 };
+
+    fn from_stored(stored: i32) -> Option<i128> {
+        Some(i128::from(stored))
+    }
+
+    fn zero() -> i128 {
+        0
+    }
+}
+
+impl FromStored<i64> for i128 {
+    ghost use Rattle.std.specs.Prelude.{Some, pos};
+    ghost use Rattle.columns_core.specs.Natives.{within_signed};
+
+    ghost loaded = { λ z. Some z };
+
+    ghost loaded_number = { λ x. within_signed 128 x };
+
+    ghost use Rattle.columns_native.specs.Ordered.{ordered_i128};
+    ghost use Rattle.read_leaf.specs.Loads.{loads-wide-i128};
+
+    ghost valued = { ordered_i128 };
+
+    ghost loads = { loads-wide-i128 };
+
+    fn from_stored(stored: i64) -> Option<i128> {
+        Some(i128::from(stored))
+    }
+
+    fn zero() -> i128 {
+        0
+    }
+}

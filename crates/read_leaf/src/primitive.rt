@@ -25,8 +25,8 @@ pub struct PlainNumbers<'a> {
 /// Numbers, and which of them are there.
 #[derive(Debug, Drop)]
 pub struct NumberValues<T: Drop> {
-    values: Vec<T>,
-    validity: MutableBitmap,
+    pub(crate) values: Vec<T>,
+    pub(crate) validity: MutableBitmap,
 }
 
 impl<T: Drop> Model for NumberValues<T> {
@@ -93,7 +93,7 @@ fn load<T: FromStored<P>, P: StoredNumber>(bytes: &[u8]) -> Option<T>
 }
 
 // As many equal numbers more.
-fn push_copies<T: Copy>(values: &mut Vec<T>, number: T, count: usize) -> Result<()>
+pub(crate) fn push_copies<T: Copy>(values: &mut Vec<T>, number: T, count: usize) -> Result<()>
     ensures ok { OnOk result (values.new.items ≡ values.old.items ++ replicate count number) }
     ensures kept { list_length values.old.items ≤ list_length values.new.items }
     ensures err { IfErr result (λ e. e ≡ Error.Memory) }
@@ -245,7 +245,11 @@ fn equal_bits(bit: bool) -> u64
 }
 
 // As many equal validities more. A whole word at once costs less from five on.
-fn push_validities(validity: &mut MutableBitmap, is_valid: bool, count: usize) -> Result<()>
+pub(crate) fn push_validities(
+    validity: &mut MutableBitmap,
+    is_valid: bool,
+    count: usize,
+) -> Result<()>
     ensures ok { OnOk result (validity.new.0 ≡ validity.old.0 ++ replicate count is_valid) }
     ensures err { IfErr result (λ e. (e ≡ Error.Memory) × (validity.new.0 ≡ validity.old.0)) }
 {
@@ -295,7 +299,7 @@ impl<'a, T: FromStored<P>, P: StoredNumber> NestedDecoder<'a> for PrimitiveDecod
 
     type DecodedState = NumberValues<T>;
 
-    ghost left = { λ s. stored_numbers T.loaded P.spelled P.byte_count s.values.now };
+    ghost left = { λ d s. stored_numbers T.loaded P.spelled P.byte_count s.values.now };
 
     ghost slots = { λ d. number_slots (map T.loaded_number d.0) d.1 };
 

@@ -281,7 +281,7 @@ impl<'a, O: Offset, K: StringKind> NestedDecoder<'a> for StringDecoder<O, K> {
 
     type DecodedState = StringValues<O, K>;
 
-    ghost left = { λ s. stored_strings K.allows s.values.now };
+    ghost left = { λ d s. stored_strings K.allows s.values.now };
 
     ghost slots = { λ d. string_slots d.0 d.1 };
 

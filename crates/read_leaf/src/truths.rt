@@ -158,7 +158,7 @@ impl<'a> NestedDecoder<'a> for TruthDecoder {
 
     type DecodedState = TruthValues;
 
-    ghost left = { λ s. stored_truths s.values.now s.bit };
+    ghost left = { λ d s. stored_truths s.values.now s.bit };
 
     ghost slots = { λ d. truth_slots d.0 d.1 };
 

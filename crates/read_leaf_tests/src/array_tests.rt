@@ -5,7 +5,7 @@ ghost use Rattle.columns_core.specs.View.{type_view};
 
 use columns_array::ArrayBox;
 use columns_base::{Error, PhysicalType, Result, S};
-use columns_core::{Bitmap, DataType, TimeUnit};
+use columns_core::{Bitmap, DataType, IntervalUnit, TimeUnit};
 use read_leaf::{Bytes, Text};
 use read_pieces::{LeafReader, PlainBytes};
 use read_state::{InitNested, init_nested};
@@ -16,7 +16,12 @@ use std::alloc::Global;
 // A packed run of the definition levels 1, 0, 1.
 const DEFS: &[u8] = &[3, 0b0000_0101];
 
-fn three<L: LeafArray>(alloc: Global, bytes: &[u8], data_type: DataType) -> Result<ArrayBox>
+pub(crate) fn three<L: LeafArray>(
+    leaf: &L,
+    alloc: Global,
+    bytes: &[u8],
+    data_type: DataType,
+) -> Result<ArrayBox>
     requires { L.makes (base (type_view data_type)) ≡ true }
 {
     let mut nested = init_nested(alloc, &[InitNested::Primitive(true)], 0)?;
@@ -26,13 +31,13 @@ fn three<L: LeafArray>(alloc: Global, bytes: &[u8], data_type: DataType) -> Resu
         values: bytes,
         bit: 0,
     };
-    L::extend(&mut page, &mut bytes, &mut nested, &mut values, 3)?;
+    leaf.extend(&mut page, &mut bytes, &mut nested, &mut values, 3)?;
     L::into_array(alloc, values, data_type)
 }
 
 fn makes_small_numbers(alloc: Global) -> Result<bool> {
     let bytes = &[200, 0, 0, 0, 7, 0, 0, 0];
-    match three::<Numbers<u8, i32>>(alloc, bytes, DataType::UInt8)? {
+    match three(&Numbers::<u8, i32>::new(), alloc, bytes, DataType::UInt8)? {
         ArrayBox::UInt8(array) => {
             Ok(array.values() == [200, 0, 7].as_slice() && array.null_count() == 1)
         }
@@ -44,7 +49,12 @@ fn makes_wide_numbers(alloc: Global) -> Result<bool> {
     let bytes = &[
         254, 255, 255, 255, 255, 255, 255, 255, 0, 1, 0, 0, 0, 0, 0, 0,
     ];
-    match three::<Numbers<i64, i64>>(alloc, bytes, DataType::Duration(TimeUnit::Second))? {
+    match three(
+        &Numbers::<i64, i64>::new(),
+        alloc,
+        bytes,
+        DataType::Duration(TimeUnit::Second),
+    )? {
         ArrayBox::Int64(array) => {
             Ok(array.values() == [-2, 0, 256].as_slice() && array.null_count() == 1)
         }
@@ -65,7 +75,7 @@ fn has_bits(bits: &Bitmap, count: usize, want: u64) -> bool {
 
 // The stored bits are 0 and 1.
 fn makes_truths(alloc: Global) -> Result<bool> {
-    match three::<Truths>(alloc, &[0b0000_0010], DataType::Boolean)? {
+    match three(&Truths, alloc, &[0b0000_0010], DataType::Boolean)? {
         ArrayBox::Boolean(array) => {
             Ok(has_bits(array.values(), 3, 0b100) && array.null_count() == 1)
         }
@@ -88,7 +98,7 @@ fn next_truths(
 ) -> Result<Bitmap> {
     let mut nested = init_nested(alloc, &[InitNested::Primitive(false)], 0)?;
     let mut values = Truths::begin(alloc)?;
-    Truths::extend(page, bytes, &mut nested, &mut values, rows)?;
+    Truths.extend(page, bytes, &mut nested, &mut values, rows)?;
     values.into_parts().0.into_bitmap()
 }
 
@@ -112,7 +122,12 @@ fn pieces_go_on_inside_a_byte(rt: HostRuntime) -> Result<()> {
 
 fn makes_texts(alloc: Global) -> Result<bool> {
     let bytes = &[1, 0, 0, 0, 97, 2, 0, 0, 0, 195, 164];
-    match three::<Strings<i64, Text>>(alloc, bytes, DataType::LargeUtf8)? {
+    match three(
+        &Strings::<i64, Text>::new(),
+        alloc,
+        bytes,
+        DataType::LargeUtf8,
+    )? {
         ArrayBox::LargeUtf8(array) => Ok(
             array.offsets().buffer() == [0, 1, 1, 3].as_slice()
                 && array.values() == [97, 195, 164].as_slice()
@@ -124,7 +139,12 @@ fn makes_texts(alloc: Global) -> Result<bool> {
 
 fn makes_strings(alloc: Global) -> Result<bool> {
     let bytes = &[1, 0, 0, 0, 255, 0, 0, 0, 0];
-    match three::<Strings<i32, Bytes>>(alloc, bytes, DataType::Binary)? {
+    match three(
+        &Strings::<i32, Bytes>::new(),
+        alloc,
+        bytes,
+        DataType::Binary,
+    )? {
         ArrayBox::Binary(array) => Ok(
             array.offsets().buffer() == [0, 1, 1, 1].as_slice()
                 && array.values() == [255].as_slice()
@@ -144,7 +164,7 @@ fn strings_are_made(rt: HostRuntime) -> Result<()> {
 // 256 is no number of eight bits.
 fn refuses_numbers(alloc: Global) -> bool {
     let bytes = &[0, 1, 0, 0, 7, 0, 0, 0];
-    match three::<Numbers<u8, i32>>(alloc, bytes, DataType::UInt8) {
+    match three(&Numbers::<u8, i32>::new(), alloc, bytes, DataType::UInt8) {
         Ok(_) => false,
         Err(error) => error == Error::OutOfSpec(S::S7),
     }
@@ -191,4 +211,36 @@ fn kinds_are_told(rt: HostRuntime) {
         )
     );
     assert!(rt; has_kind(&DataType::Float32, PhysicalType::Float, None));
+    assert!(rt; has_kind(&DataType::Null, PhysicalType::Int32, Some(LeafKind::Null)));
+}
+
+#[test]
+fn kinds_of_decimals_are_told(rt: HostRuntime) {
+    let decimal = DataType::Decimal(9, 2);
+    assert!(rt; has_kind(&decimal, PhysicalType::Int32, Some(LeafKind::Decimal)));
+    assert!(rt; has_kind(&decimal, PhysicalType::Int64, Some(LeafKind::WideDecimal)));
+    assert!(rt;
+        has_kind(
+            &decimal,
+            PhysicalType::FixedLenByteArray(9),
+            Some(LeafKind::FixedDecimal(9))
+        )
+    );
+    assert!(rt; has_kind(&decimal, PhysicalType::FixedLenByteArray(0), None));
+    assert!(rt; has_kind(&decimal, PhysicalType::FixedLenByteArray(17), None));
+}
+
+#[test]
+fn kinds_of_intervals_are_told(rt: HostRuntime) {
+    let months = DataType::Interval(IntervalUnit::YearMonth);
+    assert!(rt;
+        has_kind(
+            &months,
+            PhysicalType::FixedLenByteArray(12),
+            Some(LeafKind::Months)
+        )
+    );
+    assert!(rt; has_kind(&months, PhysicalType::FixedLenByteArray(8), None));
+    let other = DataType::Interval(IntervalUnit::MonthDayNano);
+    assert!(rt; has_kind(&other, PhysicalType::FixedLenByteArray(12), None));
 }

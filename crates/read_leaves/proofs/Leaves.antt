@@ -1,6 +1,7 @@
 -- A leaf's column as the reader of its kind.
 use Rattle.std.proofs.Common.{◌≡◌, Option, Some, None, List, true, false, refl, sym, ◌∙◌, true≢false}
-use Rattle.std.specs.Prelude.{Result, Ok, Err}
+use Rattle.std.specs.Prelude.{Result, Ok, Err, ◌&&◌, nat_le}
+use Rattle.std.proofs.lemmas.Bool.{and_parts}
 use Rattle.columns_base.specs.declared.error.Error.{Error}
 use Rattle.columns_core.specs.Shapes.{base}
 use Rattle.columns_core.specs.Tree.{TypeTree, t_dictionary}
@@ -21,6 +22,7 @@ use Rattle.shredding.specs.Shred.{Triple}
 -- no kind is of dictionaries
 direct : (t : TypeTree) (k : LeafKind) → types_of k t ≡ true → is_dictionary t ≡ false
 direct (t_dictionary key t s) K.Boolean e = absurd (true≢false (sym e))
+direct (t_dictionary key t s) K.Null e = absurd (true≢false (sym e))
 direct (t_dictionary key t s) K.Int8 e = absurd (true≢false (sym e))
 direct (t_dictionary key t s) K.Int16 e = absurd (true≢false (sym e))
 direct (t_dictionary key t s) K.Int32 e = absurd (true≢false (sym e))
@@ -28,12 +30,17 @@ direct (t_dictionary key t s) K.UInt8 e = absurd (true≢false (sym e))
 direct (t_dictionary key t s) K.UInt16 e = absurd (true≢false (sym e))
 direct (t_dictionary key t s) K.UInt32 e = absurd (true≢false (sym e))
 direct (t_dictionary key t s) K.Int64 e = absurd (true≢false (sym e))
+direct (t_dictionary key t s) K.Decimal e = absurd (true≢false (sym e))
+direct (t_dictionary key t s) K.WideDecimal e = absurd (true≢false (sym e))
 direct (t_dictionary key t s) K.WideUInt32 e = absurd (true≢false (sym e))
 direct (t_dictionary key t s) K.UInt64 e = absurd (true≢false (sym e))
 direct (t_dictionary key t s) K.Utf8 e = absurd (true≢false (sym e))
 direct (t_dictionary key t s) K.LargeUtf8 e = absurd (true≢false (sym e))
 direct (t_dictionary key t s) K.Binary e = absurd (true≢false (sym e))
 direct (t_dictionary key t s) K.LargeBinary e = absurd (true≢false (sym e))
+direct (t_dictionary key t s) (K.FixedDecimal n) e = absurd (true≢false (sym (and_parts (nat_le 1 n && nat_le n 16) false e).1))
+direct (t_dictionary key t s) K.Months e = absurd (true≢false (sym e))
+direct (t_dictionary key t s) K.Days e = absurd (true≢false (sym e))
 direct t k e = refl
 
 pub opens : (o : ColumnOpening) (t : TypeTree) (p : Physical) (k : LeafKind) → IsLeafOpening o t p → physical_of k ≡ p → types_of k (base t) ≡ true → IsReadable o (stored_of k) (limit_of k)

@@ -7,6 +7,7 @@ use Rattle.read_leaves.specs.declared.column.KindColumn.TheVariants as C
 
 abbrev pub kind_in : {I : Type 0} → KindColumn I → LeafKind
 kind_in (C.Boolean r) = K.Boolean
+kind_in (C.Null r) = K.Null
 kind_in (C.Int8 r) = K.Int8
 kind_in (C.Int16 r) = K.Int16
 kind_in (C.Int32 r) = K.Int32
@@ -14,15 +15,21 @@ kind_in (C.UInt8 r) = K.UInt8
 kind_in (C.UInt16 r) = K.UInt16
 kind_in (C.UInt32 r) = K.UInt32
 kind_in (C.Int64 r) = K.Int64
+kind_in (C.Decimal r) = K.Decimal
+kind_in (C.WideDecimal r) = K.WideDecimal
 kind_in (C.WideUInt32 r) = K.WideUInt32
 kind_in (C.UInt64 r) = K.UInt64
 kind_in (C.Utf8 r) = K.Utf8
 kind_in (C.LargeUtf8 r) = K.LargeUtf8
 kind_in (C.Binary r) = K.Binary
 kind_in (C.LargeBinary r) = K.LargeBinary
+kind_in (C.FixedDecimal r n) = K.FixedDecimal n
+kind_in (C.Months r) = K.Months
+kind_in (C.Days r) = K.Days
 
 abbrev pub reader_in : {I : Type 0} → KindColumn I → Reading
 reader_in (C.Boolean r) = r
+reader_in (C.Null r) = r
 reader_in (C.Int8 r) = r
 reader_in (C.Int16 r) = r
 reader_in (C.Int32 r) = r
@@ -30,9 +37,14 @@ reader_in (C.UInt8 r) = r
 reader_in (C.UInt16 r) = r
 reader_in (C.UInt32 r) = r
 reader_in (C.Int64 r) = r
+reader_in (C.Decimal r) = r
+reader_in (C.WideDecimal r) = r
 reader_in (C.WideUInt32 r) = r
 reader_in (C.UInt64 r) = r
 reader_in (C.Utf8 r) = r
 reader_in (C.LargeUtf8 r) = r
 reader_in (C.Binary r) = r
 reader_in (C.LargeBinary r) = r
+reader_in (C.FixedDecimal r n) = r
+reader_in (C.Months r) = r
+reader_in (C.Days r) = r

@@ -1,32 +1,38 @@
 //! The reader of a column of each kind.
-ghost use Rattle.std.specs.Prelude.{◌≡◌, ◌≢◌, [], List, true, IfErr, IfOk, Some};
+ghost use Rattle.std.specs.Prelude.{◌≡◌, ◌≢◌, [], List, ℕ, true, IfErr, IfOk, Some};
 ghost use Rattle.columns_base.specs.declared.error.Error.TheVariants.{Memory};
 ghost use Rattle.columns_core.specs.Shapes.{base};
 ghost use Rattle.columns_core.specs.View.{type_view};
+ghost use Rattle.pq_tree.specs.Views.{physical_view};
 ghost use Rattle.shredding.specs.Along.{thin};
 ghost use Rattle.shredding.specs.Shred.{Triple};
 ghost use Rattle.read_column.specs.Reading.{IsReading};
 ghost use Rattle.read_pieces.specs.Columns.{ColumnOpening, GivesPiece, IsReadable};
 ghost use Rattle.read_pieces.specs.Pieces.{IsPieceOf};
 ghost use Rattle.read_state.specs.Initial.{IsWay};
+ghost use Rattle.read_walk.specs.Values.{Stored};
+ghost use Rattle.read_leaf.specs.Fixed.{stored_fixed};
+ghost use Rattle.read_types.specs.Arrays.{makes_fixed};
 ghost use Rattle.read_types.specs.Reads.{limit_of, stored_of, types_of};
 ghost use Rattle.read_leaves.specs.Kinds.{kind_in, reader_in};
 
 use crate::piece::piece_of;
-use columns_base::Result;
-use columns_core::DataType;
+use columns_base::{PhysicalType, Result};
+use columns_core::{DataType, DaysMs};
 use pq_pages::Pages;
 use read_column::ColumnReader;
-use read_leaf::{Bytes, Text};
+use read_leaf::{Bytes, FixedValue, Text};
 use read_pieces::{ColumnPiece, LeafReader};
 use read_state::InitNested;
-use read_types::{LeafArray, LeafKind, Numbers, Strings, Truths};
+use read_types::{Fixed, LeafArray, LeafKind, Nulls, NumberBox, Numbers, Strings, Truths};
 use std::alloc::Global;
+use std::marker::PhantomData;
 
 /// The reader of a column, by how its values are read.
 #[derive(Drop)]
 pub enum KindColumn<I: Pages> {
     Boolean(ColumnReader<I, Truths>),
+    Null(ColumnReader<I, Nulls>),
     Int8(ColumnReader<I, Numbers<i8, i32>>),
     Int16(ColumnReader<I, Numbers<i16, i32>>),
     Int32(ColumnReader<I, Numbers<i32, i32>>),
@@ -34,19 +40,26 @@ pub enum KindColumn<I: Pages> {
     UInt16(ColumnReader<I, Numbers<u16, i32>>),
     UInt32(ColumnReader<I, Numbers<u32, i32>>),
     Int64(ColumnReader<I, Numbers<i64, i64>>),
+    Decimal(ColumnReader<I, Numbers<i128, i32>>),
+    WideDecimal(ColumnReader<I, Numbers<i128, i64>>),
     WideUInt32(ColumnReader<I, Numbers<u32, i64>>),
     UInt64(ColumnReader<I, Numbers<u64, i64>>),
     Utf8(ColumnReader<I, Strings<i32, Text>>),
     LargeUtf8(ColumnReader<I, Strings<i64, Text>>),
     Binary(ColumnReader<I, Strings<i32, Bytes>>),
     LargeBinary(ColumnReader<I, Strings<i64, Bytes>>),
+    /// With the size of each value.
+    FixedDecimal(ColumnReader<I, Fixed<i128>>, usize),
+    Months(ColumnReader<I, Fixed<i32>>),
+    Days(ColumnReader<I, Fixed<DaysMs>>),
 }
 
-/// The pages of a column, the parts of the way to its leaf, and how its rows are read.
+/// The pages of a column, its physical type, the parts of the way to its leaf, and how its rows are read.
 #[derive(Drop)]
 pub struct PagesOfRows<I: Pages> {
     pub alloc: Global,
     pub pages: I,
+    pub physical_type: PhysicalType,
     pub nested: Vec<InitNested>,
     pub chunk_size: Option<usize>,
     pub num_rows: usize,
@@ -55,12 +68,13 @@ pub struct PagesOfRows<I: Pages> {
 impl<I: Pages> PagesOfRows<I> {
     // The reader of the column.
     fn read<L: LeafReader>(self) -> Result<ColumnReader<I, L>>
-        ensures reads { (o : ColumnOpening) → IsReadable o (λ text. L.stored text 0) L.byte_limit → o.outcomes ≡ I.outcomes self.pages → IsWay self.nested.items (thin o.column.way) → o.rows ≡ self.num_rows → o.chunk_size ≡ self.chunk_size → IfOk result (λ r. IsReading (λ text. L.stored text 0) L.byte_limit o [] r) }
+        ensures reads { (o : ColumnOpening) (stored : List ℕ → List Stored) (limit : ℕ) → IsReadable o stored limit → o.leaf.physical ≡ physical_view self.physical_type → o.outcomes ≡ I.outcomes self.pages → IsWay self.nested.items (thin o.column.way) → o.rows ≡ self.num_rows → o.chunk_size ≡ self.chunk_size → IfOk result (λ r. IsReading stored limit o [] r) }
         ensures err { IfErr result (λ e. e ≡ Memory) }
     {
         ColumnReader::new(
             self.alloc,
             self.pages,
+            self.physical_type,
             self.nested,
             self.chunk_size,
             self.num_rows,
@@ -71,13 +85,31 @@ impl<I: Pages> PagesOfRows<I> {
 // The next piece, with the array of its leaf, of this type.
 fn next_of<I: Pages, L: LeafArray>(
     reader: &mut ColumnReader<I, L>,
+    leaf: &L,
     alloc: Global,
     data_type: &DataType,
 ) -> Option<Result<ColumnPiece>>
     requires { L.makes (base (type_view data_type.now)) ≡ true }
-    ensures { (o : ColumnOpening) (pieces : List (List Triple)) → IsReading (λ text. L.stored text 0) L.byte_limit o pieces reader.old → GivesPiece (IsReading (λ text. L.stored text 0) L.byte_limit) (λ p ts. IsPieceOf o.column (type_view data_type.now) ts p) o pieces result reader.new }
+    ensures { (o : ColumnOpening) (pieces : List (List Triple)) → IsReading (λ text. L.stored leaf.now text 0) L.byte_limit o pieces reader.old → GivesPiece (IsReading (λ text. L.stored leaf.now text 0) L.byte_limit) (λ p ts. IsPieceOf o.column (type_view data_type.now) ts p) o pieces result reader.new }
 {
-    piece_of::<L>(alloc, data_type, reader.next_piece())
+    piece_of::<L>(alloc, data_type, reader.next_piece(leaf))
+}
+
+// The same of values that are stored as so many bytes each.
+fn next_fixed<I: Pages, T: FixedValue + NumberBox>(
+    reader: &mut ColumnReader<I, Fixed<T>>,
+    size: usize,
+    alloc: Global,
+    data_type: &DataType,
+) -> Option<Result<ColumnPiece>>
+    requires { makes_fixed T.stores (base (type_view data_type.now)) ≡ true }
+    ensures { (o : ColumnOpening) (pieces : List (List Triple)) → IsReading (stored_fixed T.loaded size) 0 o pieces reader.old → GivesPiece (IsReading (stored_fixed T.loaded size) 0) (λ p ts. IsPieceOf o.column (type_view data_type.now) ts p) o pieces result reader.new }
+{
+    let leaf = Fixed {
+        size,
+        value: PhantomData,
+    };
+    next_of(reader, &leaf, alloc, data_type)
 }
 
 impl<I: Pages> KindColumn<I> {
@@ -88,11 +120,12 @@ impl<I: Pages> KindColumn<I> {
     /// `Memory`.
     pub fn new(kind: LeafKind, rows: PagesOfRows<I>) -> Result<Self>
         ensures kind { IfOk result (λ c. kind_in c ≡ kind) }
-        ensures reads { (o : ColumnOpening) → IsReadable o (stored_of kind) (limit_of kind) → o.outcomes ≡ I.outcomes rows.pages → IsWay rows.nested.items (thin o.column.way) → o.rows ≡ rows.num_rows → o.chunk_size ≡ rows.chunk_size → IfOk result (λ c. IsReading (stored_of kind) (limit_of kind) o [] (reader_in c)) }
+        ensures reads { (o : ColumnOpening) → IsReadable o (stored_of kind) (limit_of kind) → o.leaf.physical ≡ physical_view rows.physical_type → o.outcomes ≡ I.outcomes rows.pages → IsWay rows.nested.items (thin o.column.way) → o.rows ≡ rows.num_rows → o.chunk_size ≡ rows.chunk_size → IfOk result (λ c. IsReading (stored_of kind) (limit_of kind) o [] (reader_in c)) }
         ensures err { IfErr result (λ e. e ≡ Memory) }
     {
         Ok(match kind {
             LeafKind::Boolean => KindColumn::Boolean(rows.read()?),
+            LeafKind::Null => KindColumn::Null(rows.read()?),
             LeafKind::Int8 => KindColumn::Int8(rows.read()?),
             LeafKind::Int16 => KindColumn::Int16(rows.read()?),
             LeafKind::Int32 => KindColumn::Int32(rows.read()?),
@@ -100,12 +133,17 @@ impl<I: Pages> KindColumn<I> {
             LeafKind::UInt16 => KindColumn::UInt16(rows.read()?),
             LeafKind::UInt32 => KindColumn::UInt32(rows.read()?),
             LeafKind::Int64 => KindColumn::Int64(rows.read()?),
+            LeafKind::Decimal => KindColumn::Decimal(rows.read()?),
+            LeafKind::WideDecimal => KindColumn::WideDecimal(rows.read()?),
             LeafKind::WideUInt32 => KindColumn::WideUInt32(rows.read()?),
             LeafKind::UInt64 => KindColumn::UInt64(rows.read()?),
             LeafKind::Utf8 => KindColumn::Utf8(rows.read()?),
             LeafKind::LargeUtf8 => KindColumn::LargeUtf8(rows.read()?),
             LeafKind::Binary => KindColumn::Binary(rows.read()?),
             LeafKind::LargeBinary => KindColumn::LargeBinary(rows.read()?),
+            LeafKind::FixedDecimal(size) => KindColumn::FixedDecimal(rows.read()?, size),
+            LeafKind::Months => KindColumn::Months(rows.read()?),
+            LeafKind::Days => KindColumn::Days(rows.read()?),
         })
     }
 
@@ -120,20 +158,26 @@ impl<I: Pages> KindColumn<I> {
         ensures gives { (o : ColumnOpening) (pieces : List (List Triple)) → IsReading (stored_of (kind_in self.old)) (limit_of (kind_in self.old)) o pieces (reader_in self.old) → GivesPiece (IsReading (stored_of (kind_in self.old)) (limit_of (kind_in self.old))) (λ p ts. IsPieceOf o.column (type_view data_type.now) ts p) o pieces result (reader_in self.new) }
     {
         match self {
-            KindColumn::Boolean(reader) => next_of(reader, alloc, data_type),
-            KindColumn::Int8(reader) => next_of(reader, alloc, data_type),
-            KindColumn::Int16(reader) => next_of(reader, alloc, data_type),
-            KindColumn::Int32(reader) => next_of(reader, alloc, data_type),
-            KindColumn::UInt8(reader) => next_of(reader, alloc, data_type),
-            KindColumn::UInt16(reader) => next_of(reader, alloc, data_type),
-            KindColumn::UInt32(reader) => next_of(reader, alloc, data_type),
-            KindColumn::Int64(reader) => next_of(reader, alloc, data_type),
-            KindColumn::WideUInt32(reader) => next_of(reader, alloc, data_type),
-            KindColumn::UInt64(reader) => next_of(reader, alloc, data_type),
-            KindColumn::Utf8(reader) => next_of(reader, alloc, data_type),
-            KindColumn::LargeUtf8(reader) => next_of(reader, alloc, data_type),
-            KindColumn::Binary(reader) => next_of(reader, alloc, data_type),
-            KindColumn::LargeBinary(reader) => next_of(reader, alloc, data_type),
+            KindColumn::Boolean(reader) => next_of(reader, &Truths, alloc, data_type),
+            KindColumn::Null(reader) => next_of(reader, &Nulls, alloc, data_type),
+            KindColumn::Int8(reader) => next_of(reader, &Numbers::new(), alloc, data_type),
+            KindColumn::Int16(reader) => next_of(reader, &Numbers::new(), alloc, data_type),
+            KindColumn::Int32(reader) => next_of(reader, &Numbers::new(), alloc, data_type),
+            KindColumn::UInt8(reader) => next_of(reader, &Numbers::new(), alloc, data_type),
+            KindColumn::UInt16(reader) => next_of(reader, &Numbers::new(), alloc, data_type),
+            KindColumn::UInt32(reader) => next_of(reader, &Numbers::new(), alloc, data_type),
+            KindColumn::Int64(reader) => next_of(reader, &Numbers::new(), alloc, data_type),
+            KindColumn::Decimal(reader) => next_of(reader, &Numbers::new(), alloc, data_type),
+            KindColumn::WideDecimal(reader) => next_of(reader, &Numbers::new(), alloc, data_type),
+            KindColumn::WideUInt32(reader) => next_of(reader, &Numbers::new(), alloc, data_type),
+            KindColumn::UInt64(reader) => next_of(reader, &Numbers::new(), alloc, data_type),
+            KindColumn::Utf8(reader) => next_of(reader, &Strings::new(), alloc, data_type),
+            KindColumn::LargeUtf8(reader) => next_of(reader, &Strings::new(), alloc, data_type),
+            KindColumn::Binary(reader) => next_of(reader, &Strings::new(), alloc, data_type),
+            KindColumn::LargeBinary(reader) => next_of(reader, &Strings::new(), alloc, data_type),
+            KindColumn::FixedDecimal(reader, size) => next_fixed(reader, *size, alloc, data_type),
+            KindColumn::Months(reader) => next_fixed(reader, 12, alloc, data_type),
+            KindColumn::Days(reader) => next_fixed(reader, 12, alloc, data_type),
         }
     }
 }

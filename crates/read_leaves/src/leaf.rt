@@ -1,5 +1,5 @@
 //! The column of a leaf.
-ghost use Rattle.std.specs.Prelude.{◌≡◌, ◌⊎◌, ◌↔◌, [], List, false, IfErr, IfOk, IsErrOf};
+ghost use Rattle.std.specs.Prelude.{◌≡◌, ◌⊎◌, ◌↔◌, [], List, false, true, IfErr, IfOk, IsErrOf, MatchOption};
 ghost use Rattle.columns_base.specs.declared.error.Error.TheVariants.{Memory, NotYetImplemented};
 ghost use Rattle.columns_base.specs.declared.error.N.TheVariants.{N5};
 ghost use Rattle.columns_core.specs.Shapes.{base};
@@ -11,8 +11,9 @@ ghost use Rattle.shredding.specs.Shred.{Triple};
 ghost use Rattle.read_pieces.specs.Columns.{ColumnOpening, GivesPiece};
 ghost use Rattle.read_pieces.specs.Pieces.{IsPieceOf};
 ghost use Rattle.read_state.specs.Initial.{IsWay};
-ghost use Rattle.write_values.specs.Served.{is_served};
-ghost use Rattle.read_leaves.specs.Leaf.{IsLeafOpening, IsReadingLeaf};
+ghost use Rattle.read_types.specs.LeafTypes.{reads_nested, reads_required};
+ghost use Rattle.read_types.specs.Reads.{physical_of, types_of};
+ghost use Rattle.read_leaves.specs.Leaf.{IsLeafOpening, IsReadingLeaf, ends_optional, is_leaf_alone, is_read_along};
 
 use crate::column::{KindColumn, PagesOfRows};
 use columns_base::{Error, N, PhysicalType, Result};
@@ -56,13 +57,73 @@ impl<I: Pages> Model for LeafColumn<I> {
     ghost invariant = { λ c. types_of (kind_in c.column) (base (type_view c.data_type)) ≡ true };
 }
 
+// Whether leaves of this type are read beneath lists and structs too.
+fn may_nest(data_type: &DataType) -> bool
+    ensures { result ≡ reads_nested (base (type_view data_type.now)) }
+{
+    match data_type.base() {
+        DataType::Decimal(_, _) => false,
+        DataType::Interval(_) => false,
+        _ => true,
+    }
+}
+
+// Whether a leaf is all of the way.
+fn stands_alone(parts: &[InitNested]) -> bool
+    ensures { result ≡ is_leaf_alone parts.now }
+{
+    match parts {
+        [InitNested::Primitive(_)] => true,
+        _ => false,
+    }
+}
+
+// Whether leaves of this type are read where they may not be null too.
+fn may_be_required(data_type: &DataType) -> bool
+    ensures { result ≡ reads_required (base (type_view data_type.now)) }
+{
+    match data_type.base() {
+        DataType::Null => false,
+        _ => true,
+    }
+}
+
+// Whether the leaf at the end of the way may be null.
+fn may_be_null(parts: &[InitNested]) -> bool
+    ensures { result ≡ ends_optional parts.now }
+{
+    match parts {
+        [] => false,
+        [InitNested::Primitive(is_nullable), ..] => *is_nullable,
+        [_, rest @ ..] => may_be_null(rest),
+    }
+}
+
+// How a leaf of this type under this physical type is read at the end of such a way; none where it is not read yet.
+fn kind_along(
+    parts: &[InitNested],
+    data_type: &DataType,
+    physical_type: PhysicalType,
+) -> Option<LeafKind>
+    ensures { MatchOption result (is_read_along parts.now (base (type_view data_type.now)) (physical_view physical_type) ≡ false) (λ k. (physical_of k ≡ physical_view physical_type) × (types_of k (base (type_view data_type.now)) ≡ true) × (is_read_along parts.now (base (type_view data_type.now)) (physical_view physical_type) ≡ true)) }
+{
+    if !may_nest(data_type) && !stands_alone(parts) {
+        return None;
+    }
+    if !may_be_required(data_type) && !may_be_null(parts) {
+        return None;
+    }
+    LeafKind::of(data_type, physical_type)
+}
+
 impl<I: Pages> LeafColumn<I> {
     /// The reader of a column of this type, stored under this physical type, of so many rows, whose pages the source gives, along the parts of the
     /// way to its leaf; with a chunk size each piece has as many rows, or as are left.
     ///
     /// # Errors
     ///
-    /// N5 exactly where leaves of this type and physical type are not read yet; `Memory`.
+    /// N5 exactly where leaves of this type and physical type are not read yet, or not beneath lists and structs, or not
+    /// where they may not be null; `Memory`.
     pub fn try_new(
         alloc: Global,
         pages: I,
@@ -73,15 +134,16 @@ impl<I: Pages> LeafColumn<I> {
         num_rows: usize,
     ) -> Result<Self>
         ensures ok { (o : ColumnOpening) → IsLeafOpening o (type_view data_type) (physical_view physical_type) → o.outcomes ≡ I.outcomes pages → IsWay nested.items (thin o.column.way) → o.rows ≡ num_rows → o.chunk_size ≡ chunk_size → IfOk result (λ c. IsReadingLeaf o (type_view data_type) [] c) }
-        ensures unserved { IsErrOf result (NotYetImplemented N5) ↔ (is_served (base (type_view data_type)) (physical_view physical_type) ≡ false) }
+        ensures unserved { IsErrOf result (NotYetImplemented N5) ↔ (is_read_along nested.items (base (type_view data_type)) (physical_view physical_type) ≡ false) }
         ensures err { IfErr result (λ e. (e ≡ Memory) ⊎ (e ≡ NotYetImplemented N5)) }
     {
-        let Some(kind) = LeafKind::of(&data_type, physical_type) else {
+        let Some(kind) = kind_along(&nested, &data_type, physical_type) else {
             return Err(Error::NotYetImplemented(N::N5));
         };
         let rows = PagesOfRows {
             alloc,
             pages,
+            physical_type,
             nested,
             chunk_size,
             num_rows,
@@ -100,9 +162,10 @@ impl<I: Pages> LeafColumn<I> {
     ///
     /// # Errors
     ///
-    /// Those of `ColumnReader` of `read_column`: S3 or N4 of the source; N4 for a page that is not read yet; S5 or N8 where a page's first pair
-    /// goes on with a row; S4, S6, S7 and S10 where a page's levels or values are not those of rows; S9 where the pages have more or fewer rows
-    /// than the group, or one of version 2 than its header states; V1 where a piece passes the offsets of its array; `Memory`.
+    /// Those of `ColumnReader` of `read_column`: S3 or N4 of the source; N4 for a page in an encoding that its physical type has not, or of deltas
+    /// in a column that is not flat; S5 or N8 where a page's first pair goes on with a row; S4, S6, S7 and S10 where a page's levels or values are
+    /// not those of rows; S9 where the pages have more or fewer rows than the group, or one of version 2 than its header states; V1 where a piece
+    /// passes the offsets of its array; `Memory`.
     pub fn next_piece(&mut self) -> Option<Result<ColumnPiece>>
         ensures { (o : ColumnOpening) (t : TypeTree) (pieces : List (List Triple)) → IsReadingLeaf o t pieces self.old → GivesPiece (λ o ps r. IsReadingLeaf o t ps r) (λ p ts. IsPieceOf o.column t ts p) o pieces result self.new }
     {

@@ -20,7 +20,7 @@ use Rattle.pq_pages.specs.Outcomes.{Outcome, fails, IsGiven, IsOfLevels}
 use Rattle.read_laws.specs.State.{Kept}
 use Rattle.read_walk.specs.Values.{Stored}
 use Rattle.pq_headline.specs.Columns.{ArrowColumn, is_dictionary, large_limit}
-use Rattle.pq_headline.specs.FieldReasons.{IsOfRows, IsUnserved, HasMisplaced, HasN4Page, HasN8, PassesOffsets, ReadsColumn, IsPieceOf}
+use Rattle.pq_headline.specs.FieldReasons.{IsOfRows, HasMisplaced, HasN4Page, HasN8, PassesOffsets, ReadsColumn, IsPieceOf}
 use Rattle.pq_headline.specs.Openings.{leaf_levels, piece_size, HoldsColumn}
 use Rattle.read_pieces.specs.Leaves.{ReadsLeaf}
 use Rattle.read_pieces.specs.Pieces.{IsPiece}
@@ -95,7 +95,7 @@ RefusesPiece o e =
     (e ≡ Memory)
     ⊎ (((e ≡ OutOfSpec S3) ⊎ (e ≡ NotYetImplemented N4)) × AnyOf (λ x. x ≡ fails e) o.outcomes)
     ⊎ ((e ≡ OutOfSpec S3) × HasMisplaced o.outcomes)
-    ⊎ ((e ≡ NotYetImplemented N4) × (AnyOf (HasN4Page o.column o.leaf) o.outcomes ⊎ AnyOf IsUnserved o.outcomes))
+    ⊎ ((e ≡ NotYetImplemented N4) × AnyOf (HasN4Page o.column o.leaf) o.outcomes)
     ⊎ ((e ≡ NotYetImplemented N8) × HasN8 o.leaf o.outcomes)
     ⊎ ((e ≡ Overflow V1) × PassesOffsets o.chunk_size o.column o.leaf o.outcomes)
     ⊎ (IsOfRows e × ((rows : List Slot) → AreColumnRows o rows → ⊥))

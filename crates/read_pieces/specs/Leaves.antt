@@ -23,11 +23,12 @@ pub record ReadsPlain (t : LeafType) (p : Physical) (stored : List ℕ → List 
   pub spelled : (text : List ℕ) (n : ℕ) → n ≤ length (stored text) → (ss : List Value) × Begins (IsPlain p) text ss × AllZip (IsLoaded t p) (take n (stored text)) ss
   pub read : (text : List ℕ) (ss : List Value) → Begins (IsPlain p) text ss → (length ss ≤ length (stored text)) × AllZip (IsLoaded t p) (take (length ss) (stored text)) ss
 
--- Values of a column are read so: and where as many bytes of them as the limit says are too many, they pass the offsets of the column's type.
+-- Values of a column are read so: and where as many bytes of them as the limit says are too many, they pass the offsets of the column's type. A
+-- limit of 0 is none.
 pub record ReadsLeaf (c : ArrowColumn) (p : Physical) (stored : List ℕ → List Stored) (limit : ℕ) : Type 0 where
   pub plain : ReadsPlain (leaf_type c.data_type) p stored
   pub unique : (v w s : Value) → IsStored (leaf_type c.data_type) p v s → IsStored (leaf_type c.data_type) p w s → v ≡ w
-  pub limited : (vs : List Value) → All (λ v. (s : Value) × IsStored (leaf_type c.data_type) p v s) vs → limit ≤ sum_by text_size vs → PassesTexts c.data_type vs
+  pub limited : (vs : List Value) → All (λ v. (s : Value) × IsStored (leaf_type c.data_type) p v s) vs → 0 < limit → limit ≤ sum_by text_size vs → PassesTexts c.data_type vs
 
 -- ---- values one by one
 

@@ -21,18 +21,19 @@ pub struct PlainBytes<'a> {
     pub bit: usize,
 }
 
-/// Reads the plain values of a leaf, for pages of any life.
+/// Reads the plain values of a leaf, for pages of any life. The reader itself keeps what the type of the leaf does not say: a length of fixed bytes.
 pub trait LeafReader {
     /// What was decoded.
     type Values: Drop;
 
-    // the stored values of plain bytes from a bit of the first byte on, as values of the leaf
-    ghost stored: { List ℕ → ℕ → List Stored };
+    // the stored values of plain bytes from a bit of the first byte on, as values of the leaf that the reader reads
+    ghost stored: { Self → List ℕ → ℕ → List Stored };
 
     // the slots that were decoded
     ghost slots: { Self.Values → List Slot };
 
-    // one above the greatest number of bytes that the offsets of texts and byte strings count; 1 for a leaf without bytes
+    // one above the greatest number of bytes that the offsets of texts and byte strings count; 0 where no offsets count bytes, and 1 for a leaf
+    // without bytes
     ghost byte_limit: { ℕ };
 
     /// No value.
@@ -45,18 +46,18 @@ pub trait LeafReader {
         ensures err { IfErr result (λ e. e ≡ Memory) };
 
     /// Whether each value stands in bytes of its own. Truth values do not: a byte holds eight of them.
-    fn stands_in_bytes() -> bool
-        ensures value { result ≡ in_bytes (λ text. stored text 0) }
-        ensures bits { result ≡ false → (text : List ℕ) → AreEights (λ text. stored text 0) text };
+    fn stands_in_bytes(&self) -> bool
+        ensures value { result ≡ in_bytes (λ text. stored self.now text 0) }
+        ensures bits { result ≡ false → (text : List ℕ) → AreEights (λ text. stored self.now text 0) text };
 
     /// How many bytes the first value has. Where values do not stand in bytes of their own, nothing is said of the number.
     ///
     /// # Errors
     ///
     /// S6 where the bytes are cut, S7 where no value of the leaf's type is stored so (Parquet format, Encodings, "Plain").
-    fn value_size(bytes: &[u8]) -> Result<usize>
-        ensures ok { in_bytes (λ text. stored text 0) ≡ true → IfOk result (λ n. BeginsWithValue (λ text. stored text 0) n bytes.now) }
-        ensures err { IfErr result (λ e. ((e ≡ OutOfSpec S6) × (stored bytes.now 0 ≡ [])) ⊎ ((e ≡ OutOfSpec S7) × BeginsOutside (λ text. stored text 0) bytes.now)) };
+    fn value_size(&self, bytes: &[u8]) -> Result<usize>
+        ensures ok { in_bytes (λ text. stored self.now text 0) ≡ true → IfOk result (λ n. BeginsWithValue (λ text. stored self.now text 0) n bytes.now) }
+        ensures err { IfErr result (λ e. ((e ≡ OutOfSpec S6) × (stored self.now bytes.now 0 ≡ [])) ⊎ ((e ≡ OutOfSpec S7) × BeginsOutside (λ text. stored self.now text 0) bytes.now)) };
 
     /// Takes pairs of the page, and the values that they call for, until `additional` rows are whole or the page ends.
     ///
@@ -64,6 +65,7 @@ pub trait LeafReader {
     ///
     /// Those of `extend_levels` of `read_walk`. Nothing is said of what was handed in then.
     fn extend<'a, 'b>(
+        &self,
         page: &mut NestedPage<'a>,
         bytes: &mut PlainBytes<'b>,
         nested: &mut NestedState,
@@ -72,6 +74,6 @@ pub trait LeafReader {
     ) -> Result<()>
         requires fits { StateFits nested.old }
         requires decoded { length (slots values.old) ≡ leaf_count nested.old }
-        ensures ok { OnOk result (Extends additional page.old page.new (stored bytes.old.values.now bytes.old.bit) (stored bytes.new.values.now bytes.new.bit) nested.old nested.new (slots values.old) (slots values.new)) }
-        ensures err { IfErr result (Refuses byte_limit additional page.old (stored bytes.old.values.now bytes.old.bit) nested.old (slots values.old)) };
+        ensures ok { OnOk result (Extends additional page.old page.new (stored self.now bytes.old.values.now bytes.old.bit) (stored self.now bytes.new.values.now bytes.new.bit) nested.old nested.new (slots values.old) (slots values.new)) }
+        ensures err { IfErr result (Refuses byte_limit additional page.old (stored self.now bytes.old.values.now bytes.old.bit) nested.old (slots values.old)) };
 }

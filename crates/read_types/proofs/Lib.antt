@@ -5,3 +5,6 @@ pub mod KindsRead
 pub mod TruthsRead
 pub mod Sizes
 pub mod TruthBytes
+pub mod NullsRead
+pub mod FixedSizes
+pub mod FixedRead

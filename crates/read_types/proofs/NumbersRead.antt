@@ -139,7 +139,7 @@ reads-numbers : (c : ArrowColumn) (p : Physical) (stored : List ℕ → List Sto
 reads-numbers c p stored numbered plain = record {
   plain = plain;
   unique = are_unique.shared (leaf_type c.data_type) p;
-  limited = (λ vs range long. absurd (omega (arith, none-in (leaf_type c.data_type) p vs numbered range, long)));
+  limited = (λ vs range some long. absurd (omega (arith, none-in (leaf_type c.data_type) p vs numbered range, long)));
 }
 
 -- ---- of 32 and of 64 bits

@@ -13,6 +13,7 @@ use Rattle.columns_slots.proofs.Strings.{pieces_len}
 use Rattle.columns_slots.specs.Bytes.{pieces, pieces_values}
 use Rattle.columns_slots.specs.Slots.{slots, slot_at, AreUpTo, IsPlaces}
 use Rattle.pq_files.specs.Statistics.{has_order}
+use Rattle.read_leaf.specs.Fixed.{value_slots as fixed_slots}
 use Rattle.read_leaf.specs.Numbers.{number_slots}
 use Rattle.read_leaf.specs.Strings.{string_slots, AreAllowed}
 use Rattle.read_leaf.specs.Truths.{truth_slots}
@@ -55,6 +56,22 @@ pub number-array : {X : Type 0} (t : TypeTree) (worth : X → Value) (num : X �
 number-array t worth num valued numbers xs bits bs n b e = rw (n, b) record {
   typed = refl;
   same = masked-slots t (map worth xs) bs (length-map xs worth ∙ e) ∙ of-numbers worth num valued xs bs;
+  entries = refl;
+}
+
+-- ---- values of one size
+
+of-values : {X : Type 0} (worth held : X → Value) → ((x : X) → worth x ≡ held x) → (xs : List X) (bs : List Bool) → value_slots (map worth xs) bs ≡ fixed_slots (map held xs) bs
+unfolding value_slots
+of-values worth held valued [] bs = refl
+of-values worth held valued (x ∷ xs) [] = refl
+of-values worth held valued (x ∷ xs) (true ∷ bs) = rw (valued x, of-values worth held valued xs bs) refl
+of-values worth held valued (x ∷ xs) (false ∷ bs) = rw (of-values worth held valued xs bs) refl
+
+pub fixed-array : {X : Type 0} (t : TypeTree) (worth held : X → Value) → ((x : X) → worth x ≡ held x) → (numbers xs : List X) (bits bs : List Bool) → numbers ≡ xs → bits ≡ bs → length xs ≡ length bs → IsLeafArray t (fixed_slots (map held xs) bs) (masked_leaf t (map worth numbers) bits)
+fixed-array t worth held valued numbers xs bits bs n b e = rw (n, b) record {
+  typed = refl;
+  same = masked-slots t (map worth xs) bs (length-map xs worth ∙ e) ∙ of-values worth held valued xs bs;
   entries = refl;
 }
 

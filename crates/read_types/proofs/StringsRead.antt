@@ -72,7 +72,7 @@ reads-leaf : (c : ArrowColumn) (allows : List ℕ → Bool) (limit : ℕ) → Lo
 reads-leaf c allows limit stores passes = record {
   plain = reads-plain (leaf_type c.data_type) allows stores;
   unique = are_unique.shared (leaf_type c.data_type) byte_array;
-  limited = (λ vs range long. passes vs long);
+  limited = (λ vs range some long. passes vs long);
 }
 
 -- ---- each type

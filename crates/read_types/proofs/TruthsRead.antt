@@ -95,7 +95,7 @@ reads-leaf : (c : ArrowColumn) → leaf_type c.data_type ≡ truth_leaf → Read
 reads-leaf c e = record {
   plain = rw e reads-plain;
   unique = are_unique.shared (leaf_type c.data_type) boolean;
-  limited = (λ vs range long. absurd (omega (arith, long, no-bytes vs (rw e at range))));
+  limited = (λ vs range some long. absurd (omega (arith, long, no-bytes vs (rw e at range))));
 }
 
 truth-type : (t : TypeTree) → is_boolean t ≡ true → leaf_type t ≡ truth_leaf

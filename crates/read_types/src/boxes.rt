@@ -1,7 +1,7 @@
 //! Arrays of one kind of numbers as arrays of any.
 ghost use Rattle.std.specs.Prelude.{◌≡◌, Some, true, length, map, IfOk, IfErr};
 ghost use Rattle.columns_base.specs.declared.error.Error.TheVariants.{Memory};
-ghost use Rattle.columns_core.specs.Natives.{stores_i8, stores_i16, stores_i32, stores_i64, stores_u8, stores_u16, stores_u32, stores_u64, value_i8, value_i16, value_i32, value_i64, value_u8, value_u16, value_u32, value_u64};
+ghost use Rattle.columns_core.specs.Natives.{stores_i8, stores_i16, stores_i32, stores_i64, stores_i128, stores_days, stores_u8, stores_u16, stores_u32, stores_u64, value_i8, value_i16, value_i32, value_i64, value_i128, value_days, value_u8, value_u16, value_u32, value_u64};
 ghost use Rattle.columns_core.specs.Shapes.{base};
 ghost use Rattle.columns_core.specs.View.{type_view};
 ghost use Rattle.columns_array.specs.Boxed.{boxed};
@@ -9,7 +9,7 @@ ghost use Rattle.read_types.specs.Arrays.{masked_leaf};
 
 use columns_array::ArrayBox;
 use columns_base::{Error, Result};
-use columns_core::{Bitmap, DataType, NativeType};
+use columns_core::{Bitmap, DataType, DaysMs, NativeType};
 use columns_leaf::PrimitiveArray;
 use std::alloc::Global;
 
@@ -126,6 +126,25 @@ impl NumberBox for i64 {
     }
 }
 
+impl NumberBox for i128 {
+    fn array(
+        alloc: Global,
+        data_type: DataType,
+        numbers: Vec<i128>,
+        validity: Bitmap,
+    ) -> Result<ArrayBox>
+        requires mask { length validity ≡ length numbers.items }
+        requires typed { stores_i128 (base (type_view data_type)) ≡ true }
+        ensures ok { IfOk result (λ a. boxed a ≡ masked_leaf (type_view data_type) (map (value_i128 (base (type_view data_type))) numbers.items) validity) }
+        ensures err { IfErr result (λ e. e ≡ Memory) }
+    {
+        match primitive_array(alloc, data_type, numbers, validity) {
+            Ok(array) => Ok(ArrayBox::Int128(array)),
+            Err(error) => Err(error),
+        }
+    }
+}
+
 impl NumberBox for u8 {
     fn array(
         alloc: Global,
@@ -197,6 +216,25 @@ impl NumberBox for u64 {
     {
         match primitive_array(alloc, data_type, numbers, validity) {
             Ok(array) => Ok(ArrayBox::UInt64(array)),
+            Err(error) => Err(error),
+        }
+    }
+}
+
+impl NumberBox for DaysMs {
+    fn array(
+        alloc: Global,
+        data_type: DataType,
+        numbers: Vec<DaysMs>,
+        validity: Bitmap,
+    ) -> Result<ArrayBox>
+        requires mask { length validity ≡ length numbers.items }
+        requires typed { stores_days (base (type_view data_type)) ≡ true }
+        ensures ok { IfOk result (λ a. boxed a ≡ masked_leaf (type_view data_type) (map (value_days (base (type_view data_type))) numbers.items) validity) }
+        ensures err { IfErr result (λ e. e ≡ Memory) }
+    {
+        match primitive_array(alloc, data_type, numbers, validity) {
+            Ok(array) => Ok(ArrayBox::DaysMs(array)),
             Err(error) => Err(error),
         }
     }

@@ -1,19 +1,24 @@
 //! The readers of leaves, by their types, and the arrays that are made of what they decode (Parquet format, "Types" and LogicalTypes; Arrow
-//! columnar format, "Physical Memory Layout"): truth values, whole numbers, dates and times over INT32 and INT64, and texts and byte strings.
+//! columnar format, "Physical Memory Layout"): truth values, nulls alone, whole numbers, dates, times and decimals over INT32 and INT64, texts and byte strings,
+//! intervals over twelve bytes, and decimals over one to sixteen.
 #![tactic(auto)]
 
 mod array;
 mod boxes;
+mod fixed;
 mod kind;
 mod laws;
+mod nulls;
 mod numbers;
 mod strings;
 mod truths;
 
 pub use array::LeafArray;
 pub use boxes::NumberBox;
+pub use fixed::Fixed;
 pub use kind::LeafKind;
 pub use laws::leaves_are_read;
+pub use nulls::Nulls;
 pub use numbers::Numbers;
 pub use strings::Strings;
 pub use truths::Truths;

@@ -30,6 +30,15 @@ pub struct Numbers<T, P> {
     stored: PhantomData<P>,
 }
 
+impl<T, P> Numbers<T, P> {
+    pub fn new() -> Self {
+        Numbers {
+            number: PhantomData,
+            stored: PhantomData,
+        }
+    }
+}
+
 // The number of `T` at the front of the bytes, if it is one.
 fn first_of<T: FromStored<P>, P: StoredNumber>(bytes: &[u8]) -> Option<T>
     requires { P.byte_count ≤ length bytes.now }
@@ -66,7 +75,7 @@ impl<T: FromStored<P>, P: StoredNumber> LeafReader for Numbers<T, P> {
 
     type Values = NumberValues<T>;
 
-    ghost stored = { λ text bit. stored_numbers T.loaded P.spelled P.byte_count text };
+    ghost stored = { λ r text bit. stored_numbers T.loaded P.spelled P.byte_count text };
 
     ghost slots = { λ d. number_slots (map T.loaded_number d.0) d.1 };
 
@@ -79,14 +88,14 @@ impl<T: FromStored<P>, P: StoredNumber> LeafReader for Numbers<T, P> {
         Ok(NumberValues::new(alloc))
     }
 
-    fn stands_in_bytes() -> bool
+    fn stands_in_bytes(&self) -> bool
         ensures value { result ≡ in_bytes (λ text. stored_numbers T.loaded P.spelled P.byte_count text) }
         ensures bits { result ≡ false → (text : List ℕ) → AreEights (λ text. stored_numbers T.loaded P.spelled P.byte_count text) text }
     {
         has_own_bytes::<T, P>()
     }
 
-    fn value_size(bytes: &[u8]) -> Result<usize>
+    fn value_size(&self, bytes: &[u8]) -> Result<usize>
         ensures ok { in_bytes (λ text. stored_numbers T.loaded P.spelled P.byte_count text) ≡ true → IfOk result (λ n. BeginsWithValue (λ text. stored_numbers T.loaded P.spelled P.byte_count text) n bytes.now) }
         ensures err { IfErr result (λ e. ((e ≡ OutOfSpec S6) × (stored_numbers T.loaded P.spelled P.byte_count bytes.now ≡ [])) ⊎ ((e ≡ OutOfSpec S7) × BeginsOutside (λ text. stored_numbers T.loaded P.spelled P.byte_count text) bytes.now)) }
     {
@@ -94,6 +103,7 @@ impl<T: FromStored<P>, P: StoredNumber> LeafReader for Numbers<T, P> {
     }
 
     fn extend<'a, 'b>(
+        &self,
         page: &mut NestedPage<'a>,
         bytes: &mut PlainBytes<'b>,
         nested: &mut NestedState,

@@ -36,6 +36,15 @@ pub struct Strings<O, K> {
     kind: PhantomData<K>,
 }
 
+impl<O, K> Strings<O, K> {
+    pub fn new() -> Self {
+        Strings {
+            offset: PhantomData,
+            kind: PhantomData,
+        }
+    }
+}
+
 // The number in the first four bytes; none where they are cut.
 fn first_length(bytes: &[u8]) -> Option<usize>
     ensures { MatchOption result (length bytes.now < 4) (λ n. (4 ≤ length bytes.now) × (n ≡ number_of (take 4 bytes.now))) }
@@ -85,7 +94,7 @@ impl<O: Offset, K: StringKind> LeafReader for Strings<O, K> {
 
     type Values = StringValues<O, K>;
 
-    ghost stored = { λ text bit. stored_strings K.allows text };
+    ghost stored = { λ r text bit. stored_strings K.allows text };
 
     ghost slots = { λ d. string_slots d.0 d.1 };
 
@@ -98,14 +107,14 @@ impl<O: Offset, K: StringKind> LeafReader for Strings<O, K> {
         StringValues::new(alloc)
     }
 
-    fn stands_in_bytes() -> bool
+    fn stands_in_bytes(&self) -> bool
         ensures value { result ≡ in_bytes (λ text. stored_strings K.allows text) }
         ensures bits { result ≡ false → (text : List ℕ) → AreEights (λ text. stored_strings K.allows text) text }
     {
         has_own_bytes::<K>()
     }
 
-    fn value_size(bytes: &[u8]) -> Result<usize>
+    fn value_size(&self, bytes: &[u8]) -> Result<usize>
         ensures ok { in_bytes (λ text. stored_strings K.allows text) ≡ true → IfOk result (λ n. BeginsWithValue (λ text. stored_strings K.allows text) n bytes.now) }
         ensures err { IfErr result (λ e. ((e ≡ OutOfSpec S6) × (stored_strings K.allows bytes.now ≡ [])) ⊎ ((e ≡ OutOfSpec S7) × BeginsOutside (λ text. stored_strings K.allows text) bytes.now)) }
     {
@@ -113,6 +122,7 @@ impl<O: Offset, K: StringKind> LeafReader for Strings<O, K> {
     }
 
     fn extend<'a, 'b>(
+        &self,
         page: &mut NestedPage<'a>,
         bytes: &mut PlainBytes<'b>,
         nested: &mut NestedState,

@@ -51,7 +51,7 @@ impl LeafReader for Truths {
 
     type Values = TruthValues;
 
-    ghost stored = { stored_truths };
+    ghost stored = { λ r text bit. stored_truths text bit };
 
     ghost slots = { λ d. truth_slots d.0 d.1 };
 
@@ -64,7 +64,7 @@ impl LeafReader for Truths {
         Ok(TruthValues::new(alloc))
     }
 
-    fn stands_in_bytes() -> bool
+    fn stands_in_bytes(&self) -> bool
         ensures value { result ≡ in_bytes (λ text. stored_truths text 0) }
         ensures bits { result ≡ false → (text : List ℕ) → AreEights (λ text. stored_truths text 0) text }
     {
@@ -72,7 +72,7 @@ impl LeafReader for Truths {
     }
 
     // A byte has eight values.
-    fn value_size(bytes: &[u8]) -> Result<usize>
+    fn value_size(&self, bytes: &[u8]) -> Result<usize>
         ensures ok { in_bytes (λ text. stored_truths text 0) ≡ true → IfOk result (λ n. BeginsWithValue (λ text. stored_truths text 0) n bytes.now) }
         ensures err { IfErr result (λ e. ((e ≡ OutOfSpec S6) × (stored_truths bytes.now 0 ≡ [])) ⊎ ((e ≡ OutOfSpec S7) × BeginsOutside (λ text. stored_truths text 0) bytes.now)) }
     {
@@ -80,6 +80,7 @@ impl LeafReader for Truths {
     }
 
     fn extend<'a, 'b>(
+        &self,
         page: &mut NestedPage<'a>,
         bytes: &mut PlainBytes<'b>,
         nested: &mut NestedState,

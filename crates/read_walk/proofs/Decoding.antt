@@ -132,7 +132,7 @@ cannot-more most n m left slots e h c = elim c [
   | inl memory ↦ inl memory
   | inr (inl few) ↦ inr (inl (few.0, omega (arith, few.1, h)))
   | inr (inr (inl out)) ↦ inr (inr (inl (out.0, record { values = out.1.values; rest = out.1.rest; next = out.1.next; within = omega (arith, out.1.within, h) })))
-  | inr (inr (inr long)) ↦ inr (inr (inr (long.0, record { values = long.1.values; rest = long.1.rest; next = long.1.next; within = omega (arith, long.1.within, h); long = long.1.long })))
+  | inr (inr (inr long)) ↦ inr (inr (inr (long.0, record { values = long.1.values; rest = long.1.rest; next = long.1.next; within = omega (arith, long.1.within, h); some = long.1.some; long = long.1.long })))
 ]
 
 -- after values that were decoded, and slots behind those before
@@ -158,6 +158,7 @@ cannot-behind most n vs left left1 slots slots1 e l s c = elim c [
       rest = long.1.rest;
       next = l ∙ (ap (λ (t : List Stored). map Some vs ++ t) long.1.next ∙ (sym (append_assoc (map Some vs) (map Some long.1.values) long.1.rest) ∙ ap (λ (t : List Stored). t ++ long.1.rest) (sym (map-append Some vs long.1.values))));
       within = omega (arith, length-append vs long.1.values, long.1.within);
+      some = long.1.some;
       long = omega (arith, long.1.long, s, bytes-append vs long.1.values);
     },
   )))

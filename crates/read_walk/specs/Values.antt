@@ -80,12 +80,13 @@ abbrev pub bytes_in : List Slot → ℕ
 bytes_in [] = 0
 bytes_in (s ∷ ss) = slot_size s + bytes_in ss
 
--- behind what is decoded, the next values or the first of them have more bytes than offsets count
+-- Behind what is decoded, the next values or the first of them have more bytes than offsets count. With a limit of 0 no offsets count them.
 pub record AreTooLong (limit n : ℕ) (left : List Stored) (slots : List Slot) : Type 0 where
   pub values : List Value
   pub rest : List Stored
   pub next : left ≡ map Some values ++ rest
   pub within : length values ≤ n
+  pub some : 0 < limit
   pub long : limit ≤ bytes_in slots + bytes_of values
 
 -- an error for which the next n values cannot be decoded, with its cause

@@ -72,8 +72,8 @@ pub fn decode_copies<'a, D: NestedDecoder<'a>>(
     top: usize,
 ) -> Result<()>
     requires ordered { floor ≤ top }
-    ensures ok { OnOk result (Decoded floor top (replicate count level) (D.left values.old) (D.left values.new) (D.slots decoded.old) (D.slots decoded.new)) }
-    ensures err { IfErr result (CannotDecode D.byte_limit (called top (replicate count level)) (D.left values.old) (D.slots decoded.old)) }
+    ensures ok { OnOk result (Decoded floor top (replicate count level) (D.left decoder.now values.old) (D.left decoder.now values.new) (D.slots decoded.old) (D.slots decoded.new)) }
+    ensures err { IfErr result (CannotDecode D.byte_limit (called top (replicate count level)) (D.left decoder.now values.old) (D.slots decoded.old)) }
 {
     if level == top {
         return decoder.push_valid(values, decoded, count);
@@ -98,8 +98,8 @@ pub fn decode_levels<'a, D: NestedDecoder<'a>>(
     top: usize,
 ) -> Result<()>
     requires ordered { floor ≤ top }
-    ensures ok { OnOk result (Decoded floor top defs.now (D.left values.old) (D.left values.new) (D.slots decoded.old) (D.slots decoded.new)) }
-    ensures err { IfErr result (CannotDecode D.byte_limit (called top defs.now) (D.left values.old) (D.slots decoded.old)) }
+    ensures ok { OnOk result (Decoded floor top defs.now (D.left decoder.now values.old) (D.left decoder.now values.new) (D.slots decoded.old) (D.slots decoded.new)) }
+    ensures err { IfErr result (CannotDecode D.byte_limit (called top defs.now) (D.left decoder.now values.old) (D.slots decoded.old)) }
 {
     let mut at = 0;
     while at < defs.len() {

@@ -30,8 +30,8 @@ fn walk_block<'a, D: NestedDecoder<'a>>(
     requires fits { StateFits nested.old }
     requires ended { EndedAt before nested.old }
     requires decoded { length (D.slots decoded.old) ≡ leaf_count nested.old }
-    ensures ok { OnOk result (Follows (kept_way nested.old) before (zipped reps.now defs.now) × TookBlock before reps.now defs.now nested.old nested.new (D.slots decoded.old) (D.slots decoded.new) (D.left values.old) (D.left values.new)) }
-    ensures err { IfErr result (λ e. OneMayNot (kept_way nested.old) before (zipped reps.now defs.now) e ⊎ CannotTake D.byte_limit reps.now defs.now nested.old (D.left values.old) (D.slots decoded.old) e) }
+    ensures ok { OnOk result (Follows (kept_way nested.old) before (zipped reps.now defs.now) × TookBlock before reps.now defs.now nested.old nested.new (D.slots decoded.old) (D.slots decoded.new) (D.left decoder.now values.old) (D.left decoder.now values.new)) }
+    ensures err { IfErr result (λ e. OneMayNot (kept_way nested.old) before (zipped reps.now defs.now) e ⊎ CannotTake D.byte_limit reps.now defs.now nested.old (D.left decoder.now values.old) (D.slots decoded.old) e) }
 {
     match check_order(nested, before, reps, defs) {
         Ok(()) => take_block(values, nested, decoded, decoder, before, reps, defs),
@@ -66,8 +66,8 @@ fn walk_copies<'a, D: NestedDecoder<'a>>(
     requires fits { StateFits nested.old }
     requires ended { EndedAt before nested.old }
     requires decoded { length (D.slots decoded.old) ≡ leaf_count nested.old }
-    ensures ok { OnOk result (Follows (kept_way nested.old) before (zipped (replicate count rep) (replicate count level)) × TookBlock before (replicate count rep) (replicate count level) nested.old nested.new (D.slots decoded.old) (D.slots decoded.new) (D.left values.old) (D.left values.new)) }
-    ensures err { IfErr result (λ e. OneMayNot (kept_way nested.old) before (zipped (replicate count rep) (replicate count level)) e ⊎ CannotTake D.byte_limit (replicate count rep) (replicate count level) nested.old (D.left values.old) (D.slots decoded.old) e) }
+    ensures ok { OnOk result (Follows (kept_way nested.old) before (zipped (replicate count rep) (replicate count level)) × TookBlock before (replicate count rep) (replicate count level) nested.old nested.new (D.slots decoded.old) (D.slots decoded.new) (D.left decoder.now values.old) (D.left decoder.now values.new)) }
+    ensures err { IfErr result (λ e. OneMayNot (kept_way nested.old) before (zipped (replicate count rep) (replicate count level)) e ⊎ CannotTake D.byte_limit (replicate count rep) (replicate count level) nested.old (D.left decoder.now values.old) (D.slots decoded.old) e) }
 {
     match check_copies(nested, before, rep, level, count) {
         Ok(()) => take_copies(values, nested, decoded, decoder, before, rep, level, count),
@@ -96,8 +96,8 @@ fn step_block<'a, 'b, D: NestedDecoder<'b>>(
     requires fits { StateFits nested.old }
     requires ended { EndedAt before.old nested.old }
     requires decoded { length (D.slots decoded.old) ≡ leaf_count nested.old }
-    ensures ok { IfOk result (λ more. Steps more rows.old rows.new before.old before.new page.old page.new (D.left values.old) (D.left values.new) nested.old nested.new (D.slots decoded.old) (D.slots decoded.new)) }
-    ensures err { IfErr result (CannotStep D.byte_limit rows.old before.old page.old (D.left values.old) nested.old (D.slots decoded.old)) }
+    ensures ok { IfOk result (λ more. Steps more rows.old rows.new before.old before.new page.old page.new (D.left decoder.now values.old) (D.left decoder.now values.new) nested.old nested.new (D.slots decoded.old) (D.slots decoded.new)) }
+    ensures err { IfErr result (CannotStep D.byte_limit rows.old before.old page.old (D.left decoder.now values.old) nested.old (D.slots decoded.old)) }
 {
     let begun = match page.next_block(*rows, block) {
         None => return Ok(false),
@@ -135,8 +135,8 @@ fn step_pairs<'a, 'b, D: NestedDecoder<'b>>(
     requires fits { StateFits nested.old }
     requires ended { EndedAt before.old nested.old }
     requires decoded { length (D.slots decoded.old) ≡ leaf_count nested.old }
-    ensures ok { IfOk result (λ more. Steps more rows.old rows.new before.old before.new page.old page.new (D.left values.old) (D.left values.new) nested.old nested.new (D.slots decoded.old) (D.slots decoded.new)) }
-    ensures err { IfErr result (CannotStep D.byte_limit rows.old before.old page.old (D.left values.old) nested.old (D.slots decoded.old)) }
+    ensures ok { IfOk result (λ more. Steps more rows.old rows.new before.old before.new page.old page.new (D.left decoder.now values.old) (D.left decoder.now values.new) nested.old nested.new (D.slots decoded.old) (D.slots decoded.new)) }
+    ensures err { IfErr result (CannotStep D.byte_limit rows.old before.old page.old (D.left decoder.now values.old) nested.old (D.slots decoded.old)) }
 {
     let Some((rep, level, count)) = page.next_copies(*rows) else {
         return step_block(page, values, nested, decoded, decoder, block, before, rows);
@@ -168,8 +168,8 @@ pub fn extend_levels<'a, 'b, D: NestedDecoder<'b>>(
 ) -> Result<()>
     requires fits { StateFits nested.old }
     requires decoded { length (D.slots decoded.old) ≡ leaf_count nested.old }
-    ensures ok { OnOk result (Extends additional page.old page.new (D.left values.old) (D.left values.new) nested.old nested.new (D.slots decoded.old) (D.slots decoded.new)) }
-    ensures err { IfErr result (Refuses D.byte_limit additional page.old (D.left values.old) nested.old (D.slots decoded.old)) }
+    ensures ok { OnOk result (Extends additional page.old page.new (D.left decoder.now values.old) (D.left decoder.now values.new) nested.old nested.new (D.slots decoded.old) (D.slots decoded.new)) }
+    ensures err { IfErr result (Refuses D.byte_limit additional page.old (D.left decoder.now values.old) nested.old (D.slots decoded.old)) }
 {
     let mut block = PairBlock::new();
     let mut rows = additional;

@@ -43,8 +43,8 @@ pub fn take_block<'a, D: NestedDecoder<'a>>(
     requires follow { Follows (kept_way nested.old) before (zipped reps.now defs.now) }
     requires ended { EndedAt before nested.old }
     requires decoded { length (D.slots decoded.old) ≡ leaf_count nested.old }
-    ensures ok { OnOk result (TookBlock before reps.now defs.now nested.old nested.new (D.slots decoded.old) (D.slots decoded.new) (D.left values.old) (D.left values.new)) }
-    ensures err { IfErr result (CannotTake D.byte_limit reps.now defs.now nested.old (D.left values.old) (D.slots decoded.old)) }
+    ensures ok { OnOk result (TookBlock before reps.now defs.now nested.old nested.new (D.slots decoded.old) (D.slots decoded.new) (D.left decoder.now values.old) (D.left decoder.now values.new)) }
+    ensures err { IfErr result (CannotTake D.byte_limit reps.now defs.now nested.old (D.left decoder.now values.old) (D.slots decoded.old)) }
 {
     let (floor, top) = leaf_levels(nested);
     match decode_levels(values, decoded, decoder, defs, floor, top) {
@@ -73,8 +73,8 @@ pub fn take_copies<'a, D: NestedDecoder<'a>>(
     requires follow { Follows (kept_way nested.old) before (zipped (replicate count rep) (replicate count level)) }
     requires ended { EndedAt before nested.old }
     requires decoded { length (D.slots decoded.old) ≡ leaf_count nested.old }
-    ensures ok { OnOk result (TookBlock before (replicate count rep) (replicate count level) nested.old nested.new (D.slots decoded.old) (D.slots decoded.new) (D.left values.old) (D.left values.new)) }
-    ensures err { IfErr result (CannotTake D.byte_limit (replicate count rep) (replicate count level) nested.old (D.left values.old) (D.slots decoded.old)) }
+    ensures ok { OnOk result (TookBlock before (replicate count rep) (replicate count level) nested.old nested.new (D.slots decoded.old) (D.slots decoded.new) (D.left decoder.now values.old) (D.left decoder.now values.new)) }
+    ensures err { IfErr result (CannotTake D.byte_limit (replicate count rep) (replicate count level) nested.old (D.left decoder.now values.old) (D.slots decoded.old)) }
 {
     let (floor, top) = leaf_levels(nested);
     match decode_copies(values, decoded, decoder, level, count, floor, top) {

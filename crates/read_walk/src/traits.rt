@@ -15,13 +15,14 @@ pub trait NestedDecoder<'a> {
     /// What was decoded: slots of the leaf.
     type DecodedState;
 
-    // the stored values that are left, as values of the leaf
-    ghost left: { Self.State → List Stored };
+    // the stored values that are left, as values of the leaf that the decoder reads
+    ghost left: { Self → Self.State → List Stored };
 
     // the slots that were decoded
     ghost slots: { Self.DecodedState → List Slot };
 
-    // one above the greatest number of bytes that the offsets of texts and byte strings count; 1 for a leaf without bytes
+    // one above the greatest number of bytes that the offsets of texts and byte strings count; 0 where no offsets count bytes, and 1 for a leaf
+    // without bytes
     ghost byte_limit: { ℕ };
 
     /// The next `count` stored values, each as a slot.
@@ -36,8 +37,8 @@ pub trait NestedDecoder<'a> {
         decoded: &mut Self::DecodedState,
         count: usize,
     ) -> Result<()>
-        ensures ok { OnOk result (Decodes count (left state.old) (left state.new) (slots decoded.old) (slots decoded.new)) }
-        ensures err { IfErr result (CannotDecode byte_limit count (left state.old) (slots decoded.old)) };
+        ensures ok { OnOk result (Decodes count (left self.now state.old) (left self.now state.new) (slots decoded.old) (slots decoded.new)) }
+        ensures err { IfErr result (CannotDecode byte_limit count (left self.now state.old) (slots decoded.old)) };
 
     /// `count` null slots.
     ///
@@ -61,6 +62,6 @@ pub trait NestedDecoder<'a> {
         count: usize,
     ) -> Result<()>
         requires few { count ≤ 64 }
-        ensures ok { OnOk result (DecodesMixed (word_bits valid count) (left state.old) (left state.new) (slots decoded.old) (slots decoded.new)) }
-        ensures err { IfErr result (CannotDecode byte_limit (ones (word_bits valid count)) (left state.old) (slots decoded.old)) };
+        ensures ok { OnOk result (DecodesMixed (word_bits valid count) (left self.now state.old) (left self.now state.new) (slots decoded.old) (slots decoded.new)) }
+        ensures err { IfErr result (CannotDecode byte_limit (ones (word_bits valid count)) (left self.now state.old) (slots decoded.old)) };
 }

@@ -2,6 +2,8 @@
 #![tactic(auto)]
 
 #[cfg(test)]
+mod delta_tests;
+#[cfg(test)]
 mod ends;
 #[cfg(test)]
 mod file_tests;
@@ -9,6 +11,8 @@ mod file_tests;
 mod files;
 #[cfg(test)]
 mod large_tests;
+#[cfg(test)]
+mod pass_tests;
 #[cfg(test)]
 mod run_tests;
 #[cfg(test)]

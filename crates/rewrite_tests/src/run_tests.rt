@@ -81,7 +81,8 @@ const ASKED: &[(&[&str], u8, &[u8])] = &[
         b"groups 1, rows 4, pages 1\n",
     ),
     (&["--no-stats"], 0, b"groups 1, rows 4, pages 1\n"),
-    (&["--delta"], 7, b"NotYetImplemented N4\n"),
+    // what is in a list stays plain
+    (&["--delta"], 0, b"groups 1, rows 4, pages 1\n"),
     (&["--chunk=0", "--delta"], 8, b"InvalidArgumentError A1\n"),
     (&["--ignore-key"], 0, b"groups 1, rows 4, pages 1\n"),
     (&["--limit=144"], 5, b"InputLimit Bytes\n"),
@@ -137,6 +138,7 @@ fn words_keep_the_rows(rt: HostRuntime) -> Result<(), AllocError> {
         "--no-stats",
         "--ignore-key",
         "--chunk=4",
+        "--delta",
     ] {
         assert!(rt; keeps_rows(rt.alloc(), &[word])?);
     }

@@ -1,25 +1,22 @@
--- Arrays whose types are served have no dictionaries, and their groups are plain.
-use Rattle.std.proofs.Common.{◌≡◌, ℕ, suc, Bool, true, false, true≢false, Option, None, List, [], ◌∷◌, ◌++◌, length, map, refl, sym, ap, subst, ◌∙◌, arith}
+-- Arrays whose types are served have no dictionaries.
+use Rattle.std.proofs.Common.{◌≡◌, ℕ, suc, Bool, true, false, true≢false, Option, None, List, [], ◌∷◌, ◌++◌, map, refl, sym, ap, subst, ◌∙◌}
 use Rattle.std.proofs.lemmas.List.{map-append}
-use Rattle.shredding.specs.Slot.{Slots, Value}
+use Rattle.shredding.specs.Slot.{Value}
 use Rattle.columns_core.specs.Shapes.{base}
 use Rattle.columns_core.specs.Tree.{TypeTree, t_list, t_fixed_size_list, t_large_list, t_struct, t_map, t_extension, field, FieldTrees, no_fields, more_fields}
 use Rattle.columns_slots.specs.Slots.{IsSound, AreSound, AreTyped, type_of, first_len}
 use Rattle.columns_slots.specs.Tree.{ArrayTree, null_array, leaf_array, list_array, fixed_list_array, struct_array, dictionary_array, ArrayTrees, no_arrays, more_arrays}
 use Rattle.columns_slots.specs.Types.{is_leaf, part_types}
-use Rattle.pq_files.specs.Layout.{OutChunk}
-use Rattle.pq_files.specs.Page.{Encoding, plain}
 use Rattle.pq_headline.specs.Arrays.{rows_of, entries_in, all_entries}
 use Rattle.pq_headline.specs.Columns.{ArrowColumn, beneath_list, beneath_struct, type_columns, columns_from, schema_columns}
-use Rattle.pq_headline.specs.Laws.{ServedIsPlain}
-use Rattle.pq_headline.specs.Output.{AreLaid, IsLaidGroup, Style, all_chosen}
+use Rattle.pq_headline.specs.Output.{IsLaidGroup, all_chosen}
 use Rattle.pq_headline.specs.Served.{is_served_type, are_served_fields}
-use Rattle.pq_tree.specs.Tree.{Leaf, columns_of}
+use Rattle.pq_tree.specs.Tree.{Trees, columns_of}
 use Rattle.schema_to_tree.specs.Table.{schema_of}
 use Rattle.typed_groups.proofs.Leaves.{served_first, served_rest}
 use Rattle.typed_groups.proofs.Nodes.{list_is, struct_is, parts_served, null_unserved, fixed_unserved, keys_unserved}
-use Rattle.typed_groups.specs.Suiting.{AreAllSound, PlainGroupsAreWritten}
-use Rattle.write_groups.specs.Laid.{GroupsAreLaid, style_of}
+use Rattle.typed_groups.specs.Suiting.{AreAllSound, GroupsAreWritten}
+use Rattle.write_groups.specs.Laid.{AreChosen, GroupsAreLaid, style_of}
 
 -- the entries of a column's dictionary, if it has one
 abbrev Entries : Type 0
@@ -71,30 +68,13 @@ mutual
 pub entries_are_none : (cs : ArrayTrees) (fs : FieldTrees) → AreAllSound cs → AreTyped fs cs → are_served_fields fs ≡ true → all_entries cs ≡ map (λ c. None) (schema_columns fs)
 entries_are_none cs fs h typed s = none_of_all cs fs false 0 h typed s
 
--- ---- a group that is laid plain is laid as it is chosen
+-- ---- a group has the entries of its arrays, which are none
 
-laid_lengths : (s : Style) (rows : List Slots) (cs : List ArrowColumn) (ls : List Leaf) (es : List Encoding) (ds : List Entries) (outs : List OutChunk) → AreLaid s rows cs ls es ds outs → length cs ≡ length ls
-laid_lengths s rows [] [] es ds outs h = refl
-laid_lengths s rows (c ∷ cs) (l ∷ ls) (e ∷ es) (d ∷ ds) (out ∷ outs) h = ap suc (laid_lengths s rows cs ls es ds outs h.1)
-laid_lengths s rows [] (l ∷ ls) es ds outs h = absurd h
-laid_lengths s rows (c ∷ cs) [] es ds outs h = absurd h
-laid_lengths s rows (c ∷ cs) (l ∷ ls) [] ds outs h = absurd h
-laid_lengths s rows (c ∷ cs) (l ∷ ls) (e ∷ es) [] outs h = absurd h
-laid_lengths s rows (c ∷ cs) (l ∷ ls) (e ∷ es) (d ∷ ds) [] h = absurd h
-
-same_plain : (cs : List ArrowColumn) (ls : List Leaf) → length cs ≡ length ls → map (λ (c : ArrowColumn). plain) cs ≡ map (λ (l : Leaf). plain) ls
-same_plain [] [] e = refl
-same_plain (c ∷ cs) (l ∷ ls) e = ap (λ (es : List Encoding). plain ∷ es) (same_plain cs ls (omega (arith, e)))
-same_plain [] (l ∷ ls) e = absurd (omega (arith, e))
-same_plain (c ∷ cs) [] e = absurd (omega (arith, e))
-
-pub written : GroupsAreLaid → ServedIsPlain → PlainGroupsAreWritten
-written laid chosen fs g out h columns is =
-    let k = laid fs g out h.typed h.even h.rows_are h.trees_are columns is in
+pub written : GroupsAreLaid → GroupsAreWritten
+written laid wanted fs g out h columns is =
     let cs = schema_columns fs in
     let ls = columns_of (schema_of fs) in
-    let n : length cs ≡ length ls = laid_lengths (style_of g.options) (rows_of g.chunk) cs ls (map (λ c. plain) cs) (map (λ c. None) cs) out.chunks k.columns in
-    let es : map (λ (c : ArrowColumn). plain) cs ≡ all_chosen false cs ls = same_plain cs ls n ∙ sym (chosen fs h.held h.served) in
+    let asks = subst (λ (ts : Trees). AreChosen wanted fs ts (map (λ es. es.items) g.encodings.items)) h.trees_are h.encodings in
+    let k = laid wanted fs g out h.typed h.even h.rows_are h.trees_are h.served asks columns is in
     let ds : map (λ (c : ArrowColumn). None) cs ≡ all_entries g.chunk = sym (entries_are_none g.chunk fs h.sound h.typed h.served) in
-    subst (λ (xs : List Encoding). IsLaidGroup (style_of g.options) (rows_of g.chunk) cs ls xs (all_entries g.chunk) out) es
-    (subst (λ (xs : List Entries). IsLaidGroup (style_of g.options) (rows_of g.chunk) cs ls (map (λ c. plain) cs) xs out) ds k)
+    subst (λ (xs : List Entries). IsLaidGroup (style_of g.options) (rows_of g.chunk) cs ls (all_chosen wanted cs ls) xs out) ds k

@@ -164,7 +164,7 @@ even_len no_arrays h = tt
 even_len (more_arrays c cs) h = (refl, h)
 
 pub large : TypedColumnsAreOwn → TypedSlotsAreRead → LargePagesAreLarge
-large own read fs g error h columns r =
+large own read wanted fs g error h columns r =
     let rows = chunk_rows g.chunk in
     let n : first_len g.chunk ≡ length rows = sym (length_rows g.chunk) in
     with_entries

@@ -1,5 +1,6 @@
 mod Nodes
 mod Leaves
+mod Named
 mod Taken
 mod Entries
 mod LargeColumns

@@ -1,7 +1,7 @@
 -- The nodes that the types of arrays are written as, where all of a type is served.
 use Rattle.std.proofs.Common.{◌≡◌, ◌<◌, ℕ, Bool, true, false, true≢false, Option, None, Some, List, map, refl, sym, ap, ◌∙◌, arith}
 use Rattle.columns_core.specs.Shapes.{base}
-use Rattle.columns_core.specs.Tree.{TypeTree, t_null, t_list, t_fixed_size_list, t_large_list, t_struct, t_union, t_map, t_dictionary, t_extension, field, FieldTrees, t_time32, t_time64, t_timestamp, t_decimal}
+use Rattle.columns_core.specs.Tree.{TypeTree, t_null, t_list, t_fixed_size_list, t_large_list, t_struct, t_union, t_map, t_dictionary, t_extension, field, FieldTrees, t_time32, t_time64, t_timestamp, t_decimal, t_fixed_size_binary, t_interval}
 use Rattle.columns_core.specs.declared.types.TimeUnit.TheVariants.{Second, Millisecond, Microsecond, Nanosecond}
 use Rattle.columns_slots.specs.Slots.{AreTyped, count_arrays}
 use Rattle.columns_slots.specs.Tree.{ArrayTrees, no_arrays, more_arrays}
@@ -52,6 +52,8 @@ stored_served (t_timestamp Millisecond z) w = refl
 stored_served (t_timestamp Microsecond z) w = refl
 stored_served (t_timestamp Nanosecond z) w = refl
 stored_served (t_decimal p s) w = absurd (true≢false (sym w))
+stored_served (t_fixed_size_binary n) w = absurd (true≢false (sym w))
+stored_served (t_interval u) w = absurd (true≢false (sym w))
 stored_served t w = w
 
 pub record LeafNode (name : List ℕ) (b : Bool) (t : TypeTree) : Type 0 where

@@ -1,5 +1,5 @@
 -- The worked chunk.
-use Rattle.std.proofs.Common.{Bool, true, false, true≢false, pos, All, List, [], ◌∷◌, refl, sym, ap, arith}
+use Rattle.std.proofs.Common.{◌≡◌, Bool, true, false, true≢false, pos, All, List, [], ◌∷◌, refl, sym, ap, arith}
 use Rattle.std.proofs.lemmas.List.Elements.{All-from_recursion}
 use Rattle.shredding.specs.Parts.{slots_from}
 use Rattle.shredding.specs.Shape.{AreOf, IsInRange, IsOf, leaf, signed}
@@ -10,10 +10,13 @@ use Rattle.columns_slots.specs.Types.{is_leaf}
 use Rattle.pq_headline.specs.Arrays.{rows_of}
 use Rattle.pq_headline.specs.Openings.{CanBeWritten}
 use Rattle.pq_tree.specs.Tree.{count_trees}
+use Rattle.pq_tree.specs.declared.types.Encoding.{Encoding}
+use Rattle.pq_tree.specs.declared.types.Encoding.TheVariants.{Plain, DeltaBinaryPacked}
 use Rattle.schema_to_tree.specs.Conditions.{AreWritten}
 use Rattle.schema_to_tree.specs.Table.{trees_of}
 use Rattle.typed_groups.specs.Suiting.{Suits}
-use Rattle.typed_groups.specs.Worked.{AreWorked, four_lists, four_numbers, four_rows, options, plain_each, two_fields}
+use Rattle.write_groups.specs.Laid.{AreChosen}
+use Rattle.typed_groups.specs.Worked.{AreWorked, four_lists, four_numbers, four_rows, options, plain_each, two_fields, with_deltas}
 
 lists_sound : IsSound four_lists
 lists_sound =
@@ -40,13 +43,27 @@ are_written = record { structs = refl; decimals = refl; times = refl; types = re
 held : CanBeWritten two_fields
 held = (refl, tt, (refl, tt, tt))
 
-suits : (statistics : Bool) → Suits two_fields (options statistics) four_rows (trees_of two_fields) plain_each
-suits statistics = record { sound = (lists_sound, (numbers_sound, tt)); typed = (refl, (refl, tt)); even = (refl, tt); rows_are = rows; trees_are = refl; written = are_written; held = held; served = refl; encodings = (refl, (refl, tt)) }
+suits : (wanted statistics : Bool) (ess : List (List Encoding)) → AreChosen wanted two_fields (trees_of two_fields) ess → Suits wanted two_fields (options statistics) four_rows (trees_of two_fields) ess
+suits wanted statistics ess asks =
+    record { sound = (lists_sound, (numbers_sound, tt)); typed = (refl, (refl, tt)); even = (refl, tt); rows_are = rows; trees_are = refl; written = are_written; held = held; served = refl; encodings = asks }
+
+first_of : List Encoding → Encoding
+first_of [] = Plain
+first_of (e ∷ es) = e
+
+not_plain : (Plain ∷ []) ≡ (DeltaBinaryPacked ∷ []) → ⊥
+unfolding first_of
+not_plain e = absurd (by_name (ap first_of e))
+  where
+    by_name : Plain ≡ DeltaBinaryPacked → ⊥
+    by_name h = cc
 
 pub worked : AreWorked
 worked = record {
-  suits = suits false;
-  statistics = suits true;
+  suits = suits false false plain_each (refl, (refl, tt));
+  statistics = suits false true plain_each (refl, (refl, tt));
+  deltas = suits true false with_deltas (refl, (refl, tt));
+  no_deltas = λ h. not_plain h.encodings.1.0;
   fewer_encodings = λ h. h.encodings.1;
   no_columns = λ h. absurd (omega (arith, ap count_trees h.trees_are));
   other_order = λ h. true≢false (sym (ap is_leaf h.typed.0));

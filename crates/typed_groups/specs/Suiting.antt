@@ -1,5 +1,5 @@
--- Chunks of arrays that are written as groups of a schema that is settled, plain (Parquet format, "Row groups", "Nested Encoding").
-use Rattle.std.specs.Prelude.{◌≡◌, ◌⊎◌, true, false, All, List, [], ◌∷◌, length, map, Vec}
+-- Chunks of arrays that are written as groups of a schema that is settled (Parquet format, "Row groups", "Nested Encoding").
+use Rattle.std.specs.Prelude.{◌≡◌, ◌⊎◌, Bool, true, All, List, length, map, Vec}
 use Rattle.std.specs.Global.{Global}
 use Rattle.shredding.specs.Shape.{AreOf}
 use Rattle.columns_base.specs.declared.error.Error.{Error}
@@ -16,17 +16,16 @@ use Rattle.pq_headline.specs.Columns.{schema_columns}
 use Rattle.pq_headline.specs.Openings.{CanBeWritten}
 use Rattle.pq_headline.specs.Output.{IsLaidGroup, PieceIsTooLarge, all_chosen}
 use Rattle.pq_headline.specs.Served.{are_served_fields}
-use Rattle.pq_tree.specs.Tree.{Trees, no_trees, tree, leaves, columns_of}
+use Rattle.pq_tree.specs.Tree.{Trees, columns_of}
 use Rattle.pq_tree.specs.TreeViews.{trees_view}
 use Rattle.pq_tree.specs.declared.types.Encoding.{Encoding}
-use Rattle.pq_tree.specs.declared.types.Encoding.TheVariants.{Plain}
 use Rattle.pq_tree.specs.declared.types.ParquetType.{ParquetType}
 use Rattle.schema_to_tree.specs.Conditions.{AreWritten}
 use Rattle.schema_to_tree.specs.Table.{schema_of}
 use Rattle.write_file.specs.Pages.{SomeRefuses}
 use Rattle.write_groups.specs.Columns.{AreSoMany, RefusesFields}
 use Rattle.write_groups.specs.Given.{RefusesColumn}
-use Rattle.write_groups.specs.Laid.{style_of}
+use Rattle.write_groups.specs.Laid.{AreChosen, style_of}
 use Rattle.write_groups.specs.Writing.{HasColumns, IsGroupOf}
 use Rattle.write_groups.specs.declared.group.RowGroupIter.{RowGroupIter}
 use Rattle.write_pages.specs.declared.options.WriteOptions.{WriteOptions}
@@ -36,15 +35,9 @@ abbrev pub AreAllSound : ArrayTrees → Type 0
 AreAllSound no_arrays = Unit {0}
 AreAllSound (more_arrays c cs) = IsSound c × AreAllSound cs
 
--- PLAIN for each leaf of each tree
-abbrev pub ArePlain : Trees → List (List Encoding) → Type 0
-ArePlain no_trees [] = Unit {0}
-ArePlain (tree t ts) (es ∷ ess) = (es ≡ map (λ _. Plain) (leaves t)) × ArePlain ts ess
-ArePlain _ _ = ⊥
-
 -- The arrays are those of the fields: of their types and of one length, and their rows are rows of the schema. They are to be written by the trees of
--- the fields, which can be written and are served, each leaf plain.
-pub record Suits (fs : FieldTrees) (o : WriteOptions) (chunk : ArrayTrees) (trees : Trees) (ess : List (List Encoding)) : Type 0 where
+-- the fields, which can be written and are served, each leaf in the encoding that is chosen, with deltas or without.
+pub record Suits (wants_deltas : Bool) (fs : FieldTrees) (o : WriteOptions) (chunk : ArrayTrees) (trees : Trees) (ess : List (List Encoding)) : Type 0 where
   pub sound : AreAllSound chunk
   pub typed : AreTyped fs chunk
   pub even : AreEven chunk
@@ -53,11 +46,11 @@ pub record Suits (fs : FieldTrees) (o : WriteOptions) (chunk : ArrayTrees) (tree
   pub written : AreWritten fs
   pub held : CanBeWritten fs
   pub served : are_served_fields fs ≡ true
-  pub encodings : ArePlain trees ess
+  pub encodings : AreChosen wants_deltas fs trees ess
 
 -- the same of a chunk whose columns are there
-abbrev pub IsSuiting : FieldTrees → RowGroupIter → Type 0
-IsSuiting fs g = Suits fs g.options g.chunk (trees_view g.fields.items) (map (λ es. es.items) g.encodings.items)
+abbrev pub IsSuiting : Bool → FieldTrees → RowGroupIter → Type 0
+IsSuiting wants_deltas fs g = Suits wants_deltas fs g.options g.chunk (trees_view g.fields.items) (map (λ es. es.items) g.encodings.items)
 
 -- There are as many lists of encodings and as many trees as arrays, and nothing stands against the columns.
 pub record IsTaken (o : WriteOptions) (chunk : ArrayTrees) (encodings : List (Vec Encoding Global)) (trees : List ParquetType) : Type 0 where
@@ -67,18 +60,18 @@ pub record IsTaken (o : WriteOptions) (chunk : ArrayTrees) (encodings : List (Ve
 -- A chunk that suits is refused for want of memory alone.
 abbrev pub SuitingChunksAreTaken : Type 0
 SuitingChunksAreTaken =
-    (fs : FieldTrees) (o : WriteOptions) (chunk : ArrayTrees) (encodings : List (Vec Encoding Global)) (trees : List ParquetType)
-    → Suits fs o chunk (trees_view trees) (map (λ es. es.items) encodings) → IsTaken o chunk encodings trees
+    (wants_deltas : Bool) (fs : FieldTrees) (o : WriteOptions) (chunk : ArrayTrees) (encodings : List (Vec Encoding Global)) (trees : List ParquetType)
+    → Suits wants_deltas fs o chunk (trees_view trees) (map (λ es. es.items) encodings) → IsTaken o chunk encodings trees
 
 -- A page of it is refused for want of memory, or because its room passes the sizes of a header: then the rows of the chunk, cut by the row rule, have such a page.
 abbrev pub LargePagesAreLarge : Type 0
 LargePagesAreLarge =
-    (fs : FieldTrees) (g : RowGroupIter) (e : Error) → IsSuiting fs g → HasColumns g → SomeRefuses RefusesColumn g.columns.items e
+    (wants_deltas : Bool) (fs : FieldTrees) (g : RowGroupIter) (e : Error) → IsSuiting wants_deltas fs g → HasColumns g → SomeRefuses RefusesColumn g.columns.items e
     → (e ≡ Memory) ⊎ ((e ≡ Overflow V3) × PieceIsTooLarge (style_of g.options) fs (rows_of g.chunk) (all_entries g.chunk))
 
--- The group that its columns give is laid out as its rows are to be: in the encodings that are chosen where no deltas are asked for, and with the entries of its
--- dictionaries, of which there are none.
-abbrev pub PlainGroupsAreWritten : Type 0
-PlainGroupsAreWritten =
-    (fs : FieldTrees) (g : RowGroupIter) (out : OutGroup) → IsSuiting fs g → HasColumns g → IsGroupOf fs g out
-    → IsLaidGroup (style_of g.options) (rows_of g.chunk) (schema_columns fs) (columns_of (schema_of fs)) (all_chosen false (schema_columns fs) (columns_of (schema_of fs))) (all_entries g.chunk) out
+-- The group that its columns give is laid out as its rows are to be: in the encodings that are chosen, and with the entries of its dictionaries, of which
+-- there are none.
+abbrev pub GroupsAreWritten : Type 0
+GroupsAreWritten =
+    (wants_deltas : Bool) (fs : FieldTrees) (g : RowGroupIter) (out : OutGroup) → IsSuiting wants_deltas fs g → HasColumns g → IsGroupOf fs g out
+    → IsLaidGroup (style_of g.options) (rows_of g.chunk) (schema_columns fs) (columns_of (schema_of fs)) (all_chosen wants_deltas (schema_columns fs) (columns_of (schema_of fs))) (all_entries g.chunk) out

@@ -1,4 +1,4 @@
--- A worked chunk: lists of numbers and a number in each of four rows. It suits its fields, with statistics and without, and neither by fewer encodings nor by other trees.
+-- A worked chunk: lists of numbers and a number in each of four rows. It suits its fields, with statistics and without, plain and by deltas, and neither by other or fewer encodings nor by other trees.
 use Rattle.std.specs.Prelude.{pos, codes, Bool, true, false, Some, None, List, [], ◌∷◌}
 use Rattle.shredding.specs.Slot.{number}
 use Rattle.columns_core.specs.Tree.{TypeTree, t_int32, t_int64, t_list, field, FieldTrees, no_fields, more_fields}
@@ -6,7 +6,7 @@ use Rattle.columns_slots.specs.Tree.{ArrayTree, leaf_array, list_array, ArrayTre
 use Rattle.pq_tree.specs.Tree.{no_trees}
 use Rattle.pq_tree.specs.declared.types.CompressionOptions.TheVariants.{Uncompressed}
 use Rattle.pq_tree.specs.declared.types.Encoding.{Encoding}
-use Rattle.pq_tree.specs.declared.types.Encoding.TheVariants.{Plain}
+use Rattle.pq_tree.specs.declared.types.Encoding.TheVariants.{Plain, DeltaBinaryPacked}
 use Rattle.pq_tree.specs.declared.version.Version.TheVariants.{V1}
 use Rattle.schema_to_tree.specs.Table.{trees_of}
 use Rattle.typed_groups.specs.Suiting.{Suits}
@@ -36,10 +36,16 @@ options statistics = record { write_statistics = statistics; version = V1; compr
 abbrev pub plain_each : List (List Encoding)
 plain_each = (Plain ∷ []) ∷ (Plain ∷ []) ∷ []
 
+-- the numbers by deltas, and the lists' items, which are no field's own, plain
+abbrev pub with_deltas : List (List Encoding)
+with_deltas = (Plain ∷ []) ∷ (DeltaBinaryPacked ∷ []) ∷ []
+
 pub record AreWorked : Type 0 where
-  pub suits : Suits two_fields (options false) four_rows (trees_of two_fields) plain_each
-  pub statistics : Suits two_fields (options true) four_rows (trees_of two_fields) plain_each
-  pub fewer_encodings : Suits two_fields (options false) four_rows (trees_of two_fields) ((Plain ∷ []) ∷ []) → ⊥
-  pub no_columns : Suits two_fields (options false) four_rows no_trees [] → ⊥
+  pub suits : Suits false two_fields (options false) four_rows (trees_of two_fields) plain_each
+  pub statistics : Suits false two_fields (options true) four_rows (trees_of two_fields) plain_each
+  pub deltas : Suits true two_fields (options false) four_rows (trees_of two_fields) with_deltas
+  pub no_deltas : Suits true two_fields (options false) four_rows (trees_of two_fields) plain_each → ⊥
+  pub fewer_encodings : Suits false two_fields (options false) four_rows (trees_of two_fields) ((Plain ∷ []) ∷ []) → ⊥
+  pub no_columns : Suits false two_fields (options false) four_rows no_trees [] → ⊥
   -- arrays in another order have other types
-  pub other_order : Suits two_fields (options false) (more_arrays four_numbers (more_arrays four_lists no_arrays)) (trees_of two_fields) plain_each → ⊥
+  pub other_order : Suits false two_fields (options false) (more_arrays four_numbers (more_arrays four_lists no_arrays)) (trees_of two_fields) plain_each → ⊥

@@ -1,9 +1,8 @@
 //! Laws of chunks that suit the fields of a schema.
-ghost use Rattle.typed_groups.specs.Suiting.{LargePagesAreLarge, PlainGroupsAreWritten, SuitingChunksAreTaken};
+ghost use Rattle.typed_groups.specs.Suiting.{LargePagesAreLarge, GroupsAreWritten, SuitingChunksAreTaken};
 ghost use Rattle.typed_groups.specs.Worked.{AreWorked};
 
 use nested_paths::paths_are_seen;
-use pq_headline::served_is_plain;
 use typed_arrays::{typed_columns_are_own, typed_slots_are_read};
 use write_groups::groups_are_laid;
 
@@ -23,11 +22,10 @@ pub fn large_pages_are_large()
 }
 
 /// The group that the columns of a chunk give is laid out in the encodings and with the dictionaries that are asked for.
-pub fn plain_groups_are_written()
-    ensures { PlainGroupsAreWritten }
+pub fn groups_are_written()
+    ensures { GroupsAreWritten }
 {
     groups_are_laid();
-    served_is_plain();
 }
 
 /// A worked chunk suits, and near misses do not.

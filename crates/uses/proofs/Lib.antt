@@ -1,2 +1,4 @@
 mod Attached
 mod Written
+mod Alone
+mod Refused

@@ -1,7 +1,8 @@
 //! The pages of a field to an array.
-ghost use Rattle.std.specs.Prelude.{◌≡◌, ◌≤◌, None, map, IfOk};
+ghost use Rattle.std.specs.Prelude.{◌≡◌, ◌≤◌, None, map, IfOk, IfErr};
 ghost use Rattle.columns_core.specs.Measures.{field_nesting};
 ghost use Rattle.columns_core.specs.View.{field_view};
+ghost use Rattle.pq_headline.specs.FieldReasons.{Refuses};
 ghost use Rattle.pq_headline.specs.Openings.{Opening, Assembled};
 ghost use Rattle.pq_tree.specs.Views.{physical_view};
 ghost use Rattle.assembly.specs.Giving.{Opens};
@@ -26,7 +27,8 @@ pub fn field_to_array<I: Pages + Drop>(
     num_rows: usize,
 ) -> Result<Option<ArrayBox>>
     requires { field_nesting (field_view field) ≤ 128 }
-    ensures { (o : Opening) → Opens o (field_view field) (map I.outcomes columns.items) (map (λ t. physical_view t.physical_type) types.items) None num_rows → IfOk result (λ array. Assembled o (arrays_in array)) }
+    ensures ok { (o : Opening) → Opens o (field_view field) (map I.outcomes columns.items) (map (λ t. physical_view t.physical_type) types.items) None num_rows → IfOk result (λ array. Assembled o (arrays_in array)) }
+    ensures err { (o : Opening) → Opens o (field_view field) (map I.outcomes columns.items) (map (λ t. physical_view t.physical_type) types.items) None num_rows → IfErr result (Refuses o) }
 {
     let mut arrays = column_iter_to_arrays(alloc, columns, types, field, None, num_rows)?;
     let array = match arrays.next() {

@@ -1,9 +1,9 @@
 //! Arrays to a file.
-ghost use Rattle.std.specs.Prelude.{◌≡◌, IfOk, IfErr};
+ghost use Rattle.std.specs.Prelude.{◌≡◌, map, IfOk, IfErr};
 ghost use Rattle.columns_base.specs.declared.error.Error.TheVariants.{Memory};
 ghost use Rattle.columns_core.specs.View.{schema_view};
 ghost use Rattle.pq_tree.specs.TreeViews.{trees_view};
-ghost use Rattle.uses.specs.Files.{IsFileOf};
+ghost use Rattle.uses.specs.Files.{IsFileOf, RefusesFile};
 
 use parquet::arrays::{Chunk, Result, Schema};
 use parquet::schema::{ParquetType, SchemaCodec};
@@ -36,12 +36,20 @@ pub fn arrays_to_file<K: Sink + Drop, C: SchemaCodec>(
     options: WriteOptions,
     codec: &C,
 ) -> Result<K>
-    ensures { IfOk result (λ k. IsFileOf (K.taken sink) (K.taken k) (schema_view schema) (C.bytes_of codec.now (schema_view schema)) options chunk) }
+    ensures ok { IfOk result (λ k. IsFileOf (K.taken sink) (K.taken k) (schema_view schema) (C.bytes_of codec.now (schema_view schema)) options chunk) }
+    ensures err { IfErr result (RefusesFile (schema_view schema) (C.bytes_of codec.now (schema_view schema)) options chunk (map (λ es. es.items) encodings.items)) }
 {
     let mut writer = FileWriter::try_new(alloc, sink, schema, options)?;
     let trees = copy_trees(alloc, writer.parquet_schema().fields())?;
-    let group = row_group_iter(alloc, chunk, encodings, trees, options)?;
-    writer.write(group)?;
-    writer.end(None, codec)?;
-    Ok(writer.into_inner())
+    let group = match row_group_iter(alloc, chunk, encodings, trees, options) {
+        Ok(group) => group,
+        Err(error) => return Err(error),
+    };
+    if let Err(error) = writer.write(group) {
+        return Err(error);
+    }
+    match writer.end(None, codec) {
+        Ok(_) => Ok(writer.into_inner()),
+        Err(error) => Err(error),
+    }
 }

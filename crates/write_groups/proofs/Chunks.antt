@@ -28,6 +28,7 @@ use Rattle.pq_tree.specs.Tree.{Leaf}
 use Rattle.pq_tree.specs.Views.{physical_view}
 use Rattle.pq_tree.specs.declared.types.Encoding.{Encoding}
 use Rattle.pq_tree.specs.declared.version.Version.{Version}
+use Rattle.write_pages.specs.Fits.{is_flat_path}
 use Rattle.write_pages.proofs.PageTable.{fits_served}
 use Rattle.write_pages.proofs.StoredOnce.{stored_once}
 use Rattle.write_pages.specs.Columns.{AreColumns, IsColumn, LeafNode}
@@ -66,6 +67,9 @@ as_given g t p w rows stored a b c d h =
     (subst (λ (x : Way). AreStored t p (column x (flat_map (λ (y : List Slot). y) g.pieces)) stored) (sym c)
     (subst (λ (x : List Slot). AreStored t p (column w x) stored) (sym d) h)))
 
+as_column : (g : ToGive) (t : LeafType) (p : Physical) → g.type ≡ t → g.physical ≡ p → (xs ys : List Triple) → AreStored g.type g.physical xs ys → AreStored t p xs ys
+as_column g t p e f xs ys h = subst (λ (k : LeafType). AreStored k p xs ys) e (subst (λ (q : Physical). AreStored g.type q xs ys) f h)
+
 pub chunked : (o : WriteOptions) (l : Leaf) (node : LeafNode) (w : Way) (slots : List Slot) (parts : List Part) (a : ArrayTree) (e : Encoding) (g : ToGive) → IsColumn o node parts a e g → node ≡ node_of l → path_levels parts ≡ leaf_levels l → IsSeen slots w parts a → 0 < length slots → Chunked o.version l g (length slots)
 chunked o l node w slots parts a e g h n v s some =
     let t = h.type_ in
@@ -77,7 +81,7 @@ chunked o l node w slots parts a e g h n v s some =
     let stored : AreStored g.type g.physical (column g.way (flat_map (λ (x : List Slot). x) g.pieces)) p.stored = as_given g (leaf_type (type_of a)) (physical_view t.physical_type) (path_way parts) rows p.stored p.type p.physical p.way pieces p.are_stored in
     let each : Each (λ (x : List Slot). 0 < length x) g.pieces = subst (λ (ps : List (List Slot)). Each (λ x. 0 < length x) ps) (sym p.pieces) (each_some k rows (at_least (page_limit o.data_pagesize_limit) (plain_length (physical_view t.physical_type) (values_in p.stored)) (length rows))) in
     let made = paged g g.pieces p.stored each stored in
-    let served = fits_served (base (type_of a)) (physical_view t.physical_type) h.written.values h.written.fits.physical in
+    let served = fits_served (is_flat_path parts) (base (type_of a)) (physical_view t.physical_type) h.written.values h.written.fits.physical in
     record {
       chunk = record { entries = None; pages = made.pages; statistics = p.statistics.out };
       gives = record {
@@ -87,7 +91,7 @@ chunked o l node w slots parts a e g h n v s some =
           repeats = sym (ap (λ (x : ℕ × ℕ). x.1) v) ∙ ap max_repetition (sym p.way);
           defines = sym (ap (λ (x : ℕ × ℕ). x.0) v) ∙ ap max_definition (sym p.way);
         };
-        once = λ xs ys zs x y. stored_once g.type (base (type_of a)) (physical_view t.physical_type) xs ys zs served (subst (λ (q : Physical). AreStored g.type q xs ys) p.physical x) (subst (λ (q : Physical). AreStored g.type q xs zs) p.physical y);
+        once = λ xs ys zs x y. stored_once (type_of a) (physical_view t.physical_type) xs ys zs served (as_column g (leaf_type (type_of a)) (physical_view t.physical_type) p.type p.physical xs ys x) (as_column g (leaf_type (type_of a)) (physical_view t.physical_type) p.type p.physical xs zs y);
         entries = refl;
         statistics =
             statistics_moved o.write_statistics g.options.write_statistics (leaf_type (type_of a)) g.type (physical_view t.physical_type) g.physical p.statistics.out (column (path_way parts) rows) (column g.way g.rows) (sym (ap (λ (x : WriteOptions). x.write_statistics) p.options)) (sym p.type)
@@ -96,7 +100,7 @@ chunked o l node w slots parts a e g h n v s some =
       };
       stated = λ few. p.statistics.are (omega (arith, few, pairs_long made.pages, ap length made.whole, zip_length (IsStoredTriple (leaf_type (type_of a)) (physical_view t.physical_type)) (column (path_way parts) rows) p.stored p.are_stored));
       counted = ap rows_in made.whole ∙ (stored_rows g.type g.physical _ p.stored stored ∙ (rows_are_counted g.way _ ∙ (ap length pieces ∙ count)));
-      some = omega (arith, zip_length (IsPageOf g.options.write_statistics g.type g.physical g.way) g.pieces made.pages made.are, ap length p.pieces, some_pieces k rows (omega (arith, some, count)));
+      some = omega (arith, zip_length (IsPageOf g.options.write_statistics g.encoding g.type g.physical g.way) g.pieces made.pages made.are, ap length p.pieces, some_pieces k rows (omega (arith, some, count)));
     }
 
 -- ---- those of a field

@@ -1,6 +1,8 @@
 -- A group of arrays is laid out by the row rule.
-use Rattle.std.proofs.Common.{◌≡◌, ℕ, suc, ◌+◌, false, List, [], ◌∷◌, ◌++◌, length, map, All, None, refl, sym, ap, subst, ◌∙◌, arith}
+use Rattle.std.proofs.Common.{◌≡◌, ℕ, suc, ◌+◌, Bool, true, false, List, [], ◌∷◌, ◌++◌, length, map, All, None, refl, sym, ap, subst, ◌∙◌, arith}
 use Rattle.std.specs.List.{AllByRecursion as Each}
+use Rattle.std.proofs.lemmas.Bool.{and_parts}
+use Rattle.std.proofs.lemmas.List.{length-map}
 use Rattle.std.proofs.lemmas.List.Elements.{All-from_recursion, recursion_from_All}
 use Rattle.shredding.specs.Shape.{Shape, Shapes, shape, IsOf, AreOf, Way, in_struct, ways}
 use Rattle.shredding.specs.Slot.{Slot, null, Slots, no_slots, slot, slot_at}
@@ -13,11 +15,12 @@ use Rattle.nested_paths.specs.Leaves.{array_leaves, node_of}
 use Rattle.nested_paths.specs.Paths.{misfit}
 use Rattle.nested_paths.specs.Seen.{read_by, shape_by}
 use Rattle.pq_files.specs.Layout.{OutChunk}
-use Rattle.pq_files.specs.Page.{plain}
+use Rattle.pq_files.specs.Page.{Encoding}
 use Rattle.pq_headline.proofs.RowsOf.{field_of, length_rows}
 use Rattle.pq_headline.specs.Arrays.{array_at, rows_of}
 use Rattle.pq_headline.specs.Columns.{ArrowColumn, beneath_struct, type_columns, columns_from}
-use Rattle.pq_headline.specs.Output.{AreLaid, Style}
+use Rattle.pq_headline.specs.Output.{AreLaid, Style, all_chosen}
+use Rattle.pq_headline.specs.Served.{are_served_fields, is_served_type}
 use Rattle.pq_headline.specs.Rows.{field_slots}
 use Rattle.pq_tree.specs.Tree.{Leaf, Trees, leaves, leaves_of}
 use Rattle.pq_tree.specs.declared.types.Encoding.{Encoding as Asked}
@@ -27,11 +30,12 @@ use Rattle.typed_arrays.specs.Typed.{AreAlong, TypedColumnsAreOwn, TypedSlotsAre
 use Rattle.write_file.specs.Pages.{AllGive}
 use Rattle.write_pages.specs.Columns.{AreColumns}
 use Rattle.write_pages.specs.declared.options.WriteOptions.{WriteOptions}
+use Rattle.write_groups.proofs.Chosen.{chosen-append, own_asked}
 use Rattle.write_groups.proofs.FieldLaid.{field_laid}
 use Rattle.write_groups.proofs.Groups.{even_len}
 use Rattle.write_groups.specs.Columns.{AreGroupColumns}
 use Rattle.write_groups.specs.Given.{BeginsColumn, to_come}
-use Rattle.write_groups.specs.Laid.{AreOwnColumns, GroupsAreLaid, style_of}
+use Rattle.write_groups.specs.Laid.{AreAskedFor, AreChosen, AreOwnColumns, GroupsAreLaid, style_of}
 use Rattle.write_groups.specs.declared.column.ChunkColumn.{ChunkColumn}
 
 -- ---- parts of a group
@@ -57,13 +61,28 @@ as_many o [] [] [] [] [] h = refl
 as_many o (l ∷ ls) (p ∷ ps) (a ∷ arrays) (e ∷ es) (s ∷ ss) h = ap suc (as_many o ls ps arrays es ss h.1)
 as_many o ls ps arrays es ss h = absurd h
 
-both_laid : (s : Style) (rows : List Slots) (cs ds : List ArrowColumn) (ls ks : List Leaf) (xs ys : List OutChunk) → AreLaid s rows cs ls (map (λ c. plain) cs) (map (λ c. None) cs) xs → AreLaid s rows ds ks (map (λ c. plain) ds) (map (λ c. None) ds) ys → AreLaid s rows (cs ++ ds) (ls ++ ks) (map (λ c. plain) (cs ++ ds)) (map (λ c. None) (cs ++ ds)) (xs ++ ys)
-both_laid s rows [] ds [] ks [] ys h g = g
-both_laid s rows (c ∷ cs) ds (l ∷ ls) ks (x ∷ xs) ys h g = (h.0, both_laid s rows cs ds ls ks xs ys h.1 g)
-both_laid s rows [] ds [] ks (x ∷ xs) ys h g = absurd h
-both_laid s rows [] ds (l ∷ ls) ks xs ys h g = absurd h
-both_laid s rows (c ∷ cs) ds [] ks xs ys h g = absurd h
-both_laid s rows (c ∷ cs) ds (l ∷ ls) ks [] ys h g = absurd h
+both_laid : (s : Style) (rows : List Slots) (cs ds : List ArrowColumn) (ls ks : List Leaf) (es zs : List Encoding) (xs ys : List OutChunk) → AreLaid s rows cs ls es (map (λ c. None) cs) xs → AreLaid s rows ds ks zs (map (λ c. None) ds) ys → AreLaid s rows (cs ++ ds) (ls ++ ks) (es ++ zs) (map (λ c. None) (cs ++ ds)) (xs ++ ys)
+both_laid s rows [] ds [] ks [] zs [] ys h g = g
+both_laid s rows (c ∷ cs) ds (l ∷ ls) ks (e ∷ es) zs (x ∷ xs) ys h g = (h.0, both_laid s rows cs ds ls ks es zs xs ys h.1 g)
+both_laid s rows [] ds [] ks [] zs (x ∷ xs) ys h g = absurd h
+both_laid s rows [] ds [] ks (e ∷ es) zs xs ys h g = absurd h
+both_laid s rows [] ds (l ∷ ls) ks es zs xs ys h g = absurd h
+both_laid s rows (c ∷ cs) ds [] ks es zs xs ys h g = absurd h
+both_laid s rows (c ∷ cs) ds (l ∷ ls) ks [] zs xs ys h g = absurd h
+both_laid s rows (c ∷ cs) ds (l ∷ ls) ks (e ∷ es) zs [] ys h g = absurd h
+
+arrays_many : (o : WriteOptions) (ls : List Leaf) (ps : List _) (arrays : List ArrayTree) (es : List Asked) (ss : List ChunkColumn) → AreColumns o (map node_of ls) ps arrays es (map to_come ss) → length arrays ≡ length ls
+arrays_many o [] [] [] [] [] h = refl
+arrays_many o (l ∷ ls) (p ∷ ps) (a ∷ arrays) (e ∷ es) (s ∷ ss) h = ap suc (arrays_many o ls ps arrays es ss h.1)
+arrays_many o ls ps arrays es ss h = absurd h
+
+along_many : (ws : List Way) (arrays : List ArrayTree) (cs : List ArrowColumn) → AreAlong ws arrays cs → length cs ≡ length arrays
+along_many [] [] [] h = refl
+along_many (w ∷ ws) (a ∷ arrays) (c ∷ cs) h = ap suc (along_many ws arrays cs h.2)
+along_many [] [] (c ∷ cs) h = absurd h
+along_many [] (a ∷ arrays) cs h = absurd h
+along_many (w ∷ ws) [] cs h = absurd h
+along_many (w ∷ ws) (a ∷ arrays) [] h = absurd h
 
 -- ---- the slots of a field are slots of the field
 
@@ -104,6 +123,12 @@ each_first f fs at place (r ∷ rows) e h = (subst (IsOf f) (sym (e r)) (first_i
 
 -- ---- field after field
 
+served_first : (name : List ℕ) (t : TypeTree) (b : Bool) (md : List _) (fs : FieldTrees) → are_served_fields (more_fields (field name t b md) fs) ≡ true → is_served_type t ≡ true
+served_first name t b md fs s = (and_parts (is_served_type t) (are_served_fields fs) s).0
+
+served_rest : (name : List ℕ) (t : TypeTree) (b : Bool) (md : List _) (fs : FieldTrees) → are_served_fields (more_fields (field name t b md) fs) ≡ true → are_served_fields fs ≡ true
+served_rest name t b md fs s = (and_parts (is_served_type t) (are_served_fields fs) s).1
+
 own_beneath : (place : ℕ) (ws : List Way) (arrays : List ArrayTree) (cs : List ArrowColumn) → AreAlong ws arrays cs → AreOwnColumns place ws arrays (map (beneath_struct false place) cs)
 own_beneath place [] [] [] h = tt
 own_beneath place (w ∷ ws) (a ∷ arrays) (c ∷ cs) h = (ap (in_struct false place) h.0, h.1, own_beneath place ws arrays cs h.2)
@@ -112,12 +137,12 @@ own_beneath place [] (a ∷ arrays) cs h = absurd h
 own_beneath place (w ∷ ws) [] cs h = absurd h
 own_beneath place (w ∷ ws) (a ∷ arrays) [] h = absurd h
 
-all_laid : TypedColumnsAreOwn → TypedSlotsAreRead → (o : WriteOptions) (version : Version) (rows : List Slots) (fs : FieldTrees) (cs : ArrayTrees) (ess : List (List Asked)) (columns : List ChunkColumn) (chunks : List OutChunk) (place : ℕ) (at : Slots → Slots)
-    → AreGroupColumns o cs (trees_of fs) ess columns → AllGive BeginsColumn version (leaves_of (trees_of fs)) chunks columns → AreTyped fs cs
+all_laid : TypedColumnsAreOwn → TypedSlotsAreRead → (wanted : Bool) (o : WriteOptions) (version : Version) (rows : List Slots) (fs : FieldTrees) (cs : ArrayTrees) (ess : List (List Asked)) (columns : List ChunkColumn) (chunks : List OutChunk) (place : ℕ) (at : Slots → Slots)
+    → are_served_fields fs ≡ true → AreChosen wanted fs (trees_of fs) ess → AreGroupColumns o cs (trees_of fs) ess columns → AllGive BeginsColumn version (leaves_of (trees_of fs)) chunks columns → AreTyped fs cs
     → ((row : Slots) (j : ℕ) → slot_at row (place + j) ≡ slot_at (at row) j) → Each (λ row. AreOf (shapes_of fs) (at row)) rows → HaveLen (length rows) cs → ((j : ℕ) → tree_len (array_at j cs) ≡ length rows → field_slots (place + j) rows ≡ slots (array_at j cs))
-    → AreLaid (style_of o) rows (columns_from false place fs) (leaves_of (trees_of fs)) (map (λ c. plain) (columns_from false place fs)) (map (λ c. None) (columns_from false place fs)) chunks
-all_laid own read o version rows no_fields no_arrays [] [] [] place at h give typed e are even own_slots = tt
-all_laid own read o version rows (more_fields (field name t b md) fs) (more_arrays c cs) (es ∷ ess) columns chunks place at h give typed e are even own_slots =
+    → AreLaid (style_of o) rows (columns_from false place fs) (leaves_of (trees_of fs)) (all_chosen wanted (columns_from false place fs) (leaves_of (trees_of fs))) (map (λ c. None) (columns_from false place fs)) chunks
+all_laid own read wanted o version rows no_fields no_arrays [] [] [] place at served asks h give typed e are even own_slots = tt
+all_laid own read wanted o version rows (more_fields (field name t b md) fs) (more_arrays c cs) (es ∷ ess) columns chunks place at served asks h give typed e are even own_slots =
     let f = h.3 in
     let here : place + 0 ≡ place = omega arith in
     let two = halves version (leaves (node name b t)) (leaves_of (trees_of fs)) chunks h.0 h.1 (as_many o (leaves (node name b t)) _ _ es h.0 f.are) (subst (λ (ss : List ChunkColumn). AllGive BeginsColumn version (leaves (node name b t) ++ leaves_of (trees_of fs)) chunks ss) h.2 give) in
@@ -127,29 +152,37 @@ all_laid own read o version rows (more_fields (field name t b md) fs) (more_arra
     let readable : slots (read_by c (node name b t)) ≡ field_slots place rows = subst (λ (x : TypeTree). slots (read_by c (node name b x)) ≡ slots c) (sym typed.0) (read c name b f.sound all) ∙ sym mine_are in
     let along : AreAlong (ways (shape_by c (node name b t))) (array_leaves c) (type_columns b t) =
     subst (λ (x : TypeTree). AreAlong (ways (shape_by c (node name b x))) (array_leaves c) (type_columns b x)) (sym typed.0) (own c name b f.sound (subst (λ (x : TypeTree). misfit c (node name b x) ≡ None) typed.0 f.fits)) in
-    let mine = field_laid o c (node name b t) es h.0 version two.first (map (beneath_struct false place) (type_columns b t)) place rows f two.mine readable (own_beneath place _ (array_leaves c) (type_columns b t) along) in
-    let theirs = all_laid own read o version rows fs cs ess h.1 two.others (suc place) (λ row. rest_of (at row)) h.4 two.theirs typed.1
+    let own_columns = map (beneath_struct false place) (type_columns b t) in
+    let ls = leaves (node name b t) in
+    let many : length (type_columns b t) ≡ length ls = along_many _ (array_leaves c) (type_columns b t) along ∙ arrays_many o ls _ (array_leaves c) es h.0 f.are in
+    let names : AreAskedFor own_columns es (all_chosen wanted own_columns ls) =
+    subst (λ (xs : List Asked). AreAskedFor own_columns xs (all_chosen wanted own_columns ls)) (sym asks.0) (own_asked wanted place b t ls (served_first name t b md fs served) many) in
+    let chosen : all_chosen wanted own_columns ls ++ all_chosen wanted (columns_from false (suc place) fs) (leaves_of (trees_of fs)) ≡ all_chosen wanted (own_columns ++ columns_from false (suc place) fs) (ls ++ leaves_of (trees_of fs)) =
+    sym (chosen-append wanted own_columns (columns_from false (suc place) fs) ls (leaves_of (trees_of fs)) (length-map (type_columns b t) (beneath_struct false place) ∙ many)) in
+    let mine = field_laid o c (node name b t) es h.0 version two.first own_columns place rows (all_chosen wanted own_columns ls) names f two.mine readable (own_beneath place _ (array_leaves c) (type_columns b t) along) in
+    let theirs = all_laid own read wanted o version rows fs cs ess h.1 two.others (suc place) (λ row. rest_of (at row)) (served_rest name t b md fs served) asks.1 h.4 two.theirs typed.1
     (λ row j. ap (slot_at row) (next place j) ∙ (e row (suc j) ∙ later_at (at row) j)) (each_rest (type_shape b t) (shapes_of fs) at rows are) even.1
     (λ j q. ap (λ (n : ℕ). field_slots n rows) (next place j) ∙ own_slots (suc j) q) in
-    subst (λ (xs : List OutChunk). AreLaid (style_of o) rows (map (beneath_struct false place) (type_columns b t) ++ columns_from false (suc place) fs) (leaves (node name b t) ++ leaves_of (trees_of fs)) (map (λ x. plain) (map (beneath_struct false place) (type_columns b t) ++ columns_from false (suc place) fs)) (map (λ x. None) (map (beneath_struct false place) (type_columns b t) ++ columns_from false (suc place) fs)) xs) (sym two.parts)
-    (both_laid (style_of o) rows (map (beneath_struct false place) (type_columns b t)) (columns_from false (suc place) fs) (leaves (node name b t)) (leaves_of (trees_of fs)) two.first two.others mine theirs)
+    subst (λ (xs : List OutChunk). AreLaid (style_of o) rows (own_columns ++ columns_from false (suc place) fs) (ls ++ leaves_of (trees_of fs)) (all_chosen wanted (own_columns ++ columns_from false (suc place) fs) (ls ++ leaves_of (trees_of fs))) (map (λ x. None) (own_columns ++ columns_from false (suc place) fs)) xs) (sym two.parts)
+    (subst (λ (zs : List Encoding). AreLaid (style_of o) rows (own_columns ++ columns_from false (suc place) fs) (ls ++ leaves_of (trees_of fs)) zs (map (λ x. None) (own_columns ++ columns_from false (suc place) fs)) (two.first ++ two.others)) chosen
+    (both_laid (style_of o) rows own_columns (columns_from false (suc place) fs) ls (leaves_of (trees_of fs)) (all_chosen wanted own_columns ls) (all_chosen wanted (columns_from false (suc place) fs) (leaves_of (trees_of fs))) two.first two.others mine theirs))
   where
     next : (place j : ℕ) → suc place + j ≡ place + suc j
     next place j = omega arith
-all_laid own read o version rows no_fields no_arrays [] (x ∷ columns) chunks place at h give typed e are even own_slots = absurd cc
-all_laid own read o version rows no_fields no_arrays [] [] (x ∷ chunks) place at h give typed e are even own_slots = absurd give
-all_laid own read o version rows no_fields no_arrays (es ∷ ess) columns chunks place at h give typed e are even own_slots = absurd h
-all_laid own read o version rows no_fields (more_arrays c cs) ess columns chunks place at h give typed e are even own_slots = absurd typed
-all_laid own read o version rows (more_fields (field x t y z) fs) no_arrays ess columns chunks place at h give typed e are even own_slots = absurd typed
-all_laid own read o version rows (more_fields (field x t y z) fs) (more_arrays c cs) [] columns chunks place at h give typed e are even own_slots = absurd h
+all_laid own read wanted o version rows no_fields no_arrays [] (x ∷ columns) chunks place at served asks h give typed e are even own_slots = absurd cc
+all_laid own read wanted o version rows no_fields no_arrays [] [] (x ∷ chunks) place at served asks h give typed e are even own_slots = absurd give
+all_laid own read wanted o version rows no_fields no_arrays (es ∷ ess) columns chunks place at served asks h give typed e are even own_slots = absurd h
+all_laid own read wanted o version rows no_fields (more_arrays c cs) ess columns chunks place at served asks h give typed e are even own_slots = absurd typed
+all_laid own read wanted o version rows (more_fields (field x t y z) fs) no_arrays ess columns chunks place at served asks h give typed e are even own_slots = absurd typed
+all_laid own read wanted o version rows (more_fields (field x t y z) fs) (more_arrays c cs) [] columns chunks place at served asks h give typed e are even own_slots = absurd h
 
 pub group_laid : TypedColumnsAreOwn → TypedSlotsAreRead → GroupsAreLaid
-group_laid own read fs g out typed even are trees h is =
+group_laid own read wanted fs g out typed even are trees served asks h is =
     let rows = rows_of g.chunk in
     let n : first_len g.chunk ≡ length rows = sym (length_rows g.chunk) in
     record {
       rows_are = is.rows ∙ n;
-      columns = all_laid own read g.options g.options.version rows fs g.chunk (map (λ es. es.items) g.encodings.items) g.columns.items out.chunks 0 (λ row. row)
+      columns = all_laid own read wanted g.options g.options.version rows fs g.chunk (map (λ es. es.items) g.encodings.items) g.columns.items out.chunks 0 (λ row. row) served asks
           (subst (λ (ts : Trees). AreGroupColumns g.options g.chunk ts (map (λ es. es.items) g.encodings.items) g.columns.items) trees h) is.columns typed
           (λ row j. ap (slot_at row) (omega arith)) (recursion_from_All (AreOf (shapes_of fs)) rows are)
           (subst (λ (k : ℕ). HaveLen k g.chunk) n (even_len g.chunk even))

@@ -1,30 +1,36 @@
 -- A column in pages is laid out by the row rule.
-use Rattle.std.proofs.Common.{◌≡◌, ℕ, zero, suc, List, [], ◌∷◌, length, map, take, drop, Option, None, Some, Bool, false, refl, sym, ap, subst, ◌∙◌}
+use Rattle.std.proofs.Common.{◌≡◌, ℕ, zero, suc, List, [], ◌∷◌, length, map, take, drop, Option, None, Some, Bool, true, false, true≢false, cond, refl, sym, ap, subst, ◌∙◌, arith}
 use Rattle.std.specs.List.{AllZip}
 use Rattle.std.proofs.lemmas.List.{take-map, drop-map, length-map}
 use Rattle.shredding.proofs.Along.{seen_along}
 use Rattle.shredding.proofs.Schema.{own_columns}
 use Rattle.shredding.specs.Along.{along, thin}
 use Rattle.shredding.specs.Cut.{cut, pieces}
-use Rattle.shredding.specs.Parts.{path_way}
-use Rattle.shredding.specs.Shape.{LeafType, Way, in_struct}
+use Rattle.shredding.specs.Parts.{Part, leaf_part, list_part, struct_part, path_way}
+use Rattle.shredding.specs.Shape.{LeafType, Way, at_leaf, in_list, in_struct}
 use Rattle.shredding.specs.Shred.{Triple, column}
 use Rattle.shredding.specs.Slot.{Slot, Slots, fields, slot_at, Value}
 use Rattle.columns_core.specs.Shapes.{leaf_type}
 use Rattle.columns_slots.specs.Slots.{type_of}
 use Rattle.pq_files.specs.Layout.{OutPage, AreStoredEntries, plain_length, rows_per_page}
-use Rattle.pq_files.specs.Page.{plain, values_in}
+use Rattle.pq_files.specs.Page.{Encoding, plain, dictionary, delta, delta_length, values_in}
 use Rattle.pq_files.specs.Statistics.{Statistics, HasStatistics}
 use Rattle.pq_files.specs.Stored.{AreStored}
+use Rattle.levels.specs.InBounds.{IsInBounds}
+use Rattle.pq_headline.specs.Columns.{ArrowColumn, is_alone, is_flat}
 use Rattle.pq_headline.specs.Output.{IsPageOfRows}
 use Rattle.pq_headline.specs.Rows.{field_slots}
 use Rattle.pq_tree.specs.Physical.{Physical}
 use Rattle.pq_tree.specs.Views.{physical_view}
-use Rattle.write_pages.specs.Holds.{rows_of}
+use Rattle.pq_tree.specs.declared.types.Encoding.{Encoding as RustEncoding}
+use Rattle.write_values.specs.Deltas.{encoding_name}
+use Rattle.write_pages.proofs.WrittenForms.{written_is}
+use Rattle.write_pages.specs.Fits.{is_flat_path}
+use Rattle.write_pages.specs.Holds.{encoding_view, rows_of, written_encoding}
 use Rattle.write_pages.specs.Rule.{page_limit}
 use Rattle.write_pages.specs.declared.options.WriteOptions.{WriteOptions}
 use Rattle.write_groups.specs.Given.{IsPageOf}
-use Rattle.write_groups.specs.Laid.{ColumnsAreLaid, style_of}
+use Rattle.write_groups.specs.Laid.{ColumnsAreLaid, IsAskedFor, style_of}
 
 -- ---- pieces of what is made row by row
 
@@ -63,9 +69,53 @@ no_entries t p es e = subst (λ (x : Option (List Value)). AreStoredEntries t p 
 seen_rows : (w : Way) (i : ℕ) (rows : List Slots) → column (thin w) (map (λ row. along w (slot_at row i)) rows) ≡ column (in_struct false i w) (map fields rows)
 seen_rows w i rows = ap (column (thin w)) (sym (map_twice (along w) (λ row. slot_at row i) rows)) ∙ (seen_along w (field_slots i rows) ∙ sym (own_columns i w rows))
 
+-- ---- the encoding
+
+flat_parts : (parts : List Part) (n : Bool) → IsInBounds parts → path_way parts ≡ at_leaf n → is_flat_path parts ≡ true
+flat_parts [] n h e = absurd (omega (arith, h.some))
+flat_parts (leaf_part b m k ∷ []) n h e = refl
+flat_parts (leaf_part b m k ∷ q ∷ qs) n h e = absurd (omega (arith, h.fits.0.1))
+flat_parts (list_part b m os ∷ qs) n h e = absurd cc
+flat_parts (struct_part b m k ∷ qs) n h e = absurd cc
+
+alone_parts : (parts : List Part) (w : Way) → IsInBounds parts → path_way parts ≡ thin w → is_alone w ≡ true → is_flat_path parts ≡ true
+alone_parts parts (at_leaf n) h e q = flat_parts parts n h e
+alone_parts parts (in_list n w) h e q = absurd (true≢false (sym q))
+alone_parts parts (in_struct n i w) h e q = absurd (true≢false (sym q))
+
+viewed : (x : Encoding) → encoding_view (encoding_name x) ≡ Some x
+viewed plain = refl
+viewed dictionary = refl
+viewed delta = refl
+viewed delta_length = refl
+
+both_plain : (b : Bool) → cond b (encoding_view (encoding_name plain)) (Some plain) ≡ Some plain
+both_plain true = refl
+both_plain false = refl
+
+or_that : Encoding → Option Encoding → Encoding
+or_that d None = d
+or_that d (Some x) = x
+
+same_encoding : (x y : Encoding) → ◌≡◌ {A = Option Encoding} (Some x) (Some y) → x ≡ y
+unfolding or_that
+same_encoding x y e = ap (or_that x) e
+
+asked_is : (c : ArrowColumn) (e : RustEncoding) (x : Encoding) (parts : List Part) (t : LeafType) (i : ℕ) (w : Way) → IsAskedFor c e x → t ≡ leaf_type c.data_type → c.way ≡ in_struct false i w → path_way parts ≡ thin w → IsInBounds parts → written_encoding t parts e ≡ Some x
+asked_is c e x parts t i w h kind way seen well = written_is t parts e x (λ n. h.nulls (sym kind ∙ n)) (λ n. by_way (is_alone w) refl)
+  where
+    alone : is_flat c ≡ is_alone w
+    alone = ap (λ (v : Way). is_flat (record { way = v; limits = c.limits; data_type = c.data_type })) way
+
+    by_way : (b : Bool) → is_alone w ≡ b → cond (is_flat_path parts) (encoding_view e) (Some plain) ≡ Some x
+    by_way true q = ap (λ (k : Bool). cond k (encoding_view e) (Some plain)) (alone_parts parts w well seen q) ∙ (ap encoding_view h.asked ∙ viewed x)
+    by_way false q =
+        let none : x ≡ plain = h.nested (alone ∙ q) in
+        ap (λ (k : RustEncoding). cond (is_flat_path parts) (encoding_view k) (Some plain)) (h.asked ∙ ap encoding_name none) ∙ (both_plain (is_flat_path parts) ∙ ap Some (sym none))
+
 -- The chunk that a column is, is laid out as the rows of the schema are to be.
 pub laid : ColumnsAreLaid
-laid o node parts a e g version l chunk c i w rows h s k way kind =
+laid o node parts a e g version l chunk c i w rows x ask h s k way kind =
     let t = h.type_ in
     let p = h.pages in
     let f : Slots → Slot = λ row. along w (slot_at row i) in
@@ -83,12 +133,13 @@ laid o node parts a e g version l chunk c i w rows h s k way kind =
     let asked : cut (map fields rows) (Some (rows_per_page limit (plain_length l.physical (values_in p.stored)) (length (map fields rows)))) ≡ map (map fields) (cut rows (Some n)) =
     (λ j. cut (map fields rows) (Some (rows_per_page limit (plain_length (physical j) (values_in p.stored)) (sym count j)))) ∙ cut_map fields n rows in
     let wanted : g.options.write_statistics ≡ o.write_statistics = ap (λ (x : WriteOptions). x.write_statistics) p.options in
-    let one : (q : List Slots) (x : OutPage) → IsPageOf g.options.write_statistics g.type g.physical g.way (map f q) x → IsPageOfRows (style_of o) plain (record { arrow = c; physical = l.physical; entries = None }) (map fields q) x = λ q x z. record {
-      triples = subst (λ (y : LeafType). AreStored y l.physical (column c.way (map fields q)) x.triples) type_is
-          (subst (λ (y : Physical). AreStored g.type y (column c.way (map fields q)) x.triples) (sym k.leaf.physical)
-          (subst (λ (ts : List Triple). AreStored g.type g.physical ts x.triples) (column_is q) z.triples));
-      encoding = z.encoding;
-      statistics = statistics_moved g.options.write_statistics o.write_statistics g.type (leaf_type c.data_type) g.physical l.physical x.statistics (column g.way (map f q)) (column c.way (map fields q)) wanted type_is (sym k.leaf.physical) (column_is q) z.statistics;
+    let encoding_is : g.encoding ≡ x = same_encoding g.encoding x (sym p.encoding ∙ asked_is c e x parts (leaf_type (type_of a)) i w ask kind way s.way s.in_bounds) in
+    let one : (q : List Slots) (y : OutPage) → IsPageOf g.options.write_statistics g.encoding g.type g.physical g.way (map f q) y → IsPageOfRows (style_of o) x (record { arrow = c; physical = l.physical; entries = None }) (map fields q) y = λ q y z. record {
+      triples = subst (λ (v : LeafType). AreStored v l.physical (column c.way (map fields q)) y.triples) type_is
+          (subst (λ (v : Physical). AreStored g.type v (column c.way (map fields q)) y.triples) (sym k.leaf.physical)
+          (subst (λ (ts : List Triple). AreStored g.type g.physical ts y.triples) (column_is q) z.triples));
+      encoding = z.encoding ∙ encoding_is;
+      statistics = statistics_moved g.options.write_statistics o.write_statistics g.type (leaf_type c.data_type) g.physical l.physical y.statistics (column g.way (map f q)) (column c.way (map fields q)) wanted type_is (sym k.leaf.physical) (column_is q) z.statistics;
     } in
     record {
       stored = p.stored;
@@ -96,8 +147,8 @@ laid o node parts a e g version l chunk c i w rows h s k way kind =
           (subst (λ (y : Physical). AreStored (leaf_type (type_of a)) y (column c.way (map fields rows)) p.stored) (sym physical)
           (subst (λ (ts : List Triple). AreStored (leaf_type (type_of a)) (physical_view t.physical_type) ts p.stored) all p.are_stored));
       entries = no_entries (leaf_type c.data_type) l.physical chunk.entries k.entries;
-      pages = subst (λ (ps : List (List Slot)). AllZip (IsPageOfRows (style_of o) plain (record { arrow = c; physical = l.physical; entries = None })) ps chunk.pages) (sym asked)
-          (zip_maps (IsPageOf g.options.write_statistics g.type g.physical g.way) (IsPageOfRows (style_of o) plain (record { arrow = c; physical = l.physical; entries = None })) f fields (cut rows (Some n)) chunk.pages one
-          (subst (λ (ps : List (List Slot)). AllZip (IsPageOf g.options.write_statistics g.type g.physical g.way) ps chunk.pages) given k.pages));
+      pages = subst (λ (ps : List (List Slot)). AllZip (IsPageOfRows (style_of o) x (record { arrow = c; physical = l.physical; entries = None })) ps chunk.pages) (sym asked)
+          (zip_maps (IsPageOf g.options.write_statistics g.encoding g.type g.physical g.way) (IsPageOfRows (style_of o) x (record { arrow = c; physical = l.physical; entries = None })) f fields (cut rows (Some n)) chunk.pages one
+          (subst (λ (ps : List (List Slot)). AllZip (IsPageOf g.options.write_statistics g.encoding g.type g.physical g.way) ps chunk.pages) given k.pages));
       statistics = statistics_moved g.options.write_statistics o.write_statistics g.type (leaf_type c.data_type) g.physical l.physical chunk.statistics (column g.way g.rows) (column c.way (map fields rows)) wanted type_is (sym k.leaf.physical) (ap (column g.way) (p.rows ∙ here) ∙ column_is rows) k.statistics;
     }

@@ -11,3 +11,4 @@ mod Same
 mod Laid
 mod FieldLaid
 mod GroupLaid
+mod Chosen

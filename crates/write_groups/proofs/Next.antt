@@ -8,7 +8,7 @@ use Rattle.shredding.specs.Shred.{Triple, column}
 use Rattle.shredding.specs.Slot.{Slot, Value}
 use Rattle.columns_base.specs.declared.error.Error.{Error}
 use Rattle.pq_files.specs.Layout.{OutPage, OutChunk}
-use Rattle.pq_files.specs.Page.{Encoding, plain}
+use Rattle.pq_files.specs.Page.{Encoding, plain, dictionary, delta, delta_length}
 use Rattle.pq_files.specs.Reasons.{AnyOf}
 use Rattle.pq_files.specs.Stored.{AreStored, IsStored}
 use Rattle.page_statistics.proofs.Unique.{statistics_are_unique}
@@ -21,6 +21,8 @@ use Rattle.pq_tree.specs.declared.version.Version.{Version}
 use Rattle.write_file.specs.Pages.{GivesNext, IsGiven}
 use Rattle.write_pages.specs.Holds.{HoldsRows, PageState, ToGive, to_give, later}
 use Rattle.write_pages.specs.Refused.{Gives, IsPastRoom}
+use Rattle.write_values.specs.Deltas.{encoding_name}
+use Rattle.write_file.specs.Pages.{encoding_view}
 use Rattle.write_groups.specs.Given.{GivesChunk, GivesColumn, IsPageOf, RefusesColumn, to_come}
 use Rattle.write_groups.specs.declared.column.ChunkColumn.{ChunkColumn}
 
@@ -42,7 +44,7 @@ one_once t p once v s r h k =
     ap (first_or s) (once (single (Some v)) (single (Some s)) (single (Some r)) (record { repetition = refl; definition = refl; value = h }, tt) (record { repetition = refl; definition = refl; value = k }, tt))
 
 -- the page holds the rows of the first piece, so it is the first page of the chunk
-is_given : (g : ToGive) (piece : List Slot) (o : OutPage) (page : DataPageValue) (version : Version) (l : Leaf) (c : OutChunk) → GivesChunk version l c g → IsPageOf g.options.write_statistics g.type g.physical g.way piece o → HoldsRows g.options plain g.type g.node g.physical g.way piece page → IsGiven version l o page
+is_given : (g : ToGive) (piece : List Slot) (o : OutPage) (page : DataPageValue) (version : Version) (l : Leaf) (c : OutChunk) → GivesChunk version l c g → IsPageOf g.options.write_statistics g.encoding g.type g.physical g.way piece o → HoldsRows g.options g.encoding g.type g.node g.physical g.way piece page → IsGiven version l o page
 is_given g piece o page version l c k h r =
     let triples = k.once (column g.way piece) r.out.triples o.triples r.triples h.triples in
     let encoding = r.encoding ∙ sym h.encoding in
@@ -54,7 +56,7 @@ is_given g piece o page version l c k h r =
       fits = r.denotes.fits;
     }
 
-given_next : (s : ChunkColumn) (now : PageState) (page : DataPageValue) (version : Version) (l : Leaf) (c : OutChunk) (piece : List Slot) (rest : List (List Slot)) → (to_come s).pieces ≡ piece ∷ rest → to_give now ≡ later (to_come s) rest → HoldsRows (to_come s).options plain (to_come s).type (to_come s).node (to_come s).physical (to_come s).way piece page → GivesColumn s version l c → (ps : List OutPage) → c.pages ≡ ps → AllZip (IsPageOf (to_come s).options.write_statistics (to_come s).type (to_come s).physical (to_come s).way) (piece ∷ rest) ps → GivesNext GivesColumn version l c (Some (Ok page)) (record s { pages = now })
+given_next : (s : ChunkColumn) (now : PageState) (page : DataPageValue) (version : Version) (l : Leaf) (c : OutChunk) (piece : List Slot) (rest : List (List Slot)) → (to_come s).pieces ≡ piece ∷ rest → to_give now ≡ later (to_come s) rest → HoldsRows (to_come s).options (to_come s).encoding (to_come s).type (to_come s).node (to_come s).physical (to_come s).way piece page → GivesColumn s version l c → (ps : List OutPage) → c.pages ≡ ps → AllZip (IsPageOf (to_come s).options.write_statistics (to_come s).encoding (to_come s).type (to_come s).physical (to_come s).way) (piece ∷ rest) ps → GivesNext GivesColumn version l c (Some (Ok page)) (record s { pages = now })
 given_next s now page version l c piece rest a b r h [] e z = absurd z
 given_next s now page version l c piece rest a b r h (o ∷ os) e z =
     let k = h.1 in
@@ -78,7 +80,7 @@ given_next s now page version l c piece rest a b r h (o ∷ os) e z =
 
 pub next_given : (s : ChunkColumn) (now : PageState) (page : DataPageValue) (version : Version) (l : Leaf) (c : OutChunk) → Gives (to_come s) (to_give now) (Some (Ok (Data page))) → GivesColumn s version l c → GivesNext GivesColumn version l c (Some (Ok page)) (record s { pages = now })
 next_given s now page version l c h k =
-    given_next s now page version l c h.0 h.1 h.2 h.3 h.4 k c.pages refl (subst (λ (ps : List (List Slot)). AllZip (IsPageOf (to_come s).options.write_statistics (to_come s).type (to_come s).physical (to_come s).way) ps c.pages) h.2 k.1.pages)
+    given_next s now page version l c h.0 h.1 h.2 h.3 h.4 k c.pages refl (subst (λ (ps : List (List Slot)). AllZip (IsPageOf (to_come s).options.write_statistics (to_come s).encoding (to_come s).type (to_come s).physical (to_come s).way) ps c.pages) h.2 k.1.pages)
 
 -- what refuses one of the pages that are left
 pub next_refused : (s : ChunkColumn) (now : PageState) (page : DataPageValue) (e : Error) → Gives (to_come s) (to_give now) (Some (Ok (Data page))) → RefusesColumn (record s { pages = now }) e → RefusesColumn s e
@@ -87,13 +89,20 @@ next_refused s now page e h (inr r) =
     let past : ToGive → List Slot → Type 0 = λ g piece. IsPastRoom g.type g.physical (column g.way piece) in
     inr (r.0, subst (λ (ps : List (List Slot)). AnyOf (past (to_come s)) ps) (sym h.2) (inr (subst (λ (g : ToGive). AnyOf (past g) g.pieces) h.3 r.1)))
 
--- ---- all pages are plain
+-- ---- all pages are in one encoding
 
-each_plain : (b : Bool) (t : LeafType) (p : Physical) (w : Way) (pieces : List (List Slot)) (ps : List OutPage) → AllZip (IsPageOf b t p w) pieces ps → Each (λ (o : OutPage). ◌≡◌ {A = Option Encoding} (Some plain) (Some o.encoding)) ps
-each_plain b t p w [] [] h = tt
-each_plain b t p w [] (o ∷ ps) h = absurd h
-each_plain b t p w (x ∷ xs) [] h = absurd h
-each_plain b t p w (x ∷ xs) (o ∷ ps) h = (ap (λ (e : Encoding). Some e) (sym h.0.encoding), each_plain b t p w xs ps h.1)
+-- the encodings of data pages without dictionaries, as a chunk states them
+name_is : (x : Encoding) → encoding_view (encoding_name x) ≡ Some x
+name_is plain = refl
+name_is dictionary = refl
+name_is delta = refl
+name_is delta_length = refl
 
-pub all_plain : (b : Bool) (t : LeafType) (p : Physical) (w : Way) (pieces : List (List Slot)) (ps : List OutPage) → AllZip (IsPageOf b t p w) pieces ps → All (λ (o : OutPage). ◌≡◌ {A = Option Encoding} (Some plain) (Some o.encoding)) ps
-all_plain b t p w pieces ps h = All-from_recursion (λ (o : OutPage). ◌≡◌ {A = Option Encoding} (Some plain) (Some o.encoding)) ps (each_plain b t p w pieces ps h)
+each_so : (b : Bool) (x : Encoding) (t : LeafType) (p : Physical) (w : Way) (pieces : List (List Slot)) (ps : List OutPage) → AllZip (IsPageOf b x t p w) pieces ps → Each (λ (o : OutPage). encoding_view (encoding_name x) ≡ Some o.encoding) ps
+each_so b x t p w [] [] h = tt
+each_so b x t p w [] (o ∷ ps) h = absurd h
+each_so b x t p w (q ∷ qs) [] h = absurd h
+each_so b x t p w (q ∷ qs) (o ∷ ps) h = (name_is x ∙ ap (λ (e : Encoding). Some e) (sym h.0.encoding), each_so b x t p w qs ps h.1)
+
+pub all_so : (b : Bool) (x : Encoding) (t : LeafType) (p : Physical) (w : Way) (pieces : List (List Slot)) (ps : List OutPage) → AllZip (IsPageOf b x t p w) pieces ps → All (λ (o : OutPage). encoding_view (encoding_name x) ≡ Some o.encoding) ps
+all_so b x t p w pieces ps h = All-from_recursion (λ (o : OutPage). encoding_view (encoding_name x) ≡ Some o.encoding) ps (each_so b x t p w pieces ps h)

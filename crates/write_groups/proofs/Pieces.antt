@@ -11,7 +11,7 @@ use Rattle.shredding.specs.Shape.{LeafType}
 use Rattle.shredding.specs.Shred.{Triple, column, shred}
 use Rattle.shredding.specs.Slot.{Slot}
 use Rattle.pq_files.specs.Layout.{OutPage}
-use Rattle.pq_files.specs.Page.{plain, rows_in}
+use Rattle.pq_files.specs.Page.{rows_in}
 use Rattle.pq_files.specs.Stored.{AreStored, IsStoredTriple}
 use Rattle.pq_tree.specs.Physical.{Physical}
 use Rattle.page_statistics.proofs.Exist.{statistics_exist}
@@ -51,7 +51,7 @@ some_pieces n (r ∷ rows) h = omega arith
 
 pub record Paged (g : ToGive) (ps : List (List Slot)) (stored : List Triple) : Type 0 where
   pub pages : List OutPage
-  pub are : AllZip (IsPageOf g.options.write_statistics g.type g.physical g.way) ps pages
+  pub are : AllZip (IsPageOf g.options.write_statistics g.encoding g.type g.physical g.way) ps pages
   pub whole : flat_map (λ (o : OutPage). o.triples) pages ≡ stored
 
 page_some : (g : ToGive) (p : List Slot) (ts : List Triple) → 0 < length p → AreStored g.type g.physical (column g.way p) ts → 0 < length ts
@@ -67,7 +67,7 @@ paged g (p ∷ ps) stored e h =
     let st = statistics_exist g.options.write_statistics g.type g.physical (column g.way p) two.0 two.3 in
     let rest = paged g ps two.1 e.1 two.4 in
     record {
-      pages = record { triples = two.0; encoding = plain; statistics = st.0 } ∷ rest.pages;
+      pages = record { triples = two.0; encoding = g.encoding; statistics = st.0 } ∷ rest.pages;
       are = (record { triples = two.3; encoding = refl; statistics = st.1; exact = st.2; some = page_some g p two.0 e.0 two.3 }, rest.are);
       whole = ap (λ (xs : List Triple). two.0 ++ xs) rest.whole ∙ sym two.2;
     }

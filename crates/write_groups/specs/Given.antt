@@ -11,7 +11,7 @@ use Rattle.pq_tree.specs.Physical.{Physical}
 use Rattle.pq_tree.specs.Tree.{Leaf}
 use Rattle.pq_tree.specs.declared.version.Version.{Version}
 use Rattle.pq_files.specs.Layout.{OutPage, OutChunk}
-use Rattle.pq_files.specs.Page.{plain, values_in}
+use Rattle.pq_files.specs.Page.{Encoding, values_in}
 use Rattle.pq_files.specs.Reasons.{AnyOf}
 use Rattle.pq_files.specs.Room.{max_count}
 use Rattle.pq_files.specs.Statistics.{HasStatistics}
@@ -23,10 +23,10 @@ use Rattle.write_groups.specs.declared.column.ChunkColumn.{ChunkColumn}
 use Rattle.write_pages.specs.Holds.{PageState, ToGive, to_give}
 use Rattle.write_pages.specs.Refused.{IsPastRoom}
 
--- the page of a piece of rows: their stored values, plain, and their statistics exactly where they are wanted
-pub record IsPageOf (wanted : Bool) (t : LeafType) (p : Physical) (w : Way) (piece : List Slot) (o : OutPage) : Type 0 where
+-- the page of a piece of rows: their stored values, in the encoding, and their statistics exactly where they are wanted
+pub record IsPageOf (wanted : Bool) (e : Encoding) (t : LeafType) (p : Physical) (w : Way) (piece : List Slot) (o : OutPage) : Type 0 where
   pub triples : AreStored t p (column w piece) o.triples
-  pub encoding : o.encoding ≡ plain
+  pub encoding : o.encoding ≡ e
   pub statistics : HasStatistics wanted t p o.statistics (column w piece) (values_in (column w piece))
   pub exact : IsExact t p (values_in (column w piece)) o.statistics
   pub some : 0 < length o.triples
@@ -39,7 +39,7 @@ pub record GivesChunk (version : Version) (l : Leaf) (c : OutChunk) (g : ToGive)
   pub once : (xs ys zs : List Triple) → AreStored g.type g.physical xs ys → AreStored g.type g.physical xs zs → ys ≡ zs
   pub entries : c.entries ≡ None
   pub statistics : HasStatistics g.options.write_statistics g.type g.physical c.statistics (column g.way g.rows) (values_in (column g.way g.rows))
-  pub pages : AllZip (IsPageOf g.options.write_statistics g.type g.physical g.way) g.pieces c.pages
+  pub pages : AllZip (IsPageOf g.options.write_statistics g.encoding g.type g.physical g.way) g.pieces c.pages
 
 -- a column of these pages
 abbrev pub column_of : PageState → ChunkColumn

@@ -8,7 +8,7 @@ use pq_tree::{Encoding, Statistics};
 use write_file::ChunkPages;
 use write_pages::PageIter;
 
-/// The pages of a column, plain and without a dictionary. After an error it gives nothing.
+/// The pages of a column, without a dictionary. After an error it gives nothing.
 #[derive(Drop)]
 pub struct ChunkColumn {
     pub pages: PageIter,
@@ -63,7 +63,7 @@ impl ChunkPages for ChunkColumn {
     }
 
     fn encoding(&self) -> Encoding {
-        Encoding::Plain
+        self.pages.encoding()
     }
 
     fn statistics(&self) -> &Option<Statistics> {

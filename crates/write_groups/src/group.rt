@@ -109,7 +109,7 @@ fn are_so_many(chunk: &Chunk, encodings: &Vec<Vec<Encoding>>, fields: &Vec<Parqu
 /// - `InvalidArgumentError(A8)`: the numbers of arrays, lists of encodings and trees differ; an array and its tree do not go together (as
 ///   `array_to_columns` says), or its encodings are not as many as its leaves.
 /// - `NotYetImplemented(N7)`: a tree nests past 128.
-/// - `NotYetImplemented(N4)`: a flat column in another encoding than PLAIN.
+/// - `NotYetImplemented(N4)`: a flat column in another encoding than PLAIN and the deltas that its type may have.
 /// - `NotYetImplemented(N5)`: values of a leaf's type are not written.
 /// - `Memory`: memory ran out.
 pub fn row_group_iter(

@@ -3,7 +3,7 @@ ghost use Rattle.write_groups.specs.Laid.{ColumnsAreLaid, FieldsAreLaid, GroupsA
 
 use typed_arrays::{typed_columns_are_own, typed_slots_are_read};
 
-/// The chunk that a column gives is laid out as the rows of the schema are to be, plain and by the row rule.
+/// The chunk that a column gives is laid out as the rows of the schema are to be, in the encoding that is asked for and by the row rule.
 pub fn columns_are_laid()
     ensures { ColumnsAreLaid }
 {}

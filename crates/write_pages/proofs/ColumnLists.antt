@@ -46,7 +46,7 @@ module _ (o : WriteOptions) (types : List PrimitiveType) (paths : List (Vec Nest
   pub refused_here : (x : Error) → RefusesColumn o (leaf_node type_) (parts_of path.items) (boxed array.now) e x → AnyRefused o (map leaf_node (drop i types)) (all_parts (drop i paths)) (shown (drop i arrays)) (drop i es) x
   refused_here x h = refused x (inl h)
 
-pub is_column : (o : WriteOptions) (other type_ : PrimitiveType) (parts : List Part) (a : ArrayTree) (e : Encoding) (old new : List PageState) (s : PageState) → leaf_view other ≡ leaf_view type_ → new ≡ old ++ (s ∷ []) → AreWritten o other parts a e → IsPagesOf o other parts a (to_give s) → PushesColumn o type_ parts a e old new
+pub is_column : (o : WriteOptions) (other type_ : PrimitiveType) (parts : List Part) (a : ArrayTree) (e : Encoding) (old new : List PageState) (s : PageState) → leaf_view other ≡ leaf_view type_ → new ≡ old ++ (s ∷ []) → AreWritten o other parts a e → IsPagesOf o other parts a e (to_give s) → PushesColumn o type_ parts a e old new
 is_column o other type_ parts a e old new s q p w h = record {
   pages = s;
   pushed = p;

@@ -7,3 +7,4 @@ pub mod PageTable
 pub mod PiecesLeft
 pub mod RowRule
 pub mod StoredOnce
+pub mod WrittenForms

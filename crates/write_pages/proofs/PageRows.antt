@@ -1,7 +1,7 @@
 -- What a page of a path holds of the rows of its array.
-use Rattle.std.proofs.Common.{◌≡◌, ◌≢◌, ◌⊎◌, ◌↔◌, ◌<◌, cond, ◌-◌, ◌^◌, ℕ, min, Bool, true, false, Option, Some, suc, List, [], ◌∷◌, length, refl, sym, ap, subst, ◌∙◌, inl, inr}
+use Rattle.std.proofs.Common.{◌≡◌, ◌⊎◌, ◌↔◌, ◌<◌, ◌-◌, ◌^◌, ℕ, min, Bool, true, Option, suc, List, [], ◌∷◌, length, refl, sym, ap, subst, ◌∙◌, inl, inr}
 use Rattle.std.specs.Prelude.{Result, Ok, Err, IfOk}
-use Rattle.shredding.specs.Parts.{Part, path_way, path_slots}
+use Rattle.shredding.specs.Parts.{path_way, path_slots}
 use Rattle.shredding.specs.Shred.{Triple, column}
 use Rattle.shredding.specs.Slot.{Slot, Value}
 use Rattle.std.specs.List.{AllZip}
@@ -20,11 +20,9 @@ use Rattle.pq_tree.specs.Footers.{ChunkStatistics}
 use Rattle.pq_tree.specs.Physical.{Physical}
 use Rattle.pq_tree.specs.Reads.{ComesWhere}
 use Rattle.pq_tree.specs.TreeViews.{leaf_view}
-use Rattle.pq_tree.specs.declared.types.Encoding.{Encoding as RustEncoding}
-use Rattle.pq_tree.specs.declared.types.Encoding.TheVariants as E
 use Rattle.pq_tree.specs.declared.types.PrimitiveType.{PrimitiveType}
 use Rattle.pq_files.specs.Layout.{plain_length}
-use Rattle.pq_files.specs.Page.{plain, values_in}
+use Rattle.pq_files.specs.Page.{values_in}
 use Rattle.pq_files.specs.Room.{room, max_size}
 use Rattle.pq_files.specs.Statistics.{HasStatistics}
 use Rattle.pq_files.specs.Stored.{IsStoredTriple, AreStored}
@@ -32,16 +30,23 @@ use Rattle.pq_pages.specs.DataPages.{DataPageValue}
 use Rattle.write_places.specs.Places.{path_places}
 use Rattle.write_places.proofs.Values.{values_are_at_places}
 use Rattle.write_values.specs.declared.measured.Measured.{Measured}
-use Rattle.write_values.specs.Pages.{IsPlainPage, column_room, plain_out, stored_column, value_column}
+use Rattle.write_values.specs.Pages.{IsColumnPage, column_room, out_page, stored_column, value_column}
+use Rattle.write_values.specs.declared.page.PageForm.{PageForm}
+use Rattle.write_values.specs.Deltas.{page_encoding}
 use Rattle.write_values.specs.Rows.{Measures}
 use Rattle.write_values.specs.Served.{is_served}
 use Rattle.write_values.specs.Stored.{stored_at}
 use Rattle.write_values.proofs.ServedColumns.{column_stored, slots_are_values}
 use Rattle.write_pages.specs.declared.options.WriteOptions.{WriteOptions}
-use Rattle.write_pages.specs.Holds.{HoldsRows, encoding_view, is_flat_path, written_encoding}
-use Rattle.write_pages.specs.Refused.{IsPastRoom, IsUnwritten}
+use Rattle.write_pages.specs.Fits.{is_flat_path}
+use Rattle.write_pages.specs.Holds.{HoldsRows}
+use Rattle.write_pages.specs.Refused.{IsPastRoom}
 use Rattle.write_pages.specs.Sized.{AreMeasured}
 use Rattle.write_pages.proofs.StoredOnce.{stored_once}
+
+-- the form of the pages that are asked for
+abbrev pub form_of : WriteOptions → Bool → PageForm
+form_of o with_deltas = record { version = o.version; with_statistics = o.write_statistics; with_deltas = with_deltas }
 
 pub each_ok : {A : Type 0} (r : Result A Error) (P Q : A → Type 0) → ((x : A) → P x → Q x) → IfOk r P → IfOk r Q
 each_ok (Ok x) P Q f h = f x h
@@ -66,10 +71,10 @@ module _ (a : ArrayTree) (p : Physical) (nested : List Nested) (s : IsSound a) (
   pub rows_stored : AreStored (leaf_type (type_of a)) p (value_column a nested) (stored_column a p nested) → AreStored (leaf_type (type_of a)) p ts (stored_column a p nested)
   rows_stored h = subst (λ (xs : List Triple). AreStored (leaf_type (type_of a)) p xs (stored_column a p nested)) column_is h
 
-  pub holds_rows : (o : WriteOptions) (type_ : PrimitiveType) (page : DataPageValue) → AreStored (leaf_type (type_of a)) p (value_column a nested) (stored_column a p nested) → IsPlainPage o.version o.write_statistics a p type_ nested page
-      → HoldsRows o plain (leaf_type (type_of a)) (leaf_view type_) p (path_way (parts_of nested)) (path_slots (leaf_slot a) (parts_of nested)) page
-  holds_rows o type_ page are h = record {
-    out = plain_out (stored_column a p nested) h.statistics;
+  pub holds_rows : (o : WriteOptions) (with_deltas : Bool) (type_ : PrimitiveType) (page : DataPageValue) → AreStored (leaf_type (type_of a)) p (value_column a nested) (stored_column a p nested) → IsColumnPage (form_of o with_deltas) a p type_ nested page
+      → HoldsRows o (page_encoding with_deltas (leaf_type (type_of a)) p) (leaf_type (type_of a)) (leaf_view type_) p (path_way (parts_of nested)) (path_slots (leaf_slot a) (parts_of nested)) page
+  holds_rows o with_deltas type_ page are h = record {
+    out = out_page (page_encoding with_deltas (leaf_type (type_of a)) p) (stored_column a p nested) h.statistics;
     denotes = h.denotes;
     triples = rows_stored are;
     encoding = refl;
@@ -103,7 +108,7 @@ module _ (a : ArrayTree) (p : Physical) (nested : List Nested) (s : IsSound a) (
   pub is_past_room : AreStored (leaf_type (type_of a)) p (value_column a nested) (stored_column a p nested) → IsPastRoom (leaf_type (type_of a)) p ts → max_size < column_room p (stored_column a p nested)
   is_past_room are h =
       let all = rows_stored are in
-      let same : h.0 ≡ stored_column a p nested = stored_once (leaf_type (type_of a)) (base (type_of a)) p ts h.0 (stored_column a p nested) e h.1 all in
+      let same : h.0 ≡ stored_column a p nested = stored_once (type_of a) p ts h.0 (stored_column a p nested) e h.1 all in
       subst (λ (n : ℕ). max_size < room n (plain_length p (values_in (stored_column a p nested)))) (length_is (stored_column a p nested) all)
       (subst (λ (xs : List Triple). max_size < room (length ts) (plain_length p (values_in xs))) same h.2)
 
@@ -114,21 +119,3 @@ module _ (a : ArrayTree) (p : Physical) (nested : List Nested) (s : IsSound a) (
     are_stored = rows_stored (column_stored a p nested s e h.within);
     bytes = h.plain ∙ ap (λ (vs : List Value). min (plain_length p vs) (2 ^ 128 - 1)) (sym (values_are_at_places (stored_at a p) nested));
   }
-
--- a flat path in another encoding than PLAIN is not written
-pub written_plain : (parts : List Part) (e : RustEncoding) → ¬ IsUnwritten parts e → written_encoding parts e ≡ Some plain
-written_plain parts e h = by_path (is_flat_path parts) refl
-  where
-    by_name : (e : RustEncoding) → ¬ (e ≢ E.Plain) → encoding_view e ≡ Some plain
-    by_name E.Plain h = refl
-    by_name E.PlainDictionary h = absurd (h (λ q. cc))
-    by_name E.Rle h = absurd (h (λ q. cc))
-    by_name E.BitPacked h = absurd (h (λ q. cc))
-    by_name E.DeltaBinaryPacked h = absurd (h (λ q. cc))
-    by_name E.DeltaLengthByteArray h = absurd (h (λ q. cc))
-    by_name E.DeltaByteArray h = absurd (h (λ q. cc))
-    by_name E.RleDictionary h = absurd (h (λ q. cc))
-
-    by_path : (b : Bool) → is_flat_path parts ≡ b → cond b (encoding_view e) (Some plain) ≡ Some plain
-    by_path false q = refl
-    by_path true q = by_name e (λ n. h (q, n))

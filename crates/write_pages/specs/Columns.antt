@@ -21,7 +21,7 @@ pub record IsColumn (o : WriteOptions) (node : LeafNode) (parts : List Part) (a 
   pub type_ : PrimitiveType
   pub is : leaf_node type_ ≡ node
   pub written : AreWritten o type_ parts a e
-  pub pages : IsPagesOf o type_ parts a g
+  pub pages : IsPagesOf o type_ parts a e g
 
 -- one column for each leaf, path, leaf array and encoding, in order
 abbrev pub AreColumns : WriteOptions → List LeafNode → List (List Part) → List ArrayTree → List Encoding → List ToGive → Type 0

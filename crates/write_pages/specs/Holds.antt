@@ -1,8 +1,8 @@
 -- What a page holds of an array's rows (Parquet format, "Data Pages", "Nested Encoding").
-use Rattle.std.specs.Prelude.{◌≡◌, ℕ, ◌≤◌, pos, Bool, true, false, Option, Some, None, List, [], length, drop, nat_eq, cond}
+use Rattle.std.specs.Prelude.{◌≡◌, ℕ, ◌≤◌, pos, Bool, true, false, Option, Some, None, List, [], length, drop, cond, ◌&&◌}
 use Rattle.shredding.specs.Cut.{cut}
 use Rattle.shredding.specs.Parts.{Part, path_way}
-use Rattle.shredding.specs.Shape.{LeafType, Way}
+use Rattle.shredding.specs.Shape.{LeafType, nothing, Way}
 use Rattle.shredding.specs.Shred.{Triple, column, max_repetition, max_definition}
 use Rattle.shredding.specs.Slot.{Slot}
 use Rattle.columns_core.specs.Shapes.{leaf_type}
@@ -27,7 +27,9 @@ use Rattle.page_statistics.specs.Spelled.{IsExact}
 use Rattle.page_statistics.specs.Stated.{AreStated}
 use Rattle.pq_pages.specs.DataPages.{DataPageValue}
 use Rattle.pq_pages.specs.Denotes.{Denotes}
+use Rattle.write_values.specs.Deltas.{page_encoding}
 use Rattle.write_pages.specs.declared.options.WriteOptions.{WriteOptions}
+use Rattle.write_pages.specs.Fits.{is_flat_path}
 use Rattle.write_pages.specs.Rule.{pieces_by_rule}
 
 -- the encodings of pages, by the names that a writer is asked for
@@ -39,13 +41,19 @@ encoding_view E.DeltaBinaryPacked = Some delta
 encoding_view E.DeltaLengthByteArray = Some delta_length
 encoding_view e = None
 
--- a path of no more than its leaf
-abbrev pub is_flat_path : List Part → Bool
-is_flat_path parts = nat_eq (length parts) 1
+-- the encoding of a page: of a flat path the one that is asked for, of every other one PLAIN, and of nulls alone too
+abbrev pub written_encoding : LeafType → List Part → RustEncoding → Option Encoding
+written_encoding nothing parts e = Some plain
+written_encoding t parts e = cond (is_flat_path parts) (encoding_view e) (Some plain)
 
--- the encoding of a page: of a flat path the one that is asked for, of every other one PLAIN
-abbrev pub written_encoding : List Part → RustEncoding → Option Encoding
-written_encoding parts e = cond (is_flat_path parts) (encoding_view e) (Some plain)
+-- whether a page is to have the deltas of its type
+abbrev pub is_delta_encoding : RustEncoding → Bool
+is_delta_encoding E.DeltaBinaryPacked = true
+is_delta_encoding E.DeltaLengthByteArray = true
+is_delta_encoding e = false
+
+abbrev pub wants_deltas : List Part → RustEncoding → Bool
+wants_deltas parts e = is_flat_path parts && is_delta_encoding e
 
 -- A page of some rows along a way, whose leaf is of the leaf type and of this node and physical type. It denotes the rows' column, with the
 -- stored value of each value, in the encoding, within its room, and with statistics exactly where they are asked for, whose
@@ -66,10 +74,11 @@ pub record HoldsRows (o : WriteOptions) (e : Encoding) (t : LeafType) (node : Tr
 abbrev pub rows_of : List Part → ArrayTree → List Slot
 rows_of parts a = bounded_slots (leaf_slot a) parts
 
--- Pages that are still to be given: how, of which column with which rows in all, for each page the rows that it is to hold, and what is
--- stated of the whole column.
+-- Pages that are still to be given: how, in which encoding, of which column with which rows in all, for each page the rows that it is to hold,
+-- and what is stated of the whole column.
 pub record ToGive : Type 0 where
   pub options : WriteOptions
+  pub encoding : Encoding
   pub type : LeafType
   pub node : Tree
   pub physical : Physical
@@ -83,10 +92,11 @@ abbrev pub pieces_left : Bool → ℕ → ℕ → List Slot → List (List Slot)
 pieces_left true per_page next rows = []
 pieces_left false per_page next rows = cut (drop next rows) (Some per_page)
 
--- What an iterator over pages keeps: the array, its path, the next row, the rows of a page, whether it gave an error, and the
--- statistics of the column.
+-- What an iterator over pages keeps: whether pages have deltas, the array, its path, the next row, the rows of a page, whether it gave an error,
+-- and the statistics of the column.
 pub record PageState : Type 0 where
   pub options : WriteOptions
+  pub with_deltas : Bool
   pub type_ : PrimitiveType
   pub array : ArrayTree
   pub parts : List Part
@@ -100,6 +110,7 @@ abbrev pub to_give : PageState → ToGive
 to_give s =
     record {
       options = s.options;
+      encoding = page_encoding s.with_deltas (leaf_type (type_of s.array)) (physical_view s.type_.physical_type);
       type = leaf_type (type_of s.array);
       node = leaf_view s.type_;
       physical = physical_view s.type_.physical_type;
@@ -111,11 +122,13 @@ to_give s =
 
 -- without the first piece, and without any
 abbrev pub later : ToGive → List (List Slot) → ToGive
-later g pieces = record { options = g.options; type = g.type; node = g.node; physical = g.physical; way = g.way; rows = g.rows; pieces = pieces; statistics = g.statistics }
+later g pieces = record { options = g.options; encoding = g.encoding; type = g.type; node = g.node; physical = g.physical; way = g.way; rows = g.rows; pieces = pieces; statistics = g.statistics }
 
--- The pages of a column by the row rule: those of the rows of the path over the leaf array, whose statistics are stated.
-pub record IsPagesOf (o : WriteOptions) (type_ : PrimitiveType) (parts : List Part) (a : ArrayTree) (g : ToGive) : Type 0 where
+-- The pages of a column by the row rule: those of the rows of the path over the leaf array, in the encoding that is asked for where the path is
+-- flat. The statistics of all rows are stated.
+pub record IsPagesOf (o : WriteOptions) (type_ : PrimitiveType) (parts : List Part) (a : ArrayTree) (e : RustEncoding) (g : ToGive) : Type 0 where
   pub options : g.options ≡ o
+  pub encoding : written_encoding (leaf_type (type_of a)) parts e ≡ Some g.encoding
   pub type : g.type ≡ leaf_type (type_of a)
   pub node : g.node ≡ leaf_view type_
   pub physical : g.physical ≡ physical_view type_.physical_type

@@ -1,5 +1,5 @@
 //! Whether a column can be written: its path and type fit its array, and its pages are ones that are written.
-ghost use Rattle.std.specs.Prelude.{◌≡◌, ◌⊎◌, ◌↔◌, IsTrue, true, false, length, OnOk, IfErr};
+ghost use Rattle.std.specs.Prelude.{◌≡◌, ◌⊎◌, ◌↔◌, IsTrue, ℕ, true, false, length, OnOk, IfErr};
 ghost use Rattle.columns_base.specs.declared.error.Error.TheVariants.{InvalidArgumentError, NotYetImplemented};
 ghost use Rattle.columns_base.specs.declared.error.A.TheVariants.{A8};
 ghost use Rattle.columns_base.specs.declared.error.N.TheVariants.{N4, N5};
@@ -13,17 +13,19 @@ ghost use Rattle.nested_paths.specs.Nodes.{is_optional};
 ghost use Rattle.nested_paths.specs.PathLeaf.{is_leaf_optional, FitsLeaf};
 ghost use Rattle.pq_tree.specs.TreeViews.{leaf_view};
 ghost use Rattle.pq_tree.specs.Views.{physical_view};
-ghost use Rattle.pq_tree.specs.declared.types.Encoding.TheVariants as E;
+ghost use Rattle.pq_tree.specs.Physical.{fixed};
+ghost use Rattle.schema_to_tree.specs.Encodes.{encodes};
 ghost use Rattle.write_values.specs.Served.{is_served};
-ghost use Rattle.write_pages.specs.Fits.{FitsColumn, is_written};
-ghost use Rattle.write_pages.specs.Holds.{is_flat_path, rows_of};
+ghost use Rattle.write_pages.specs.Fits.{FitsColumn, is_flat_path, is_written_as, is_written_in, is_written_along, is_written_flat};
+ghost use Rattle.write_pages.specs.Holds.{is_delta_encoding, rows_of, wants_deltas};
 ghost use Rattle.write_pages.specs.Refused.{IsUnwritten};
 
 use columns_array::ArrayBox;
-use columns_core::{A, DataType, Error, N, Result};
+use columns_core::{A, DataType, Error, IntervalUnit, N, Result};
 use levels::{Nested, is_in_bounds};
 use nested_paths::fits_leaf;
 use pq_tree::{Encoding, PhysicalType, PrimitiveType, Repetition};
+use schema_to_tree::can_encode;
 use write_values::is_served;
 
 const MISFIT: Error = Error::InvalidArgumentError(A::A8);
@@ -34,43 +36,87 @@ fn is_flat(nested: &[Nested]) -> bool
     nested.len() == 1
 }
 
-fn is_plain(encoding: Encoding) -> bool
-    ensures { IsTrue result ↔ (encoding ≡ E.Plain) }
+fn is_fixed(physical_type: PhysicalType) -> bool
+    ensures { IsTrue result ↔ ((n : ℕ) × (physical_view physical_type ≡ fixed n)) }
 {
-    matches!(encoding, Encoding::Plain)
+    matches!(physical_type, PhysicalType::FixedLenByteArray(_))
 }
 
-// Whether pages are written so.
-fn is_unwritten(nested: &[Nested], encoding: Encoding) -> bool
-    ensures { IsTrue result ↔ IsUnwritten (parts_of nested.now) encoding }
+// Whether the deltas are ones that the type may have. Types that have some do not nest.
+fn allows_deltas(data_type: &DataType, encoding: Encoding) -> bool
+    requires { is_delta_encoding encoding ≡ true }
+    ensures { result ≡ encodes encoding (type_view data_type.now) }
 {
-    is_flat(nested) && !is_plain(encoding)
+    let base = data_type.base();
+    base.nests_within(128) && can_encode(base, encoding)
 }
 
-// Whether values of the type are written.
-fn is_written(data_type: &DataType) -> bool
-    ensures { result ≡ is_written (base (type_view data_type.now)) }
+// Whether values of the type are written in the encoding.
+fn is_written_as(data_type: &DataType, physical_type: PhysicalType, encoding: Encoding) -> bool
+    ensures { result ≡ is_written_as encoding (type_view data_type.now) (physical_view physical_type) }
+{
+    match encoding {
+        Encoding::Plain => true,
+        Encoding::DeltaLengthByteArray => allows_deltas(data_type, encoding),
+        Encoding::DeltaBinaryPacked => {
+            !is_fixed(physical_type) && allows_deltas(data_type, encoding)
+        }
+        _ => false,
+    }
+}
+
+/// Whether pages of the path are to have the deltas of their type.
+pub fn wants_deltas(nested: &[Nested], encoding: Encoding) -> bool
+    ensures { result ≡ wants_deltas (parts_of nested.now) encoding }
+{
+    is_flat(nested)
+        && matches!(
+            encoding,
+            Encoding::DeltaBinaryPacked | Encoding::DeltaLengthByteArray
+        )
+}
+
+// Whether values of the type are written in a column that is no more than its leaf, and in no other.
+fn is_written_flat(data_type: &DataType) -> bool
+    ensures { result ≡ is_written_flat (base (type_view data_type.now)) }
+{
+    match data_type.base() {
+        DataType::FixedSizeBinary(size) => 1 <= *size && *size <= 2_147_483_647,
+        DataType::Interval(IntervalUnit::YearMonth | IntervalUnit::DayTime) => true,
+        _ => false,
+    }
+}
+
+/// Whether values of the type are written, in a column that is no more than its leaf or in one that is.
+pub fn is_written_in(is_flat: bool, data_type: &DataType) -> bool
+    ensures { result ≡ is_written_in is_flat (base (type_view data_type.now)) }
 {
     is_served(data_type, PhysicalType::Boolean)
         || is_served(data_type, PhysicalType::Int32)
         || is_served(data_type, PhysicalType::Int64)
         || is_served(data_type, PhysicalType::ByteArray)
+        || (is_flat && is_written_flat(data_type))
 }
 
 /// That pages of the array are written so.
 ///
 /// # Errors
 ///
-/// - `NotYetImplemented(N4)` exactly where a flat path is in another encoding than PLAIN.
-/// - `NotYetImplemented(N5)` exactly where not, and values of the array's type are not written.
-pub fn check_written(array: &ArrayBox, nested: &[Nested], encoding: Encoding) -> Result<()>
-    ensures ok { OnOk result ((¬ IsUnwritten (parts_of nested.now) encoding) × (is_written (base (type_of (boxed array.now))) ≡ true)) }
-    ensures err { IfErr result (λ e. ((e ≡ NotYetImplemented N4) × IsUnwritten (parts_of nested.now) encoding) ⊎ ((e ≡ NotYetImplemented N5) × (¬ IsUnwritten (parts_of nested.now) encoding) × (is_written (base (type_of (boxed array.now))) ≡ false))) }
+/// - `NotYetImplemented(N4)` exactly where a flat path is in an encoding in which values of the type are not written.
+/// - `NotYetImplemented(N5)` exactly where not, and values of the array's type are not written in such a column.
+pub fn check_written(
+    array: &ArrayBox,
+    physical_type: PhysicalType,
+    nested: &[Nested],
+    encoding: Encoding,
+) -> Result<()>
+    ensures ok { OnOk result ((¬ IsUnwritten (parts_of nested.now) (type_of (boxed array.now)) (physical_view physical_type) encoding) × (is_written_along (parts_of nested.now) (boxed array.now) ≡ true)) }
+    ensures err { IfErr result (λ e. ((e ≡ NotYetImplemented N4) × IsUnwritten (parts_of nested.now) (type_of (boxed array.now)) (physical_view physical_type) encoding) ⊎ ((e ≡ NotYetImplemented N5) × (¬ IsUnwritten (parts_of nested.now) (type_of (boxed array.now)) (physical_view physical_type) encoding) × (is_written_along (parts_of nested.now) (boxed array.now) ≡ false))) }
 {
-    if is_unwritten(nested, encoding) {
+    if is_flat(nested) && !is_written_as(array.data_type(), physical_type, encoding) {
         return Err(Error::NotYetImplemented(N::N4));
     }
-    if !is_written(array.data_type()) {
+    if !is_written_in(is_flat(nested), array.data_type()) {
         return Err(Error::NotYetImplemented(N::N5));
     }
     Ok(())
@@ -103,7 +149,7 @@ fn is_optional(type_: &PrimitiveType) -> bool
 ///
 /// `InvalidArgumentError(A8)` exactly where not.
 pub fn check_fit(array: &ArrayBox, type_: &PrimitiveType, nested: &[Nested]) -> Result<()>
-    requires { is_written (base (type_of (boxed array.now))) ≡ true }
+    requires { is_written_along (parts_of nested.now) (boxed array.now) ≡ true }
     ensures in_bounds { OnOk result (IsInBounds (parts_of nested.now)) }
     ensures fits { OnOk result (FitsColumn (parts_of nested.now) (rows_of (parts_of nested.now) (boxed array.now)) (leaf_view type_.now) (physical_view type_.now.physical_type) (boxed array.now)) }
     ensures served { OnOk result (is_served (base (type_of (boxed array.now))) (physical_view type_.now.physical_type) ≡ true) }

@@ -10,6 +10,7 @@ mod pages;
 mod rule;
 
 pub use columns::array_to_columns;
+pub use fit::is_written_in;
 pub use options::WriteOptions;
 pub use page::array_to_page;
 pub use pages::{PageIter, array_to_pages};

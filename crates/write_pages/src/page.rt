@@ -14,15 +14,16 @@ ghost use Rattle.nested_paths.specs.Seen.{leaf_slot};
 ghost use Rattle.pq_tree.specs.Reads.{ComesWhere};
 ghost use Rattle.pq_tree.specs.TreeViews.{leaf_view};
 ghost use Rattle.pq_tree.specs.Views.{physical_view};
-ghost use Rattle.pq_files.specs.Page.{Encoding as PageEncoding, plain};
+ghost use Rattle.pq_files.specs.Page.{Encoding as PageEncoding};
 ghost use Rattle.pq_pages.specs.DataPages.{DataPageValue};
 ghost use Rattle.pq_pages.specs.declared.page.Page.TheVariants.{Data};
+ghost use Rattle.write_values.specs.Deltas.{page_encoding};
 ghost use Rattle.write_values.specs.Served.{is_served};
-ghost use Rattle.write_pages.specs.Fits.{FitsColumn, is_written};
+ghost use Rattle.write_pages.specs.Fits.{FitsColumn, is_written_along};
 ghost use Rattle.write_pages.specs.Holds.{HoldsRows, written_encoding};
 ghost use Rattle.write_pages.specs.Refused.{IsPastRoom, IsUnwritten};
 
-use crate::fit::check_written;
+use crate::fit::{check_written, wants_deltas};
 use crate::options::WriteOptions;
 use columns_array::ArrayBox;
 use columns_core::Result;
@@ -30,33 +31,32 @@ use levels::Nested;
 use pq_pages::{DataPage, Page};
 use pq_tree::{Encoding, PrimitiveType};
 use std::alloc::Global;
-use write_values::plain_page;
+use write_values::{PageForm, data_page};
 
-// A plain page of a well-formed path over an array whose values are written.
+// A page of a well-formed path over an array whose values are written, by deltas where it is wanted and the type has some.
 pub fn page_of_rows(
     alloc: Global,
     array: &ArrayBox,
     type_: PrimitiveType,
     nested: &[Nested],
     options: WriteOptions,
+    with_deltas: bool,
 ) -> Result<DataPage>
     requires well { IsPath (parts_of nested.now) }
     requires parts { length nested.now ≤ 128 }
     requires leaf { tree_len (boxed array.now) ≡ leaf_count_or 0 (parts_of nested.now) }
     requires served { is_served (base (type_of (boxed array.now))) (physical_view type_.physical_type) ≡ true }
-    ensures ok { IfOk result (HoldsRows options plain (leaf_type (type_of (boxed array.now))) (leaf_view type_) (physical_view type_.physical_type) (path_way (parts_of nested.now)) (path_slots (leaf_slot (boxed array.now)) (parts_of nested.now))) }
+    ensures ok { IfOk result (HoldsRows options (page_encoding with_deltas (leaf_type (type_of (boxed array.now))) (physical_view type_.physical_type)) (leaf_type (type_of (boxed array.now))) (leaf_view type_) (physical_view type_.physical_type) (path_way (parts_of nested.now)) (path_slots (leaf_slot (boxed array.now)) (parts_of nested.now))) }
     ensures too_large { ComesWhere (Overflow V3) (IsPastRoom (leaf_type (type_of (boxed array.now))) (physical_view type_.physical_type) (column (path_way (parts_of nested.now)) (path_slots (leaf_slot (boxed array.now)) (parts_of nested.now)))) result }
     ensures err { IfErr result (λ e. (e ≡ Memory) ⊎ (e ≡ Overflow V3)) }
 {
     array.know();
-    plain_page(
-        alloc,
-        array,
-        type_,
-        nested,
-        options.version,
-        options.write_statistics,
-    )
+    let form = PageForm {
+        version: options.version,
+        with_statistics: options.write_statistics,
+        with_deltas,
+    };
+    data_page(alloc, array, type_, nested, form)
 }
 
 /// One page of a well-formed path over its leaf array: of a flat path in the encoding that is asked for, of every other one in PLAIN (Parquet
@@ -65,8 +65,10 @@ pub fn page_of_rows(
 ///
 /// # Errors
 ///
-/// - `NotYetImplemented(N4)` exactly where the page is not written so: a flat path in another encoding than PLAIN.
-/// - `NotYetImplemented(N5)` exactly where it is, and values of the array's type are not written (`is_written`).
+/// - `NotYetImplemented(N4)` exactly where the page is not written so: a flat path in another encoding than PLAIN and the deltas that the type may
+///   have (`is_written_as`).
+/// - `NotYetImplemented(N5)` exactly where it is, and values of the array's type are not written in such a column (`is_written_in`): fixed byte
+///   strings and intervals are in flat ones alone.
 /// - `Overflow(V3)` exactly where neither is so, and the room of the page passes 2^31 - 1.
 /// - `Memory`.
 pub fn array_to_page(
@@ -80,13 +82,14 @@ pub fn array_to_page(
     requires well { IsPath (parts_of nested.now) }
     requires parts { length nested.now ≤ 128 }
     requires fits { FitsColumn (parts_of nested.now) (path_slots (leaf_slot (boxed array.now)) (parts_of nested.now)) (leaf_view type_) (physical_view type_.physical_type) (boxed array.now) }
-    ensures ok { IfOk result (λ p. (page : DataPageValue) × (p ≡ Data page) × (e : PageEncoding) × (written_encoding (parts_of nested.now) encoding ≡ Some e) × HoldsRows options e (leaf_type (type_of (boxed array.now))) (leaf_view type_) (physical_view type_.physical_type) (path_way (parts_of nested.now)) (path_slots (leaf_slot (boxed array.now)) (parts_of nested.now)) page) }
-    ensures form { ComesWhere (NotYetImplemented N4) (IsUnwritten (parts_of nested.now) encoding) result }
-    ensures unserved { ComesWhere (NotYetImplemented N5) ((¬ IsUnwritten (parts_of nested.now) encoding) × (is_written (base (type_of (boxed array.now))) ≡ false)) result }
-    ensures too_large { ComesWhere (Overflow V3) ((¬ IsUnwritten (parts_of nested.now) encoding) × (is_written (base (type_of (boxed array.now))) ≡ true) × IsPastRoom (leaf_type (type_of (boxed array.now))) (physical_view type_.physical_type) (column (path_way (parts_of nested.now)) (path_slots (leaf_slot (boxed array.now)) (parts_of nested.now)))) result }
+    ensures ok { IfOk result (λ p. (page : DataPageValue) × (p ≡ Data page) × (e : PageEncoding) × (written_encoding (leaf_type (type_of (boxed array.now))) (parts_of nested.now) encoding ≡ Some e) × HoldsRows options e (leaf_type (type_of (boxed array.now))) (leaf_view type_) (physical_view type_.physical_type) (path_way (parts_of nested.now)) (path_slots (leaf_slot (boxed array.now)) (parts_of nested.now)) page) }
+    ensures form { ComesWhere (NotYetImplemented N4) (IsUnwritten (parts_of nested.now) (type_of (boxed array.now)) (physical_view type_.physical_type) encoding) result }
+    ensures unserved { ComesWhere (NotYetImplemented N5) ((¬ IsUnwritten (parts_of nested.now) (type_of (boxed array.now)) (physical_view type_.physical_type) encoding) × (is_written_along (parts_of nested.now) (boxed array.now) ≡ false)) result }
+    ensures too_large { ComesWhere (Overflow V3) ((¬ IsUnwritten (parts_of nested.now) (type_of (boxed array.now)) (physical_view type_.physical_type) encoding) × (is_written_along (parts_of nested.now) (boxed array.now) ≡ true) × IsPastRoom (leaf_type (type_of (boxed array.now))) (physical_view type_.physical_type) (column (path_way (parts_of nested.now)) (path_slots (leaf_slot (boxed array.now)) (parts_of nested.now)))) result }
     ensures err { IfErr result (λ e. (e ≡ Memory) ⊎ (e ≡ NotYetImplemented N4) ⊎ (e ≡ NotYetImplemented N5) ⊎ (e ≡ Overflow V3)) }
 {
-    check_written(array, nested, encoding)?;
-    let page = page_of_rows(alloc, array, type_, nested, options)?;
+    check_written(array, type_.physical_type, nested, encoding)?;
+    let with_deltas = wants_deltas(nested, encoding);
+    let page = page_of_rows(alloc, array, type_, nested, options, with_deltas)?;
     Ok(Page::Data(page))
 }

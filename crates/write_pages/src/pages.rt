@@ -14,14 +14,14 @@ ghost use Rattle.nested_paths.specs.Seen.{leaf_slot};
 ghost use Rattle.pq_tree.specs.TreeViews.{leaf_view};
 ghost use Rattle.page_statistics.specs.Stated.{AreStated};
 ghost use Rattle.pq_tree.specs.Views.{physical_view, statistics_view};
-ghost use Rattle.pq_files.specs.Page.{plain};
+ghost use Rattle.write_values.specs.Deltas.{encoding_name, page_encoding};
 ghost use Rattle.write_values.specs.Served.{is_served};
 ghost use Rattle.write_pages.specs.Holds.{HoldsRows, IsPagesOf, rows_of, to_give};
 ghost use Rattle.write_pages.specs.Refused.{AreWritten, Gives, IsPastRoom, RefusesPages};
 ghost use Rattle.write_pages.specs.Sized.{AreMeasured, IsByRule};
 
 use crate::cut_column::{copy_path, cut_column};
-use crate::fit::{check_fit, check_written};
+use crate::fit::{check_fit, check_written, wants_deltas};
 use crate::options::WriteOptions;
 use crate::page::page_of_rows;
 use crate::rule::rows_per_page;
@@ -32,7 +32,7 @@ use pq_pages::{DataPage, Page};
 use pq_tree::{Encoding, PhysicalType, PrimitiveType, Statistics};
 use std::alloc::Global;
 use std::marker::Model;
-use write_values::{column_statistics, measure_values};
+use write_values::{column_statistics, measure_values, page_encoding};
 
 /// Gives the pages of a column in order, each when it is asked for. It shares the array and its path, and keeps no page. After an error
 /// it gives nothing.
@@ -43,6 +43,7 @@ pub struct PageIter {
     nested: Vec<Nested>,
     type_: PrimitiveType,
     options: WriteOptions,
+    with_deltas: bool,
     next: usize,
     per_page: usize,
     has_failed: bool,
@@ -63,7 +64,7 @@ impl Model for PageIter {
 
     ghost coded = { Prim.hlevel (codes, tree_code) };
 
-    ghost view = { λ s. record { options = s.options; type_ = s.type_; array = boxed s.array; parts = parts_of s.nested.items; next = s.next; per_page = s.per_page; has_failed = s.has_failed; statistics = option_map statistics_view s.statistics } };
+    ghost view = { λ s. record { options = s.options; with_deltas = s.with_deltas; type_ = s.type_; array = boxed s.array; parts = parts_of s.nested.items; next = s.next; per_page = s.per_page; has_failed = s.has_failed; statistics = option_map statistics_view s.statistics } };
 
     ghost invariant = { λ s. IsReady (boxed s.array) (parts_of s.nested.items) (physical_view s.type_.physical_type) s.per_page };
 }
@@ -75,6 +76,7 @@ fn page_at(
     type_: &PrimitiveType,
     nested: &[Nested],
     options: WriteOptions,
+    with_deltas: bool,
     first: usize,
     count: usize,
 ) -> Result<DataPage>
@@ -83,12 +85,19 @@ fn page_at(
     requires leaf { tree_len (boxed array.now) ≡ leaf_count_or 0 (parts_of nested.now) }
     requires served { is_served (base (type_of (boxed array.now))) (physical_view type_.now.physical_type) ≡ true }
     requires rows { first + count ≤ slot_count (parts_of nested.now) }
-    ensures ok { IfOk result (HoldsRows options plain (leaf_type (type_of (boxed array.now))) (leaf_view type_.now) (physical_view type_.now.physical_type) (path_way (parts_of nested.now)) (take count (drop first (rows_of (parts_of nested.now) (boxed array.now))))) }
+    ensures ok { IfOk result (HoldsRows options (page_encoding with_deltas (leaf_type (type_of (boxed array.now))) (physical_view type_.now.physical_type)) (leaf_type (type_of (boxed array.now))) (leaf_view type_.now) (physical_view type_.now.physical_type) (path_way (parts_of nested.now)) (take count (drop first (rows_of (parts_of nested.now) (boxed array.now))))) }
     ensures err { IfErr result (λ e. (e ≡ Memory) ⊎ ((e ≡ Overflow V3) × IsPastRoom (leaf_type (type_of (boxed array.now))) (physical_view type_.now.physical_type) (column (path_way (parts_of nested.now)) (take count (drop first (rows_of (parts_of nested.now) (boxed array.now))))))) }
 {
     let rows = cut_column(alloc, array, nested, first, count)?;
     let type_ = type_.clone(alloc)?;
-    let page = page_of_rows(alloc, &rows.array, type_, &rows.nested, options)?;
+    let page = page_of_rows(
+        alloc,
+        &rows.array,
+        type_,
+        &rows.nested,
+        options,
+        with_deltas,
+    )?;
     Ok(page)
 }
 
@@ -113,6 +122,7 @@ impl PageIter {
             &self.type_,
             &self.nested,
             self.options,
+            self.with_deltas,
             self.next,
             count,
         ) {
@@ -125,6 +135,17 @@ impl PageIter {
                 Some(Err(error))
             }
         }
+    }
+
+    /// The encoding of the values in all its pages.
+    pub fn encoding(&self) -> Encoding
+        ensures { result ≡ encoding_name (to_give self.now).encoding }
+    {
+        page_encoding(
+            self.array.data_type(),
+            self.type_.physical_type,
+            self.with_deltas,
+        )
     }
 
     /// The statistics of the whole column, where they are asked for (Parquet format, parquet.thrift: `ColumnMetaData`). Of a column with
@@ -230,15 +251,17 @@ fn all_statistics(
 }
 
 /// The pages of a column in order, each to be made when it is asked for: those of the rows that are read along the path over its leaf array,
-/// whatever lies beneath nulls, in pieces by the row rule; none of no rows (Parquet format, "Data Pages", "Nested Encoding"). Statistics of each page and of the
+/// whatever lies beneath nulls, in pieces by the row rule; none of no rows (Parquet format, "Data Pages", "Nested Encoding"). Those of a flat path
+/// are in the encoding that is asked for, all others in PLAIN. Statistics of each page and of the
 /// whole column stand exactly where they are asked for (parquet.thrift: `Statistics`).
 ///
 /// # Errors
 ///
 /// The first condition that holds is told.
 ///
-/// - `NotYetImplemented(N4)`: a flat path in another encoding than PLAIN.
-/// - `NotYetImplemented(N5)`: values of the array's type are not written (`is_written`).
+/// - `NotYetImplemented(N4)`: a flat path in another encoding than PLAIN and the deltas that the type may have (`is_written_as`).
+/// - `NotYetImplemented(N5)`: values of the array's type are not written in such a column (`is_written_in`): fixed byte strings and intervals are in
+///   flat ones alone.
 /// - `InvalidArgumentError(A8)`: the path is not in bounds, or the path and the type do not fit the array (`FitsColumn`).
 /// - `Memory`.
 pub fn array_to_pages(
@@ -250,11 +273,11 @@ pub fn array_to_pages(
     encoding: Encoding,
 ) -> Result<PageIter>
     requires parts { length nested.now ≤ 128 }
-    ensures ok { IfOk result (λ it. IsPagesOf options type_ (parts_of nested.now) (boxed primitive_array.now) (to_give it)) }
+    ensures ok { IfOk result (λ it. IsPagesOf options type_ (parts_of nested.now) (boxed primitive_array.now) encoding (to_give it)) }
     ensures fits { IfOk result (λ _. AreWritten options type_ (parts_of nested.now) (boxed primitive_array.now) encoding) }
     ensures err { IfErr result (λ e. (e ≡ Memory) ⊎ RefusesPages options type_ (parts_of nested.now) (boxed primitive_array.now) encoding e) }
 {
-    check_written(primitive_array, nested, encoding)?;
+    check_written(primitive_array, type_.physical_type, nested, encoding)?;
     check_fit(primitive_array, &type_, nested)?;
     let per_page = page_rows(
         alloc,
@@ -276,6 +299,7 @@ pub fn array_to_pages(
         nested: copy_path(alloc, nested)?,
         type_,
         options,
+        with_deltas: wants_deltas(nested, encoding),
         next: 0,
         per_page,
         has_failed: false,

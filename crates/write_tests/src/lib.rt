@@ -2,6 +2,10 @@
 #![tactic(auto)]
 
 #[cfg(test)]
+mod delta_tests;
+#[cfg(test)]
 mod file_tests;
+#[cfg(test)]
+mod leaf_tests;
 #[cfg(test)]
 mod statistics_tests;

@@ -13,6 +13,8 @@ use Rattle.pq_files.specs.Layout.{plain_length, plain_size}
 use Rattle.write_places.specs.Places.{gather, range}
 use Rattle.write_values.specs.declared.measured.Measured.{Measured}
 use Rattle.write_values.specs.Lengths.{plain-places}
+use Rattle.pq_files.specs.Page.{plain}
+use Rattle.write_values.specs.Deltas.{AppendsSpelled}
 use Rattle.write_values.specs.Rows.{AppendsRow, AppendsPlain, Adds}
 
 row-append : (p : Physical) (s t : List ℕ) (us vs : List Value) → InARow p s us → InARow p t vs → InARow p (s ++ t) (us ++ vs)
@@ -27,7 +29,7 @@ row-more p a b c us vs h g = record {
   row = row-append p h.text g.text us vs h.row g.row;
 }
 
-plain_of : (p : Physical) (text : List ℕ) (vs : List Value) → p ≢ boolean → InARow p text vs → IsPlain p text vs
+pub plain_of : (p : Physical) (text : List ℕ) (vs : List Value) → p ≢ boolean → InARow p text vs → IsPlain p text vs
 plain_of boolean text vs n h = absurd (n refl)
 plain_of int32 text vs n h = h
 plain_of int64 text vs n h = h
@@ -40,7 +42,7 @@ plain_of (fixed k) text vs n h = h
 pub row-plain : (p : Physical) (a b : List ℕ) (vs : List Value) → p ≢ boolean → AppendsRow p a b vs → AppendsPlain p a b vs
 row-plain p a b vs n h = record { text = h.text; parts = h.parts; spelled = plain_of p h.text vs n h.row }
 
-one_size : (p : Physical) (text : List ℕ) (v : Value) → IsOne p text v → length text ≡ plain_size p v
+pub one_size : (p : Physical) (text : List ℕ) (v : Value) → IsOne p text v → length text ≡ plain_size p v
 one_size int32 text (number z) h = h.0
 one_size int64 text (number z) h = h.0
 one_size byte_array text (bytes s) h = ap length h.parts ∙ (length-append h.head s ∙ ap (λ (k : ℕ). k + length s) h.four)
@@ -65,6 +67,15 @@ text_size float text vs h = row_size float text vs h
 text_size double text vs h = row_size double text vs h
 text_size byte_array text vs h = row_size byte_array text vs h
 text_size (fixed k) text vs h = row_size (fixed k) text vs h
+
+pub plain_spelled : (p : Physical) (before after : List ℕ) (vs : List Value) → AppendsPlain p before after vs → AppendsSpelled plain p before after vs
+plain_spelled p before after vs h =
+    record {
+      text = h.text;
+      parts = h.parts;
+      spelled = λ l e. subst (λ (q : Physical). IsPlain q h.text vs) (sym e) h.spelled;
+      size = omega (arith, text_size p h.text vs h.spelled);
+    }
 
 pub length-range : (from count : ℕ) → length (range from count) ≡ count
 unfolding gather

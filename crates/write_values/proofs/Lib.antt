@@ -1,6 +1,8 @@
 pub mod Along
 pub mod Counted
+pub mod FixedPlaces
 pub mod InRows
+pub mod IntervalPlaces
 pub mod Made
 pub mod NumberPlaces
 pub mod Picked
@@ -9,3 +11,6 @@ pub mod StringPlaces
 pub mod TruthPlaces
 pub mod ServedColumns
 pub mod Ordered
+pub mod Taken
+pub mod ServedDeltas
+pub mod Respelled

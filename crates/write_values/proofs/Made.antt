@@ -1,5 +1,5 @@
--- A plain page made of its parts.
-use Rattle.std.proofs.Common.{◌≡◌, ℕ, zero, suc, ◌+◌, ◌-◌, ◌^◌, ◌<◌, ◌≤◌, pos, List, [], ◌∷◌, ◌++◌, length, map, Some, None, Option, option_map, refl, sym, ap, subst, ◌∙◌, append_assoc, arith, is_some, nat_eq}
+-- A page made of its parts.
+use Rattle.std.proofs.Common.{◌≡◌, ℕ, zero, suc, ◌+◌, ◌-◌, ◌*◌, ◌^◌, ◌<◌, ◌≤◌, pos, List, [], ◌∷◌, ◌++◌, length, map, Some, None, Option, option_map, refl, sym, ap, subst, ◌∙◌, append_assoc, arith, is_some, nat_eq}
 use Rattle.std.specs.Prelude.{All, min}
 use Rattle.std.proofs.lemmas.List.{length-append}
 use Rattle.std.specs.List.{AllByRecursion as Each}
@@ -24,9 +24,9 @@ use Rattle.pq_tree.specs.Physical.{Physical}
 use Rattle.pq_tree.specs.Tree.{Leaf, max_repetition, max_definition}
 use Rattle.pq_files.specs.Layout.{OutPage, plain_length}
 use Rattle.pq_files.specs.Packed.{AreLevels, header_of}
-use Rattle.pq_files.specs.Page.{SaysRuns, LevelsAreRuns, IsSplit, IsCounted, HasEncoding, plain, values_in, rows_in}
+use Rattle.pq_files.specs.Page.{SaysRuns, LevelsAreRuns, IsSplit, IsCounted, HasEncoding, Encoding, plain, dictionary, delta, delta_length, values_in, rows_in}
 use Rattle.pq_files.specs.Levels.{IsBehindLength}
-use Rattle.pq_files.specs.Plain.{IsPlain}
+use Rattle.pq_files.specs.WrittenSpelling.{IsWrittenSpelled}
 use Rattle.pq_files.specs.Room.{room, max_size}
 use Rattle.pq_files.specs.Statistics.{Statistics}
 use Rattle.pq_files.specs.Written.{statistics_of}
@@ -38,11 +38,10 @@ use Rattle.write_places.specs.Places.{path_places}
 use Rattle.write_places.proofs.Values.{values_are_at_places}
 use Rattle.write_values.specs.declared.measured.Measured.{Measured}
 use Rattle.write_values.specs.declared.page.Body.{Body}
-use Rattle.write_values.specs.Pages.{plain_out, column_room, IsBody, IsHeader, IsPlainOut}
+use Rattle.write_values.specs.Pages.{out_page, column_room, IsBody, IsHeader, IsOut}
 use Rattle.write_values.specs.Rows.{Measures}
 use Rattle.write_values.proofs.Along.{path_along, length-path_slots}
 use Rattle.write_values.proofs.Counted.{nulls_and_values}
-use Rattle.write_values.proofs.InRows.{text_size}
 
 says_runs : (max : ℕ) → SaysRuns max (Some (pos 3))
 says_runs zero = tt
@@ -56,9 +55,15 @@ counted_is : (version : Version) (out : OutPage) (d r : ℕ) → IsCounted (head
 counted_is V1 out d r = refl
 counted_is V2 out d r = (refl, refl)
 
-encoding_is : (version : Version) (ts : List Triple) (st : Option Statistics) (d r : ℕ) → HasEncoding (header_of version (plain_out ts st) d r) plain
-encoding_is V1 ts st d r = refl
-encoding_is V2 ts st d r = refl
+encoding_is : (version : Version) (e : Encoding) (ts : List Triple) (st : Option Statistics) (d r : ℕ) → HasEncoding (header_of version (out_page e ts st) d r) e
+encoding_is V1 plain ts st d r = refl
+encoding_is V1 dictionary ts st d r = refl
+encoding_is V1 delta ts st d r = refl
+encoding_is V1 delta_length ts st d r = refl
+encoding_is V2 plain ts st d r = refl
+encoding_is V2 dictionary ts st d r = refl
+encoding_is V2 delta ts st d r = refl
+encoding_is V2 delta_length ts st d r = refl
 
 split_is : (version : Version) (l : Leaf) (out : OutPage) (d r : ℕ) (rt dt rs ds values body : List ℕ) → Stands version (max_repetition l) rt rs → Stands version (max_definition l) dt ds → body ≡ (rt ++ dt) ++ values → r ≡ length rt → d ≡ length dt → IsSplit l (header_of version out d r) body (record { repetition = rs; definition = ds; values = values })
 split_is V1 l out d r rt dt rs ds values body first second parts er ed = record {
@@ -80,11 +85,11 @@ each_present : (w : Way) (ts : List Triple) → Each (IsWithin w) ts → Each (�
 each_present w [] h = tt
 each_present w (t ∷ ts) h = (h.0.present, each_present w ts h.1)
 
-pub denotes : (version : Version) (p : Physical) (stored : ℕ → Value) (st : Option Statistics) (nested : List Nested) (body : Body) (header : DataPageHeader) (d : Descriptor) → IsPath (parts_of nested)
-    → IsBody version p nested stored body → IsHeader version (plain_out (nested_column stored nested) st) body.repetition body.definition header
+pub denotes : (version : Version) (e : Encoding) (p : Physical) (stored : ℕ → Value) (st : Option Statistics) (nested : List Nested) (body : Body) (header : DataPageHeader) (d : Descriptor) → IsPath (parts_of nested)
+    → IsBody version e p nested stored body → IsHeader version (out_page e (nested_column stored nested) st) body.repetition body.definition header
     → room (length (nested_column stored nested)) (plain_length p (values_in (nested_column stored nested))) ≤ max_size
-    → Denotes version p (shred.max_repetition (path_way (parts_of nested))) (shred.max_definition (path_way (parts_of nested))) None (plain_out (nested_column stored nested) st) (record { header = header; buffer = body.buffer.items; descriptor = d })
-denotes version p stored st nested body header d well b h fits =
+    → Denotes version p (shred.max_repetition (path_way (parts_of nested))) (shred.max_definition (path_way (parts_of nested))) None (out_page e (nested_column stored nested) st) (record { header = header; buffer = body.buffer.items; descriptor = d })
+denotes version e p stored st nested body header d well b h fits =
     let parts = parts_of nested in
     let w = path_way parts in
     let ts = nested_column stored nested in
@@ -97,9 +102,10 @@ denotes version p stored st nested body header d well b h fits =
     let whole : body.buffer.items ≡ (s.repetition ++ s.definition) ++ b.values.text = b.values.parts ∙ ap (λ (t : List ℕ). t ++ b.values.text) s.parts in
     let sizes_r : body.repetition ≡ length s.repetition = ap (λ (x : ℕ × ℕ). x.0) s.sizes_are in
     let sizes_d : body.definition ≡ length s.definition = ap (λ (x : ℕ × ℕ). x.1) s.sizes_are in
-    let text : IsPlain p b.values.text (values_in ts) = subst (λ (us : List Value). IsPlain p b.values.text us) vs b.values.spelled in
-    let bytes : length b.values.text ≡ plain_length p (values_in ts) = text_size p b.values.text _ b.values.spelled ∙ ap (plain_length p) vs in
-    let size : length body.buffer.items ≡ length s.repetition + length s.definition + plain_length p (values_in ts) = ap length whole ∙ (length-append (s.repetition ++ s.definition) b.values.text ∙ omega (arith, length-append s.repetition s.definition, bytes)) in
+    let bytes : length b.values.text ≤ plain_length p (values_in ts) + (11 * length (values_in ts) + 310) = subst (λ (us : List Value). length b.values.text ≤ plain_length p us + (11 * length us + 310)) vs b.values.size in
+    let few : length (values_in ts) ≤ length ts = omega (arith, nulls_and_values ts) in
+    let size : length body.buffer.items ≡ length s.repetition + length s.definition + length b.values.text = ap length whole ∙ (length-append (s.repetition ++ s.definition) b.values.text ∙ omega (arith, length-append s.repetition s.definition)) in
+    let most : length body.buffer.items ≤ room (length ts) (plain_length p (values_in ts)) = omega (arith, size, s.tight, bytes, few) in
     record {
       is = λ l leaf. record {
         definition = body.definition;
@@ -109,22 +115,22 @@ denotes version p stored st nested body header d well b h fits =
             record {
               sections = record { repetition = s.repetitions.section; definition = s.definitions.section; values = b.values.text };
               split =
-                  split_is version l (plain_out ts st) body.definition body.repetition s.repetition s.definition s.repetitions.section s.definitions.section b.values.text body.buffer.items
+                  split_is version l (out_page e ts st) body.definition body.repetition s.repetition s.definition s.repetitions.section s.definitions.section b.values.text body.buffer.items
                   (subst (λ (m : ℕ). Stands version m s.repetition s.repetitions.section) (sym leaf.repeats) s.repetitions.stands) (subst (λ (m : ℕ). Stands version m s.definition s.definitions.section) (sym leaf.defines) s.definitions.stands) whole sizes_r sizes_d;
-              runs = runs_are version l (plain_out ts st) body.definition body.repetition;
+              runs = runs_are version l (out_page e ts st) body.definition body.repetition;
               repetitions = subst (λ (m : ℕ). AreLevels m s.repetitions.section (map (λ t. t.repetition) ts)) (sym leaf.repeats) s.repetitions.are;
               definitions = subst (λ (m : ℕ). AreLevels m s.definitions.section (map (λ t. t.definition) ts)) (sym leaf.defines) s.definitions.are;
               present = subst (λ (m : ℕ). All (λ t. is_some t.value ≡ nat_eq t.definition m) ts) (sym leaf.defines) (All-from_recursion _ ts (each_present w ts (recursion_from_All (IsWithin w) ts within)));
-              encoding = plain;
-              has_encoding = encoding_is version ts st body.definition body.repetition;
-              values = subst (λ (x : Physical). IsPlain x b.values.text (values_in ts)) (sym leaf.physical) text;
-              counted = counted_is version (plain_out ts st) body.definition body.repetition;
+              encoding = e;
+              has_encoding = encoding_is version e ts st body.definition body.repetition;
+              values = subst (λ (us : List Value). IsWrittenSpelled e l None b.values.text us) vs (b.values.spelled l leaf.physical);
+              counted = counted_is version (out_page e ts st) body.definition body.repetition;
               begins_row = begins w ts order.1;
             };
         encoding = refl;
       };
-      within = omega (arith, size, s.room);
-      fits = omega (arith, size, s.room, fits);
+      within = most;
+      fits = omega (arith, most, fits);
     }
 
 pub mapped : (f : ℕ → Value) (ns : List ℕ) → length (map f ns) ≡ length ns
@@ -132,8 +138,8 @@ mapped f [] = refl
 mapped f (n ∷ ns) = ap suc (mapped f ns)
 
 -- the numbers of the header
-pub out_is : (stored : ℕ → Value) (st : Option Statistics) (stated : Option ChunkStatistics) (nested : List Nested) (pairs count rows : ℕ) → IsPath (parts_of nested) → pairs ≡ length (nested_column stored nested) → count ≡ length (path_places (parts_of nested)) → rows ≡ slot_count (parts_of nested) → stated ≡ option_map statistics_of st → IsPlainOut (plain_out (nested_column stored nested) st) stated pairs (pairs - count) rows
-out_is stored st stated nested pairs count rows well p c r told =
+pub out_is : (e : Encoding) (stored : ℕ → Value) (st : Option Statistics) (stated : Option ChunkStatistics) (nested : List Nested) (pairs count rows : ℕ) → IsPath (parts_of nested) → pairs ≡ length (nested_column stored nested) → count ≡ length (path_places (parts_of nested)) → rows ≡ slot_count (parts_of nested) → stated ≡ option_map statistics_of st → IsOut e (out_page e (nested_column stored nested) st) stated pairs (pairs - count) rows
+out_is e stored st stated nested pairs count rows well p c r told =
     let parts = parts_of nested in
     let ts = nested_column stored nested in
     let k : length (values_in ts) ≡ length (path_places parts) = ap length (values_are_at_places stored nested) ∙ mapped stored (path_places parts) in

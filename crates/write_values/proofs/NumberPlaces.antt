@@ -50,7 +50,7 @@ number_stored {A} t p f g xs m n h i =
     λ x. stored_is (leaf_type (base t)) p (g x) (f x) n (h x) ∙ ap (λ (l : LeafType). stored_value l p (g x)) (leaf_base t) in
     mapped_at f g (stored_value (leaf_type t) p) xs each (sym (truth_kept (leaf_type t) p false)) i
 
-values_from : (ws : List Value) (d : Value) (from count : ℕ) → from + count ≤ length ws → map (λ i. get_or ws i d) (range from count) ≡ take count (drop from ws)
+pub values_from : (ws : List Value) (d : Value) (from count : ℕ) → from + count ≤ length ws → map (λ i. get_or ws i d) (range from count) ≡ take count (drop from ws)
 unfolding gather
 values_from ws d from zero h = refl
 values_from ws d from (suc count) h =

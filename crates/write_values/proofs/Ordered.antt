@@ -1,21 +1,23 @@
 -- The values of leaf arrays in order, and their texts as bounds.
-use Rattle.std.proofs.Common.{◌≡◌, ℕ, ◌<◌, ℤ, ◌≤ℤ◌, ◌<ℤ◌, Bool, true, false, true≢false, List, [], ◌∷◌, map, length, get_or, refl, sym, ap, subst, ◌∙◌, arith, cond}
+use Rattle.std.proofs.Common.{◌≡◌, ℕ, ◌<◌, ℤ, ◌≤ℤ◌, ◌<ℤ◌, Bool, true, false, true≢false, List, [], ◌∷◌, map, length, get_or, refl, sym, ap, subst, ◌∙◌, arith, cond, Some}
 use Rattle.std.specs.Prelude.{All, IsUtf8}
 use Rattle.std.proofs.lemmas.List.{get_or-map}
 use Rattle.std.proofs.lemmas.Int.{by_lt_z, ints}
-use Rattle.shredding.specs.Shape.{LeafType, truths, text, binary}
+use Rattle.shredding.specs.Shape.{LeafType, truths, text, binary, fixed_bytes}
 use Rattle.shredding.specs.Slot.{Value, truth, number, bytes}
-use Rattle.columns_core.specs.Shapes.{leaf_type}
-use Rattle.columns_core.specs.Tree.{TypeTree, t_boolean, t_int8, t_int16, t_int32, t_int64, t_uint8, t_uint16, t_uint32, t_uint64, t_date32, t_date64, t_time32, t_time64, t_timestamp, t_duration, t_utf8, t_large_utf8, t_binary, t_large_binary}
+use Rattle.columns_core.specs.Shapes.{base, leaf_type}
+use Rattle.columns_core.specs.Tree.{TypeTree, t_boolean, t_int8, t_int16, t_int32, t_int64, t_uint8, t_uint16, t_uint32, t_uint64, t_date32, t_date64, t_time32, t_time64, t_timestamp, t_duration, t_utf8, t_large_utf8, t_binary, t_fixed_size_binary, t_large_binary}
 use Rattle.columns_slots.specs.Bytes.{pieces, pieces_values}
-use Rattle.columns_slots.specs.Types.{is_binary, is_boolean, is_text}
-use Rattle.pq_tree.specs.Physical.{Physical, boolean, int32, int64, byte_array}
+use Rattle.columns_slots.specs.Types.{byte_width, is_binary, is_boolean, is_text}
+use Rattle.pq_tree.specs.Physical.{Physical, boolean, int32, int64, byte_array, fixed}
 use Rattle.pq_files.specs.Statistics.{IsImplied, IsUpTo, has_order}
 use Rattle.pq_files.specs.Stored.{IsStored}
 use Rattle.page_statistics.specs.Spelled.{IsSpelled, bound_text}
-use Rattle.write_values.specs.Numbers.{at_place}
+use Rattle.write_values.specs.Fixed.{width_in}
+use Rattle.write_values.specs.Numbers.{at_place, is_number}
 use Rattle.write_values.specs.Served.{is_small, is_wide, is_string, is_served}
 use Rattle.write_values.proofs.Picked.{number_here}
+use Rattle.write_values.proofs.ServedTypes.{some_number}
 
 pub below_is_up_to : (a b : ℤ) → a <ℤ b → a ≤ℤ b
 below_is_up_to a b h = omega (arith, ints, h)
@@ -69,12 +71,17 @@ truth_ordered : (t : TypeTree) → is_boolean t ≡ true → has_order (leaf_typ
 truth_ordered t_boolean e = refl
 truth_ordered t e = absurd (true≢false (sym e))
 
-pub served_ordered : (t : TypeTree) (p : Physical) → is_served t p ≡ true → has_order (leaf_type t) ≡ true
-served_ordered t boolean e = truth_ordered t e
-served_ordered t int32 e = small_ordered t e
-served_ordered t int64 e = wide_ordered t e
-served_ordered t byte_array e = string_ordered t e
-served_ordered t p e = absurd (true≢false (sym e))
+-- but for intervals
+pub served_ordered : (t : TypeTree) (p : Physical) → is_number p ≡ true → is_served t p ≡ true → has_order (leaf_type t) ≡ true
+served_ordered t int32 n e = small_ordered t e
+served_ordered t int64 n e = wide_ordered t e
+served_ordered t p n e = absurd (true≢false (sym n))
+
+pub strings_ordered : (t : TypeTree) → is_served t byte_array ≡ true → has_order (leaf_type t) ≡ true
+strings_ordered t e = string_ordered t e
+
+pub truths_ordered : (t : TypeTree) → is_served t boolean ≡ true → has_order (leaf_type t) ≡ true
+truths_ordered t e = truth_ordered t e
 
 -- ---- texts, byte strings and truth values
 
@@ -130,3 +137,16 @@ truths_up bits i j b c l m e f h =
 pub implied_true : (b c : Bool) → c ≡ true → IsImplied b c
 implied_true false c e = tt
 implied_true true c e = e
+
+fixed_type : (t : TypeTree) (w : ℕ) → byte_width t ≡ Some w → leaf_type t ≡ fixed_bytes w
+fixed_type (t_fixed_size_binary m) w e = ap fixed_bytes (some_number m w e)
+fixed_type t w e = absurd cc
+
+pub fixed_ordered : (t : TypeTree) (w : ℕ) → byte_width t ≡ Some w → has_order (leaf_type t) ≡ true
+fixed_ordered t w e = ap has_order (fixed_type t w e)
+
+pub fixed_spelled : (t : TypeTree) (s b : List ℕ) (v : Value) → byte_width (base t) ≡ Some (width_in t) → bytes b ≡ v → length b ≡ width_in t → s ≡ b → IsSpelled (leaf_type (base t)) (fixed (width_in t)) s v
+fixed_spelled t s b v e i l h =
+    let p = fixed (width_in t) in
+    subst (λ (w : Value). IsSpelled (leaf_type (base t)) p s w) i
+    (subst (λ (k : LeafType). IsSpelled k p s (bytes b)) (sym (fixed_type (base t) (width_in t) e)) (record { stored = bytes b; is_stored = (refl, l, refl); is = h }))

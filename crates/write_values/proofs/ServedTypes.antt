@@ -1,49 +1,51 @@
 -- Which types the arrays have whose values are written.
-use Rattle.std.proofs.Common.{◌≡◌, ◌<◌, Bool, true, false, true≢false, Some, refl, sym, arith, lit≤, inl, inr, pos}
-use Rattle.shredding.specs.Shape.{IsInRange}
+use Rattle.std.proofs.Common.{◌≡◌, ◌<◌, ℕ, Bool, true, false, true≢false, Option, Some, None, List, refl, ap, ◌∙◌, sym, arith, lit≤, inl, inr, pos}
+use Rattle.std.proofs.lemmas.Bool.{eqb-true}
+use Rattle.shredding.specs.Shape.{LeafType, unsigned, IsInRange}
 use Rattle.shredding.specs.Slot.{Value, truth, number, bytes}
+use Rattle.columns_core.specs.declared.types.IntervalUnit.TheVariants.{YearMonth, DayTime}
 use Rattle.columns_core.specs.Shapes.{base, leaf_type}
-use Rattle.columns_core.specs.Tree.{TypeTree, t_null, t_boolean, t_int8, t_int16, t_int32, t_int64, t_uint8, t_uint16, t_uint32, t_uint64, t_date32, t_date64, t_time32, t_time64, t_timestamp, t_duration, t_utf8, t_large_utf8, t_binary, t_large_binary, t_extension, t_list, t_large_list, t_map, t_fixed_size_list, t_struct, t_dictionary}
+use Rattle.columns_core.specs.Tree.{TypeTree, t_null, t_boolean, t_int8, t_int16, t_int32, t_int64, t_uint8, t_uint16, t_uint32, t_uint64, t_date32, t_date64, t_time32, t_time64, t_timestamp, t_duration, t_interval, t_utf8, t_large_utf8, t_binary, t_fixed_size_binary, t_large_binary, t_extension, t_list, t_large_list, t_map, t_fixed_size_list, t_struct, t_dictionary}
 use Rattle.columns_slots.specs.Tree.{ArrayTree, null_array, leaf_array, list_array, fixed_list_array, struct_array, dictionary_array, ArrayTrees, no_arrays, more_arrays}
 use Rattle.columns_slots.specs.Slots.{IsSound, AreTyped, count_arrays, type_of}
-use Rattle.columns_slots.specs.Types.{is_null_type, is_boolean, list_item, fixed_item, entry_type, part_types}
+use Rattle.columns_slots.specs.Types.{is_null_type, is_boolean, byte_width, list_item, fixed_item, entry_type, part_types}
 use Rattle.pq_tree.specs.Physical.{Physical, boolean, int32, int64, int96, float, double, byte_array, fixed}
 use Rattle.pq_files.specs.Stored.{IsStored}
-use Rattle.write_values.specs.Served.{is_small, is_wide, is_string, is_served}
+use Rattle.write_values.specs.Served.{is_fixed, is_small, is_wide, is_string, is_served}
 use Rattle.write_values.specs.Stored.{stored_value}
 
 -- ---- values that are not written
 
-no_row : (t : TypeTree) → is_boolean t ≡ false → is_small t ≡ false → is_wide t ≡ false → is_string t ≡ false → (p : Physical) → is_served t p ≡ false
-no_row t d a b c boolean = d
-no_row t d a b c int32 = a
-no_row t d a b c int64 = b
-no_row t d a b c int96 = refl
-no_row t d a b c float = refl
-no_row t d a b c double = refl
-no_row t d a b c byte_array = c
-no_row t d a b c (fixed n) = refl
+no_row : (t : TypeTree) → is_boolean t ≡ false → is_small t ≡ false → is_wide t ≡ false → is_string t ≡ false → ((n : ℕ) → is_fixed n t ≡ false) → (p : Physical) → is_served t p ≡ false
+no_row t d a b c f boolean = d
+no_row t d a b c f int32 = a
+no_row t d a b c f int64 = b
+no_row t d a b c f int96 = refl
+no_row t d a b c f float = refl
+no_row t d a b c f double = refl
+no_row t d a b c f byte_array = c
+no_row t d a b c f (fixed n) = f n
 
 no_nulls : (t : TypeTree) (p : Physical) → is_null_type t ≡ true → is_served t p ≡ false
-no_nulls t_null p e = no_row t_null refl refl refl refl p
+no_nulls t_null p e = no_row t_null refl refl refl refl (λ n. refl) p
 no_nulls t p e = absurd (true≢false (sym e))
 
 no_items : (t i : TypeTree) (p : Physical) → list_item t ≡ Some i → is_served t p ≡ false
-no_items (t_list f) i p e = no_row (t_list f) refl refl refl refl p
-no_items (t_large_list f) i p e = no_row (t_large_list f) refl refl refl refl p
-no_items (t_map f s) i p e = no_row (t_map f s) refl refl refl refl p
+no_items (t_list f) i p e = no_row (t_list f) refl refl refl refl (λ n. refl) p
+no_items (t_large_list f) i p e = no_row (t_large_list f) refl refl refl refl (λ n. refl) p
+no_items (t_map f s) i p e = no_row (t_map f s) refl refl refl refl (λ n. refl) p
 no_items t i p e = absurd cc
 
 no_fixed_items : (t i : TypeTree) (p : Physical) → fixed_item t ≡ Some i → is_served t p ≡ false
-no_fixed_items (t_fixed_size_list f k) i p e = no_row (t_fixed_size_list f k) refl refl refl refl p
+no_fixed_items (t_fixed_size_list f k) i p e = no_row (t_fixed_size_list f k) refl refl refl refl (λ n. refl) p
 no_fixed_items t i p e = absurd cc
 
 no_entries : (t i : TypeTree) (p : Physical) → entry_type t ≡ Some i → is_served t p ≡ false
-no_entries (t_dictionary k v s) i p e = no_row (t_dictionary k v s) refl refl refl refl p
+no_entries (t_dictionary k v s) i p e = no_row (t_dictionary k v s) refl refl refl refl (λ n. refl) p
 no_entries t i p e = absurd cc
 
 no_parts : (t : TypeTree) (cs : ArrayTrees) (p : Physical) → AreTyped (part_types t) cs → 0 < count_arrays cs → is_served t p ≡ false
-no_parts (t_struct fs) cs p h k = no_row (t_struct fs) refl refl refl refl p
+no_parts (t_struct fs) cs p h k = no_row (t_struct fs) refl refl refl refl (λ n. refl) p
 no_parts t no_arrays p h k = absurd (omega (arith, k))
 no_parts t (more_arrays c cs) p h k = absurd h
 
@@ -59,6 +61,13 @@ no_others (list_array t os c m) p e s = no_items (base t) (type_of c) p s.3
 no_others (fixed_list_array t w n c m) p e s = no_fixed_items (base t) (type_of c) p s.3
 no_others (struct_array t cs m) p e s = no_parts (base t) cs p s.2 s.3
 no_others (dictionary_array t ks c m) p e s = no_entries (base t) (type_of c) p s.2
+
+abbrev number_or : ℕ → Option ℕ → ℕ
+number_or n (Some m) = m
+number_or n None = n
+
+pub some_number : (m n : ℕ) → Some m ≡ Some n → m ≡ n
+some_number m n e = ap (number_or m) e
 
 -- ---- what is written
 
@@ -114,12 +123,40 @@ truth_stored t_boolean (truth b) e h = refl
 truth_stored t_boolean v e h = absurd h
 truth_stored t v e h = absurd (true≢false (sym e))
 
+-- byte strings are stored as they are
+pub string_kept : (t : LeafType) (p : Physical) (s : List ℕ) → stored_value t p (bytes s) ≡ bytes s
+string_kept (unsigned w) int32 s = refl
+string_kept (unsigned w) int64 s = refl
+string_kept t p s = refl
+
+fixed_stored : (t : TypeTree) (n : ℕ) (v : Value) → is_fixed n t ≡ true → IsInRange (leaf_type t) v → IsStored (leaf_type t) (fixed n) v (stored_value (leaf_type t) (fixed n) v)
+fixed_stored (t_fixed_size_binary m) n (bytes s) e h = (eqb-true m n e, h, refl)
+fixed_stored (t_fixed_size_binary m) n v e h = absurd h
+fixed_stored (t_interval YearMonth) n (bytes s) e h = (sym (eqb-true 12 n e), h.0, h.1, refl)
+fixed_stored (t_interval DayTime) n (bytes s) e h = (sym (eqb-true 12 n e), h.0, h.1, refl)
+fixed_stored (t_interval YearMonth) n v e h = absurd h
+fixed_stored (t_interval DayTime) n v e h = absurd h
+fixed_stored t n v e h = absurd (true≢false (sym e))
+
+-- the length of the array's strings is that of its column
+pub width_served : (t : TypeTree) (w : ℕ) (p : Physical) → byte_width t ≡ Some w → is_served t p ≡ true → fixed w ≡ p
+width_served (t_fixed_size_binary m) w (fixed n) e h = ap fixed (sym (some_number m w e) ∙ eqb-true m n h)
+width_served (t_fixed_size_binary m) w boolean e h = absurd (true≢false (sym h))
+width_served (t_fixed_size_binary m) w int32 e h = absurd (true≢false (sym h))
+width_served (t_fixed_size_binary m) w int64 e h = absurd (true≢false (sym h))
+width_served (t_fixed_size_binary m) w int96 e h = absurd (true≢false (sym h))
+width_served (t_fixed_size_binary m) w float e h = absurd (true≢false (sym h))
+width_served (t_fixed_size_binary m) w double e h = absurd (true≢false (sym h))
+width_served (t_fixed_size_binary m) w byte_array e h = absurd (true≢false (sym h))
+width_served t w p e h = absurd cc
+
 -- by the page table
 pub served_stored : (t : TypeTree) (p : Physical) (v : Value) → is_served t p ≡ true → IsInRange (leaf_type t) v → IsStored (leaf_type t) p v (stored_value (leaf_type t) p v)
 served_stored t boolean v e h = truth_stored t v e h
 served_stored t int32 v e h = small_stored t v e h
 served_stored t int64 v e h = wide_stored t v e h
 served_stored t byte_array v e h = string_stored t v e h
+served_stored t (fixed n) v e h = fixed_stored t n v e h
 served_stored t p v e h = absurd (true≢false (sym e))
 
 pub leaf_base : (t : TypeTree) → leaf_type (base t) ≡ leaf_type t

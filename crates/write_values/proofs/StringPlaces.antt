@@ -59,7 +59,7 @@ one_place : (i n : ℕ) → n ≡ 1 → range i n ≡ i ∷ []
 one_place i n e =
     gather-more (λ j. j ∷ []) i n 0 (omega (arith, e)) ∙ ap (λ (xs : List ℕ). (i ∷ []) ++ xs) (gather-none (λ j. j ∷ []) (i + 1) 0 refl)
 
-range_more : (from i : ℕ) → from ≤ i → range from (i + 1 - from) ≡ range from (i - from) ++ (i ∷ [])
+pub range_more : (from i : ℕ) → from ≤ i → range from (i + 1 - from) ≡ range from (i - from) ++ (i ∷ [])
 range_more from i low = gather-split (λ j. j ∷ []) from i (i + 1) low (omega arith) ∙ ap (λ (xs : List ℕ). range from (i - from) ++ xs) (one_place i (i + 1 - i) (omega arith))
 
 pub string_none : (os bs : List ℕ) (from : ℕ) (out : List ℕ) → AppendsRow byte_array out out (map (at_place (pieces_values os bs)) (range from (from - from)))

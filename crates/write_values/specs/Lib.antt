@@ -1,3 +1,5 @@
+pub mod Deltas
+pub mod Fixed
 pub mod Leaf
 pub mod Lengths
 pub mod Numbers

@@ -28,3 +28,6 @@ numbers_in_a_row (fixed n) e = absurd (true≢false (sym e))
 
 pub strings_in_a_row : byte_array ≢ boolean
 strings_in_a_row = λ e. cc
+
+pub fixed_in_a_row : (n : ℕ) → fixed n ≢ boolean
+fixed_in_a_row n = λ e. cc

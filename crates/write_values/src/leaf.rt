@@ -2,19 +2,19 @@
 ghost use Rattle.std.specs.Prelude.{◌≡◌, false, map, MatchOption};
 ghost use Rattle.columns_core.specs.Shapes.{base};
 ghost use Rattle.columns_core.specs.View.{type_view};
-ghost use Rattle.columns_core.specs.Natives.{value_u32};
+ghost use Rattle.columns_core.specs.Natives.{value_i32, value_u32};
 ghost use Rattle.columns_slots.specs.Tree.{leaf_array};
 ghost use Rattle.columns_slots.specs.Slots.{type_of};
 ghost use Rattle.columns_slots.specs.Types.{is_boolean};
 ghost use Rattle.columns_array.specs.Boxed.{boxed};
 ghost use Rattle.pq_tree.specs.Views.{physical_view};
-ghost use Rattle.write_values.specs.Served.{is_small, is_wide, is_string, is_served};
+ghost use Rattle.write_values.specs.Served.{is_fixed, is_small, is_wide, is_string, is_served};
 ghost use Rattle.write_values.specs.Leaf.{IsLeafOf};
 
 use columns_array::ArrayBox;
 use columns_base::PhysicalType;
-use columns_core::{DataType, TimeUnit};
-use columns_leaf::{BinaryArray, BooleanArray, PrimitiveArray, Utf8Array};
+use columns_core::{DataType, DaysMs, IntervalUnit, TimeUnit};
+use columns_leaf::{BinaryArray, BooleanArray, FixedSizeBinaryArray, PrimitiveArray, Utf8Array};
 
 // A leaf array whose values are written, and how.
 #[derive(Clone, Copy, Drop)]
@@ -37,6 +37,11 @@ pub enum Leaf<'a> {
     LargeUtf8(&'a Utf8Array<i64>),
     Binary(&'a BinaryArray<i32>),
     LargeBinary(&'a BinaryArray<i64>),
+    // as byte strings of one length
+    FixedSizeBinary(&'a FixedSizeBinaryArray),
+    // as the 12 bytes of intervals
+    Months(&'a PrimitiveArray<i32>),
+    Days(&'a PrimitiveArray<DaysMs>),
 }
 
 fn is_truth(data_type: &DataType) -> bool
@@ -80,6 +85,16 @@ fn is_string(data_type: &DataType) -> bool
     }
 }
 
+fn is_fixed(data_type: &DataType, length: usize) -> bool
+    ensures { result ≡ is_fixed length (base (type_view data_type.now)) }
+{
+    match data_type.base() {
+        DataType::FixedSizeBinary(width) => *width == length,
+        DataType::Interval(IntervalUnit::YearMonth | IntervalUnit::DayTime) => 12 == length,
+        _ => false,
+    }
+}
+
 /// Whether values of the type are written under the physical type.
 pub fn is_served(data_type: &DataType, physical_type: PhysicalType) -> bool
     ensures { result ≡ is_served (base (type_view data_type.now)) (physical_view physical_type) }
@@ -89,7 +104,22 @@ pub fn is_served(data_type: &DataType, physical_type: PhysicalType) -> bool
         PhysicalType::Int32 => is_small(data_type),
         PhysicalType::Int64 => is_wide(data_type),
         PhysicalType::ByteArray => is_string(data_type),
+        PhysicalType::FixedLenByteArray(length) => is_fixed(data_type, length),
         _ => false,
+    }
+}
+
+// An array of numbers of 32 bits with a sign, or of intervals of months.
+fn int32_leaf(array: &PrimitiveArray<i32>, physical_type: PhysicalType) -> Option<Leaf<'_>>
+    ensures { MatchOption result (is_served (base array.now.0) (physical_view physical_type) ≡ false) (IsLeafOf (leaf_array array.now.0 (map (value_i32 (base array.now.0)) array.now.1.0) array.now.1.1) (physical_view physical_type)) }
+{
+    array.know();
+    if !is_served(array.data_type(), physical_type) {
+        return None;
+    }
+    match physical_type {
+        PhysicalType::FixedLenByteArray(_) => Some(Leaf::Months(array)),
+        _ => Some(Leaf::Int32(array)),
     }
 }
 
@@ -128,10 +158,6 @@ pub fn leaf_of(array: &ArrayBox, physical_type: PhysicalType) -> Option<Leaf<'_>
             a.know();
             Some(Leaf::Int16(a))
         }
-        ArrayBox::Int32(a) => {
-            a.know();
-            Some(Leaf::Int32(a))
-        }
         ArrayBox::UInt8(a) => {
             a.know();
             Some(Leaf::UInt8(a))
@@ -164,20 +190,21 @@ pub fn leaf_of(array: &ArrayBox, physical_type: PhysicalType) -> Option<Leaf<'_>
             a.know();
             Some(Leaf::LargeBinary(a))
         }
+        ArrayBox::FixedSizeBinary(a) => {
+            a.know();
+            Some(Leaf::FixedSizeBinary(a))
+        }
+        ArrayBox::DaysMs(a) => {
+            a.know();
+            Some(Leaf::Days(a))
+        }
+        ArrayBox::Int32(a) => int32_leaf(a, physical_type),
         ArrayBox::UInt32(a) => uint32_leaf(a, physical_type),
         ArrayBox::Null(a) => {
             a.know();
             None
         }
         ArrayBox::Int128(a) => {
-            a.know();
-            None
-        }
-        ArrayBox::DaysMs(a) => {
-            a.know();
-            None
-        }
-        ArrayBox::FixedSizeBinary(a) => {
             a.know();
             None
         }

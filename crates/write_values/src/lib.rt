@@ -1,7 +1,10 @@
-//! The values of a leaf array as a column stores them, measured and spelled, and plain data pages of any path (Parquet format, "Data Pages",
-//! "Nested Encoding", "Types" and LogicalTypes; Encodings, "Plain").
+//! The values of a leaf array as a column stores them, measured and spelled, and data pages of any path, plain or by deltas (Parquet format,
+//! "Data Pages", "Nested Encoding", "Types" and LogicalTypes; Encodings, "Plain", "Delta Encoding" and "Delta-length byte array").
 #![tactic(auto)]
 
+mod deltas;
+mod fixed;
+mod intervals;
 mod leaf;
 mod measure;
 mod measured;
@@ -9,7 +12,11 @@ mod numbers;
 mod order;
 mod page;
 mod plain;
+mod plain_numbers;
+mod plain_strings;
 mod row;
+mod spelled;
+mod spelling;
 mod statistics;
 mod strings;
 mod truths;
@@ -17,6 +24,7 @@ mod values;
 
 pub use leaf::is_served;
 pub use measured::Measured;
-pub use page::plain_page;
+pub use page::{PageForm, data_page};
+pub use spelling::page_encoding;
 pub use statistics::column_statistics;
 pub use values::measure_values;

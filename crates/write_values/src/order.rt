@@ -3,6 +3,7 @@ ghost use Rattle.std.specs.Prelude.{◌≡◌, IsTrue, false};
 ghost use Rattle.shredding.specs.Slot.{bytes};
 ghost use Rattle.pq_files.specs.Statistics.{IsUpTo};
 
+use crate::fixed::FixedStrings;
 use crate::numbers::{AlwaysStored, Numbers, StoredNumber};
 use crate::strings::{Strings, Texts, string_at};
 use columns_core::{Offset, Result};
@@ -170,6 +171,37 @@ impl<'a> OrderedLeaf for OrderedTruths<'a> {
         self.array.know();
         let byte = u8::from(self.array.values().get_bit(i));
         let text = vec![in alloc; byte]?;
+        Ok(text)
+    }
+}
+
+impl<'a> OrderedLeaf for FixedStrings<'a> {
+    ghost use Rattle.columns_core.specs.Shapes.{base, leaf_type};
+    ghost use Rattle.columns_slots.specs.Tree.{leaf_array};
+    ghost use Rattle.columns_slots.specs.Slots.{tree_len};
+    ghost use Rattle.nested_paths.specs.LeafNulls.{value_at};
+    ghost use Rattle.pq_tree.specs.Physical.{fixed};
+    ghost use Rattle.write_values.specs.Fixed.{strings_in, width_in};
+
+    ghost count = { λ s. tree_len (leaf_array s.array.now.0 (strings_in s.array.now.0 s.array.now.1.0) s.array.now.1.1) };
+
+    ghost kind = { λ s. leaf_type (base s.array.now.0) };
+
+    ghost physical = { λ s. fixed (width_in s.array.now.0) };
+
+    ghost value = { λ s. value_at (leaf_array s.array.now.0 (strings_in s.array.now.0 s.array.now.1.0) s.array.now.1.1) };
+
+    fn len(&self) -> usize {
+        self.array.len()
+    }
+
+    fn is_less(&self, i: usize, j: usize) -> bool {
+        is_before(self.string(i), self.string(j))
+    }
+
+    fn bound(&self, alloc: Global, i: usize) -> Result<Vec<u8>> {
+        self.array.know();
+        let text = Vec::from_slice(alloc, self.string(i))?;
         Ok(text)
     }
 }

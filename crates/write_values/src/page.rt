@@ -1,5 +1,5 @@
-//! Plain data pages.
-ghost use Rattle.std.specs.Prelude.{option_map, ◌≡◌, ◌⊎◌, ◌↔◌, ◌<◌, ◌≤◌, ◌^◌, pos, true, false, All, length, map, IfOk, IfErr, IsTrue};
+//! Data pages.
+ghost use Rattle.std.specs.Prelude.{option_map, ◌≡◌, ◌⊎◌, ◌↔◌, ◌<◌, ◌≤◌, ◌^◌, pos, true, false, All, length, map, IfSome, IfOk, IfErr, IsTrue};
 ghost use Rattle.shredding.specs.Parts.{IsPath, path_way};
 ghost use Rattle.shredding.specs.Shred.{max_repetition, max_definition};
 ghost use Rattle.columns_base.specs.declared.error.Error.TheVariants.{Memory, Overflow, NotYetImplemented};
@@ -18,13 +18,18 @@ ghost use Rattle.pq_files.specs.Stored.{AreStored};
 ghost use Rattle.pq_pages.specs.DataPages.{stated_values, stated_encoding};
 ghost use Rattle.write_places.specs.Places.{path_places};
 ghost use Rattle.write_values.specs.Leaf.{leaf_tree, leaf_physical};
-ghost use Rattle.write_values.specs.Pages.{column_room, stored_column, value_column, IsBody, IsHeader, IsPlainOut, IsPlainPage};
+ghost use Rattle.pq_files.specs.Written.{number_of_encoding};
+ghost use Rattle.write_values.specs.Deltas.{AreDeltasOf, IsSpelling, encoding_in};
+ghost use Rattle.write_values.specs.Pages.{column_room, stored_column, value_column, IsBody, IsColumnPage, IsHeader, IsOut};
 ghost use Rattle.write_values.specs.Served.{is_served};
 ghost use Rattle.write_values.specs.Stored.{stored_at};
 
 use crate::leaf::{Leaf, leaf_of};
+use crate::measured::Measured;
+use crate::spelled::push_spelled;
+use crate::spelling::{Deltas, encoding_number, spelling_of};
 use crate::statistics::leaf_statistics;
-use crate::values::{measure, push_values};
+use crate::values::measure;
 use columns_array::ArrayBox;
 use columns_core::{Error, N, Result, V};
 use level_sections::write_rep_and_def;
@@ -38,6 +43,16 @@ use std::alloc::Global;
 
 // The largest size that a header tells.
 const MAX_SIZE: usize = 2_147_483_647;
+
+/// The form of a page.
+#[derive(Clone, Copy, Debug, PartialEq, Eq, Drop)]
+pub struct PageForm {
+    pub version: Version,
+    /// Whether statistics stand in its header.
+    pub with_statistics: bool,
+    /// Whether its values are spelled by deltas where their type allows them.
+    pub with_deltas: bool,
+}
 
 // A body, and the lengths of its level sections.
 #[derive(Drop)]
@@ -68,27 +83,30 @@ fn has_room(pairs: usize, plain: u128) -> bool
     2048 + 14 * pairs + plain as usize <= MAX_SIZE
 }
 
-// The body of a plain page, whose values have so many bytes.
-fn plain_body(
+// The body of a page, whose values are so many and have so many plain bytes.
+fn page_body(
     alloc: Global,
     leaf: Leaf<'_>,
     nested: &[Nested],
     version: Version,
-    plain: usize,
+    measured: Measured,
+    deltas: Option<Deltas>,
 ) -> Result<Body>
     requires well { IsPath (parts_of nested.now) }
     requires parts { length nested.now ≤ 128 }
     requires leaf { leaf_count_or 0 (parts_of nested.now) ≤ tree_len (leaf_tree leaf) }
     requires served { is_served (base (type_of (leaf_tree leaf))) (leaf_physical leaf) ≡ true }
+    requires deltas { IfSome deltas (AreDeltasOf (leaf_physical leaf)) }
+    requires count { measured.values ≡ length (path_places (parts_of nested.now)) }
+    requires size { measured.plain ≤ max_size }
     requires small { plain_length (leaf_physical leaf) (map (stored_at (leaf_tree leaf) (leaf_physical leaf)) (path_places (parts_of nested.now))) ≤ max_size }
     requires room { column_room (leaf_physical leaf) (stored_column (leaf_tree leaf) (leaf_physical leaf) nested.now) ≤ max_size }
-    ensures ok { IfOk result (IsBody version (leaf_physical leaf.entry) nested.now (stored_at (leaf_tree leaf.entry) (leaf_physical leaf.entry))) }
+    ensures ok { IfOk result (IsBody version (encoding_in deltas) (leaf_physical leaf.entry) nested.now (stored_at (leaf_tree leaf.entry) (leaf_physical leaf.entry))) }
     ensures err { IfErr result (λ e. e ≡ Memory) }
 {
     let mut buffer = Vec::new(alloc);
     let (repetition, definition) = write_rep_and_def(version, nested, &mut buffer)?;
-    buffer.reserve(plain)?;
-    let buffer = push_values(alloc, leaf, nested, buffer)?;
+    let buffer = push_spelled(alloc, leaf, nested, measured, deltas, buffer)?;
     Ok(Body {
         buffer,
         repetition,
@@ -96,9 +114,10 @@ fn plain_body(
     })
 }
 
-// The header of a plain page with these statistics.
-fn plain_header(
+// The header of a page with these statistics, whose values are spelled so.
+fn page_header(
     version: Version,
+    deltas: Option<Deltas>,
     counts: Counts,
     statistics: Option<Statistics>,
     body: &Body,
@@ -109,13 +128,13 @@ fn plain_header(
     requires repetition { body.now.repetition < 2 ^ 31 }
     requires definition { body.now.definition < 2 ^ 31 }
     ensures values { stated_values result ≡ pos counts.pairs }
-    ensures encoding { stated_encoding result ≡ pos 0 }
-    ensures is { (out : OutPage) → IsPlainOut out (option_map statistics_view statistics) counts.pairs counts.nulls counts.rows → IsHeader version out body.now.repetition body.now.definition result }
+    ensures encoding { stated_encoding result ≡ pos (number_of_encoding (encoding_in deltas)) }
+    ensures is { (out : OutPage) → IsOut (encoding_in deltas) out (option_map statistics_view statistics) counts.pairs counts.nulls counts.rows → IsHeader version out body.now.repetition body.now.definition result }
 {
     match version {
         Version::V1 => DataPageHeader::V1(DataPageHeaderV1 {
             num_values: counts.pairs as i32,
-            encoding: 0,
+            encoding: encoding_number(deltas),
             definition_level_encoding: Some(3),
             repetition_level_encoding: Some(3),
             statistics,
@@ -124,7 +143,7 @@ fn plain_header(
             num_values: counts.pairs as i32,
             num_nulls: Some(counts.nulls as i32),
             num_rows: counts.rows as i32,
-            encoding: 0,
+            encoding: encoding_number(deltas),
             definition_levels_byte_length: body.definition as i32,
             repetition_levels_byte_length: body.repetition as i32,
             is_compressed: Some(false),
@@ -155,20 +174,21 @@ fn descriptor_of(type_: PrimitiveType, nested: &[Nested]) -> Descriptor
     }
 }
 
-// A plain page of a leaf array whose values are written.
+// A page of a leaf array whose values are written, spelled so.
 fn leaf_page(
     alloc: Global,
     leaf: Leaf<'_>,
     type_: PrimitiveType,
     nested: &[Nested],
-    version: Version,
-    with_statistics: bool,
+    form: PageForm,
+    deltas: Option<Deltas>,
 ) -> Result<DataPage>
     requires well { IsPath (parts_of nested.now) }
     requires parts { length nested.now ≤ 128 }
     requires leaf { leaf_count_or 0 (parts_of nested.now) ≤ tree_len (leaf_tree leaf) }
     requires served { is_served (base (type_of (leaf_tree leaf))) (leaf_physical leaf) ≡ true }
-    ensures ok { IfOk result (IsPlainPage version with_statistics (leaf_tree leaf.entry) (leaf_physical leaf.entry) type_ nested.now) }
+    requires spelling { IsSpelling form.with_deltas (leaf_type (type_of (leaf_tree leaf))) (leaf_physical leaf) deltas }
+    ensures ok { IfOk result (IsColumnPage form (leaf_tree leaf.entry) (leaf_physical leaf.entry) type_ nested.now) }
     ensures places { All (λ i. i < tree_len (leaf_tree leaf.entry)) (path_places (parts_of nested.now)) }
     ensures err { IfErr result (λ e. (e ≡ Memory) ⊎ ((e ≡ Overflow V3) × (max_size < column_room (leaf_physical leaf.entry) (stored_column (leaf_tree leaf.entry) (leaf_physical leaf.entry) nested.now)))) }
 {
@@ -177,49 +197,51 @@ fn leaf_page(
     if !has_room(pairs, measured.plain) {
         return Err(Error::Overflow(V::V3));
     }
-    let body = plain_body(alloc, leaf, nested, version, measured.plain as usize)?;
-    let statistics = leaf_statistics(alloc, leaf, nested, with_statistics)?;
+    let body = page_body(alloc, leaf, nested, form.version, measured, deltas)?;
+    let statistics = leaf_statistics(alloc, leaf, nested, form.with_statistics)?;
     let rows = slot_count(nested);
     let counts = Counts {
         pairs: pairs as u32,
         nulls: (pairs - measured.values) as u32,
         rows: rows as u32,
     };
-    let header = plain_header(version, counts, statistics, &body);
+    let header = page_header(form.version, deltas, counts, statistics, &body);
     let descriptor = descriptor_of(type_, nested);
     Ok(DataPage::new(header, body.buffer, descriptor, Some(rows)))
 }
 
-/// One plain data page of the values that a path reaches in its leaf array, in the version that is asked for (Parquet format, "Data Pages",
-/// "Nested Encoding"; Encodings, "Plain"). The page stands for the column of the slots of the path: its levels, and at each present value
-/// the one that the physical type stores for it, by the page table. Its header has the statistics of these values exactly where they are wanted (parquet.thrift: `Statistics`). What lies
-/// beneath nulls is not looked at. The path is well formed, and its nulls are those of its masks.
+/// One data page of the values that a path reaches in its leaf array, in the form that is asked for (Parquet format, "Data Pages",
+/// "Nested Encoding"; Encodings, "Plain", "Delta Encoding" and "Delta-length byte array"). The page stands for the column of the slots of the
+/// path: its levels, and at each present value the one that the physical type stores for it, by the page table. Where deltas are wanted INT32
+/// and INT64 numbers are spelled in DELTA_BINARY_PACKED and BYTE_ARRAY strings in DELTA_LENGTH_BYTE_ARRAY, everything else in PLAIN. Its header
+/// has the statistics of these values exactly where they are wanted (parquet.thrift: `Statistics`). What lies beneath nulls is not looked at.
+/// The path is well formed, and its nulls are those of its masks.
 ///
 /// # Errors
 ///
 /// - `NotYetImplemented(N5)` exactly where values of the array's type are not written under the physical type (`is_served`).
-/// - `Overflow(V3)` exactly where they are and the room of the page passes 2^31 - 1.
+/// - `Overflow(V3)` exactly where they are and the room of the page passes 2^31 - 1, whatever its encoding.
 /// - `Memory`.
-pub fn plain_page(
+pub fn data_page(
     alloc: Global,
     array: &ArrayBox,
     type_: PrimitiveType,
     nested: &[Nested],
-    version: Version,
-    with_statistics: bool,
+    form: PageForm,
 ) -> Result<DataPage>
     requires well { IsPath (parts_of nested.now) }
     requires parts { length nested.now ≤ 128 }
     requires leaf { tree_len (boxed array.now) ≡ leaf_count_or 0 (parts_of nested.now) }
-    ensures ok { IfOk result (IsPlainPage version with_statistics (boxed array.now) (physical_view type_.physical_type) type_ nested.now) }
+    ensures ok { IfOk result (IsColumnPage form (boxed array.now) (physical_view type_.physical_type) type_ nested.now) }
     ensures stored { is_served (base (type_of (boxed array.now))) (physical_view type_.physical_type) ≡ true → AreStored (leaf_type (type_of (boxed array.now))) (physical_view type_.physical_type) (value_column (boxed array.now) nested.now) (stored_column (boxed array.now) (physical_view type_.physical_type) nested.now) }
     ensures unserved { ComesWhere (NotYetImplemented N5) (is_served (base (type_of (boxed array.now))) (physical_view type_.physical_type) ≡ false) result }
     ensures too_large { ComesWhere (Overflow V3) ((is_served (base (type_of (boxed array.now))) (physical_view type_.physical_type) ≡ true) × (max_size < column_room (physical_view type_.physical_type) (stored_column (boxed array.now) (physical_view type_.physical_type) nested.now))) result }
     ensures err { IfErr result (λ e. (e ≡ Memory) ⊎ (e ≡ NotYetImplemented N5) ⊎ (e ≡ Overflow V3)) }
 {
     array.know();
+    let deltas = spelling_of(array.data_type(), type_.physical_type, form.with_deltas);
     match leaf_of(array, type_.physical_type) {
-        Some(leaf) => leaf_page(alloc, leaf, type_, nested, version, with_statistics),
+        Some(leaf) => leaf_page(alloc, leaf, type_, nested, form, deltas),
         None => Err(Error::NotYetImplemented(N::N5)),
     }
 }

@@ -1,5 +1,5 @@
 //! The statistics of columns whose values are written.
-ghost use Rattle.std.specs.Prelude.{◌≡◌, ◌≤◌, true, Some, option_map, IfOk, IfErr};
+ghost use Rattle.std.specs.Prelude.{◌≡◌, ◌≤◌, true, false, Some, option_map, IfOk, IfErr};
 ghost use Rattle.shredding.specs.Parts.{IsPath};
 ghost use Rattle.columns_array.specs.Boxed.{boxed};
 ghost use Rattle.columns_base.specs.declared.error.Error.TheVariants.{Memory};
@@ -14,24 +14,36 @@ ghost use Rattle.write_values.specs.Leaf.{leaf_tree, leaf_physical};
 ghost use Rattle.write_values.specs.Pages.{value_column};
 ghost use Rattle.write_values.specs.Served.{is_served};
 
+use crate::fixed::FixedStrings;
 use crate::leaf::{Leaf, leaf_of};
 use crate::numbers::Numbers;
 use crate::order::OrderedTruths;
 use crate::strings::{Strings, Texts};
+use crate::values::measure;
 use columns_array::ArrayBox;
 use columns_base::PhysicalType;
 use columns_core::Result;
 use levels::Nested;
-use page_statistics::column_statistics as statistics_of;
+use page_statistics::{column_statistics as statistics_of, unordered_statistics};
 use pq_tree::Statistics;
 use std::alloc::Global;
+
+// The statistics of the column of a path over a leaf array whose values have no order: the number of nulls alone.
+fn null_statistics(leaf: Leaf<'_>, nested: &[Nested]) -> Statistics
+    requires well { IsPath (parts_of nested.now) }
+    requires leaf { leaf_count_or 0 (parts_of nested.now) ≤ tree_len (leaf_tree leaf) }
+    requires served { is_served (base (type_of (leaf_tree leaf))) (leaf_physical leaf) ≡ true }
+    requires unordered { has_order (leaf_type (base (type_of (leaf_tree leaf)))) ≡ false }
+    ensures { AreStated true (leaf_type (base (type_of (leaf_tree leaf.entry)))) (leaf_physical leaf.entry) (value_column (leaf_tree leaf.entry) nested.now) (Some (statistics_view result)) }
+{
+    unordered_statistics(nested, measure(leaf, nested).values)
+}
 
 // The statistics of the column of a path over a leaf array whose values are written.
 fn all_statistics(alloc: Global, leaf: Leaf<'_>, nested: &[Nested]) -> Result<Statistics>
     requires well { IsPath (parts_of nested.now) }
     requires leaf { leaf_count_or 0 (parts_of nested.now) ≤ tree_len (leaf_tree leaf) }
     requires served { is_served (base (type_of (leaf_tree leaf))) (leaf_physical leaf) ≡ true }
-    requires ordered { has_order (leaf_type (base (type_of (leaf_tree leaf)))) ≡ true }
     ensures ok { IfOk result (λ s. AreStated true (leaf_type (base (type_of (leaf_tree leaf.entry)))) (leaf_physical leaf.entry) (value_column (leaf_tree leaf.entry) nested.now) (Some (statistics_view s))) }
     ensures err { IfErr result (λ e. e ≡ Memory) }
 {
@@ -50,6 +62,18 @@ fn all_statistics(alloc: Global, leaf: Leaf<'_>, nested: &[Nested]) -> Result<St
         Leaf::LargeUtf8(array) => statistics_of(alloc, &Texts { array }, nested),
         Leaf::Binary(array) => statistics_of(alloc, &Strings { array }, nested),
         Leaf::LargeBinary(array) => statistics_of(alloc, &Strings { array }, nested),
+        Leaf::FixedSizeBinary(a) => {
+            a.know();
+            statistics_of(alloc, &FixedStrings::new(a), nested)
+        }
+        Leaf::Months(a) => {
+            a.know();
+            Ok(null_statistics(leaf, nested))
+        }
+        Leaf::Days(a) => {
+            a.know();
+            Ok(null_statistics(leaf, nested))
+        }
     }
 }
 

@@ -16,6 +16,8 @@ ghost use Rattle.write_values.specs.Rows.{AppendsPlain, Measures};
 ghost use Rattle.write_values.specs.Served.{is_served};
 ghost use Rattle.write_values.specs.Stored.{stored_at};
 
+use crate::fixed::{FixedStrings, InFixed};
+use crate::intervals::{Days, Months};
 use crate::leaf::{Leaf, leaf_of};
 use crate::measure::measure_row;
 use crate::measured::Measured;
@@ -51,6 +53,12 @@ pub fn measure(leaf: Leaf<'_>, nested: &[Nested]) -> Measured
         Leaf::LargeUtf8(array) => measure_row(&Texts { array }, nested),
         Leaf::Binary(array) => measure_row(&Strings { array }, nested),
         Leaf::LargeBinary(array) => measure_row(&Strings { array }, nested),
+        Leaf::FixedSizeBinary(a) => measure_row(&FixedStrings::new(a), nested),
+        Leaf::Months(a) => {
+            a.know();
+            measure_row(&InFixed::new(Months::new(a)), nested)
+        }
+        Leaf::Days(array) => measure_row(&InFixed::new(Days { array }), nested),
     }
 }
 
@@ -83,6 +91,12 @@ pub fn push_values(
         Leaf::LargeUtf8(array) => push_row(&Texts { array }, nested, out),
         Leaf::Binary(array) => push_row(&Strings { array }, nested, out),
         Leaf::LargeBinary(array) => push_row(&Strings { array }, nested, out),
+        Leaf::FixedSizeBinary(a) => push_row(&FixedStrings::new(a), nested, out),
+        Leaf::Months(a) => {
+            a.know();
+            push_row(&InFixed::new(Months::new(a)), nested, out)
+        }
+        Leaf::Days(array) => push_row(&InFixed::new(Days { array }), nested, out),
     }
 }
 

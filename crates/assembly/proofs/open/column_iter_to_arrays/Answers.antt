@@ -5,7 +5,7 @@ use Rattle.assembly.specs.Lanes.{lanes_of}
 use Rattle.assembly.specs.Opened.{AreOpen, physical_in}
 use Rattle.assembly.specs.Paths.{path_view}
 use Rattle.assembly.proofs.Given.{giving}
-use Rattle.assembly.proofs.Opens.{not_sound, not_served, not_as_many, opens_lanes, opened_giving}
+use Rattle.assembly.proofs.Opens.{not_sound, not_read, not_as_many, opens_lanes, opened_giving}
 use Rattle.assembly.proofs.open.column_iter_to_arrays.Goals as goal
 
 pub returns-in-Err-clause-refused : goal.returns-in-Err-clause-refused
@@ -41,5 +41,5 @@ returns-in-Ok-open_columns-clause-ok g c = λ o h.
     })
 
 pub returns-clause-refused : goal.returns-clause-refused
-returns-clause-refused g c = not_served (field_view c.args.field) (map g.I.Pages.outcomes c.args.columns.items) (map physical_in c.args.types.items) c.args.chunk_size c.args.num_rows c.in-Err-open_columns.error
+returns-clause-refused g c = not_read (field_view c.args.field) (map g.I.Pages.outcomes c.args.columns.items) (map physical_in c.args.types.items) c.args.chunk_size c.args.num_rows c.in-Err-open_columns.error
     (rw (c.deref.ensures.value, c.deref-2.ensures.value, c.in-Ok.ensures.ok.0) at c.in-Err-open_columns.ensures.err)

@@ -1,7 +1,7 @@
 use Rattle.std.proofs.Common.{◌≡◌, ◌∙◌, inl, inr, ◌+◌, ◌∷◌, [], suc, length, drop, get_or, reverse, ap, sym, subst, arith}
 use Rattle.std.proofs.lemmas.List.{length-append, take_all}
 use Rattle.assembly.specs.Lanes.{AreReading}
-use Rattle.assembly.specs.Opened.{IsOpen, IsNotServed, physical_in}
+use Rattle.assembly.specs.Opened.{IsOpen, IsNotRead, physical_in}
 use Rattle.assembly.specs.Paths.{path_view}
 use Rattle.assembly.proofs.Opens.{picked, fault_at, last_is, rest_is, one_more, none_open}
 use Rattle.assembly.proofs.open.open_columns.Goals as goal
@@ -40,5 +40,5 @@ returns-in-Err-clause-err g c =
     let type_is = subst (λ m. c.index-types-i.result ≡ get_or c.args.types.now m c.index-types-i.result) place c.index-types-i.is in
     elim c.in-Err.ensures.err [
       | inl m ↦ inl m
-      | inr f ↦ inr (fault_at c.args.paths.now c.args.types.now (length c.pop.new.self.items) c.index-paths-i.result c.index-types-i.result c.in-Err.error (omega (arith, c.requires.columns, c.requires.types)) (omega (arith, count, few, c.requires.types)) path_is type_is (subst (λ y. IsNotServed (path_view c.index-paths-i.result) (physical_in y) c.in-Err.error) (sym c.index-types-i.is) f))
+      | inr f ↦ inr (fault_at c.args.paths.now c.args.types.now (length c.pop.new.self.items) c.index-paths-i.result c.index-types-i.result c.in-Err.error (omega (arith, c.requires.columns, c.requires.types)) (omega (arith, count, few, c.requires.types)) path_is type_is (subst (λ y. IsNotRead (path_view c.index-paths-i.result) (physical_in y) c.in-Err.error) (sym c.index-types-i.is) f))
     ]

@@ -1,4 +1,4 @@
-use Rattle.std.proofs.Common.{◌∙◌, ◌++◌, ◌∷◌, [], List, Some, length, slice_set, ◌+◌, ap, sym, subst, arith}
+use Rattle.std.proofs.Common.{rules, ◌∙◌, ◌++◌, ◌∷◌, [], List, Some, length, slice_set, ◌+◌, ap, sym, subst, arith}
 use Rattle.std.proofs.lemmas.List.{length-append}
 use Rattle.columns_core.specs.Tree.{TypeTree}
 use Rattle.shredding.specs.Shred.{Triple}
@@ -6,7 +6,7 @@ use Rattle.read_leaves.specs.Leaf.{IsReadingLeaf}
 use Rattle.read_pieces.specs.Columns.{ColumnOpening, GivesPiece}
 use Rattle.read_pieces.specs.Pieces.{IsPieceOf}
 use Rattle.assembly.specs.Lanes.{AreStepped, TakesPieces}
-use Rattle.assembly.proofs.Stepping.{stepped, taken, refused, still_open, whole_back}
+use Rattle.assembly.proofs.Stepping.{stepped, taken, refused, still_open, whole_back, memory_refused}
 use Rattle.assembly.proofs.pieces.next_pieces.Goals as goal
 
 pub returns-in-Some-Err-clause-err : goal.returns-in-Some-Err-clause-err
@@ -23,6 +23,9 @@ returns-in-None-clause-err g c = λ before rows xs tables r b less.
     absurd (still_open before rows xs c.loop-column.column-items c.loop-column.pieces.items at.0 tables c.loop-column.column-index c.column-item.result
     at.1 (sym c.loop-column.invariant.counted) (omega arith) c.column-item.is b less
     (λ (o : ColumnOpening) (t : TypeTree) (pieces : List (List Triple)) (h : IsReadingLeaf o t pieces c.column-item.result). c.in-None.ensures o t pieces (subst (λ x. IsReadingLeaf o t pieces x) c.column-item.is h)))
+
+pub returns-in_err-push-in-Some-Ok-clause-err : goal.returns-in_err-push-in-Some-Ok-clause-err
+returns-in_err-push-in-Some-Ok-clause-err g c = λ before rows xs tables r b less. memory_refused c.from_residual.result xs (search rules)
 
 pub loop-column-preserved : goal.loop-column-preserved
 loop-column-preserved g c = record {

@@ -1,27 +1,17 @@
-use Rattle.std.proofs.Common.{◌+◌, ◌-◌, ◌≤◌, ◌∙◌, arith}
+use Rattle.std.proofs.Common.{◌-◌, ◌++◌, ◌∙◌, ℕ, List, ap, replicate, subst, append_assoc}
 use Rattle.levels.specs.Nested.{parts_of}
-use Rattle.pq_runs.proofs.Packs.{kept_then}
+use Rattle.pq_runs.specs.Writing.{Keeps}
+use Rattle.pq_runs.proofs.Steps.{finished}
 use Rattle.level_sections.specs.Blocks.{flat_level, levels_from}
-use Rattle.level_sections.proofs.Walked.{goes_on, goes_end}
-use Rattle.level_sections.proofs.Blocks.{reaches-less, from-split, from-none}
+use Rattle.level_sections.proofs.Blocks.{from-run}
 use Rattle.level_sections.proofs.block.push_flat.Goals as goal
 
-pub push_block-requires-clause-reaches : goal.push_block-requires-clause-reaches
-push_block-requires-clause-reaches c = reaches-less c.args.to _ (parts_of c.args.parts.now) (omega (arith, c.min-count.ensures, c.loop-place-test.true)) c.requires.reaches
-
-pub loop-place-preserved : goal.loop-place-preserved
-loop-place-preserved c =
-    let h = c.loop-place.invariant in
-    let e = c.in_ok-push_block.ensures in
-    let level = flat_level (parts_of c.args.parts.now) c.args.def in
-    let within : c.loop-place.place + c.min-count.result ≤ c.args.to = omega (arith, c.min-count.ensures, c.loop-place-test.true) in
-    record {
-      after = omega (arith, h.after);
-      before = within;
-      width = e.width ∙ h.width;
-      kept = kept_then c.args.out.now.items c.loop-place.out.items c.push_block.new.out.items h.kept e.kept;
-      added = λ start xs k. goes_on start c.loop-place.out.items c.push_block.new.out.items c.loop-place.writer c.push_block.new.writer _ (levels_from level c.loop-place.place c.min-count.result) _ _ (from-split level c.loop-place.place c.min-count.result c.args.to within) e.added (h.added start xs k);
-    }
-
 pub returns-clause-added : goal.returns-clause-added
-returns-clause-added c = λ start xs k. goes_end start c.loop-place.out.items c.loop-place.writer _ _ (from-none _ c.loop-place.place (c.args.to - c.loop-place.place) (omega (arith, c.loop-place-test.false))) (c.loop-place.invariant.added start xs k)
+returns-clause-added c =
+    let level = flat_level (parts_of c.args.parts.now) c.args.def in
+    let e = c.first_run-level.ensures in
+    let end = c.first_run-level.result.1 in
+    let front = replicate (end - c.args.from) c.first_run-level.result.0 in
+    let is = from-run level c.first_run-level.result.0 c.args.from end c.args.to e.after e.within e.even in
+    finished c.push_blocks-2.result
+    (λ f start xs k. subst (λ (ys : List ℕ). Keeps start c.push_blocks-2.new.out.items c.push_blocks-2.new.writer ys) (append_assoc xs front (levels_from level end (c.args.to - end)) ∙ ap (λ (ys : List ℕ). xs ++ ys) is) (f start (xs ++ front) (c.in_ok-push.ensures.added start xs k))) c.push_blocks-2.ensures.added

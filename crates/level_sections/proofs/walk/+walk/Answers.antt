@@ -1,12 +1,15 @@
-use Rattle.std.proofs.Common.{◌-◌, ◌∙◌, refl, arith}
+use Rattle.std.proofs.Common.{◌-◌, ◌++◌, ◌∙◌, ℕ, List, refl, arith, subst}
 use Rattle.levels.specs.Nested.{parts_of}
+use Rattle.pq_runs.specs.Writing.{Keeps}
 use Rattle.pq_runs.proofs.Packs.{kept_then}
+use Rattle.pq_runs.proofs.Steps.{finished}
+use Rattle.level_sections.proofs.Repeats.{listed}
 use Rattle.level_sections.specs.Walk.{walked}
 use Rattle.level_sections.proofs.Walked.{walked-step, walked-none, goes_on, goes_end}
 use Rattle.level_sections.proofs.walk.+walk.Goals as goal
 
-pub walk-loop-place-preserved : goal.walk-loop-place-preserved
-walk-loop-place-preserved t c =
+pub walk_stretches-loop-place-preserved : goal.walk_stretches-loop-place-preserved
+walk_stretches-loop-place-preserved t c =
     let e = c.in_ok-place.ensures in
     record {
       after = omega (arith, c.loop-place.invariant.after, e.after.0);
@@ -20,6 +23,18 @@ walk-loop-place-preserved t c =
           (walked-step c.args.level (parts_of c.args.parts.now) c.loop-place.here (record { rep = c.loop-place.here.depth; def = c.loop-place.here.def; depth = c.loop-place.here.depth }) c.loop-place.place c.in_ok-place.place c.args.to refl refl refl e.after.0 e.after.1) e.added (c.loop-place.invariant.added start xs k);
     }
 
-pub walk-returns-clause-added : goal.walk-returns-clause-added
-walk-returns-clause-added t c = λ start xs k.
+pub walk_stretches-returns-clause-added : goal.walk_stretches-returns-clause-added
+walk_stretches-returns-clause-added t c = λ start xs k.
     goes_end start c.loop-place.out.items c.loop-place.writer _ _ (walked-none c.args.level (parts_of c.args.parts.now) c.loop-place.here c.loop-place.place (c.args.to - c.loop-place.place) (omega arith)) (c.loop-place.invariant.added start xs k)
+
+pub walk-returns-in-Lists-clause-added : goal.walk-returns-in-Lists-clause-added
+walk-returns-in-Lists-clause-added t c =
+    let list = c.in-Lists.list.now in
+    let e = listed c.args.level list.is_optional list.validity list.offsets (parts_of c.args.parts.now) c.args.above c.args.from (c.args.to - c.args.from) c.requires.well.fits c.in-Lists.ensures in
+    finished c.walk_lists.result (λ f start xs k. subst (λ (ys : List ℕ). Keeps start c.walk_lists.new.out.items c.walk_lists.new.writer (xs ++ ys)) e (f start xs k)) c.walk_lists.ensures.added
+
+pub walk-returns-in-LargeLists-clause-added : goal.walk-returns-in-LargeLists-clause-added
+walk-returns-in-LargeLists-clause-added t c =
+    let list = c.in-LargeLists.list.now in
+    let e = listed c.args.level list.is_optional list.validity list.offsets (parts_of c.args.parts.now) c.args.above c.args.from (c.args.to - c.args.from) c.requires.well.fits c.in-LargeLists.ensures in
+    finished c.walk_lists-in-LargeLists.result (λ f start xs k. subst (λ (ys : List ℕ). Keeps start c.walk_lists-in-LargeLists.new.out.items c.walk_lists-in-LargeLists.new.writer (xs ++ ys)) e (f start xs k)) c.walk_lists-in-LargeLists.ensures.added

@@ -2,18 +2,20 @@ use Rattle.std.proofs.Common.{◌≡◌, ℕ, ◌+◌, ◌-◌, ◌*◌, ◌≤�
 use Rattle.levels.specs.Nested.{parts_of}
 use Rattle.pq_runs.specs.Writing.{Extends}
 use Rattle.pq_runs.specs.Writing.{Keeps}
-use Rattle.level_sections.specs.Walk.{walked}
-use Rattle.level_sections.proofs.Walked.{Goes}
+use Rattle.level_sections.specs.Walk.{walked, Goes}
 use Rattle.level_sections.proofs.walk.+walk.Given as goal
 
 abbrev pub decreases-step : goal.decreases-step
-decreases-step l = 2 * length l.parts.now
+decreases-step l = 3 * length l.parts.now
+
+abbrev pub decreases-walk_stretches : goal.decreases-walk_stretches
+decreases-walk_stretches l = 3 * length l.parts.now + 1
 
 abbrev pub decreases-walk : goal.decreases-walk
-decreases-walk l = 2 * length l.parts.now + 1
+decreases-walk l = 3 * length l.parts.now + 2
 
-abbrev pub invariant-walk-loop-place : goal.invariant-walk-loop-place
-invariant-walk-loop-place l = record {
+abbrev pub invariant-walk_stretches-loop-place : goal.invariant-walk_stretches-loop-place
+invariant-walk_stretches-loop-place l = record {
   after : l.from ≤ l.place;
   before : l.place ≤ l.to;
   first : l.here.rep ≤ l.here.depth;
@@ -24,5 +26,5 @@ invariant-walk-loop-place l = record {
   added : (start xs : List ℕ) → Keeps start l.fn.out.items l.fn.writer xs → Goes start l.out.items l.writer (walked l.level (parts_of l.parts) l.here l.place (l.to - l.place)) (xs ++ walked l.level (parts_of l.parts) l.fn.above l.from (l.to - l.from));
 }
 
-abbrev pub decreases-walk-loop-place : goal.decreases-walk-loop-place
-decreases-walk-loop-place l = l.to - l.place
+abbrev pub decreases-walk_stretches-loop-place : goal.decreases-walk_stretches-loop-place
+decreases-walk_stretches-loop-place l = l.to - l.place

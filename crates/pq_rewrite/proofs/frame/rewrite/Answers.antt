@@ -6,7 +6,7 @@ use Rattle.pq_rewrite.proofs.Refusals.{refused}
 use Rattle.pq_rewrite.proofs.frame.rewrite.Goals as goal
 
 pub returns-in-Err-clause-answer : goal.returns-in-Err-clause-answer
-returns-in-Err-clause-answer g c = λ some served.
+returns-in-Err-clause-answer g c = λ some.
     refused
     (meaning (Gives (codec_of (g.C.SchemaCodec.bytes_of c.args.codec.now) (g.C.SchemaCodec.reads c.args.codec.now)) (asked_by c.args.options) (g.V.View.seen c.args.view.now) (g.V.View.seen c.convert.new.view)) (Causes (codec_of (g.C.SchemaCodec.bytes_of c.args.codec.now) (g.C.SchemaCodec.reads c.args.codec.now)) (asked_by c.args.options)))
     c.args.options.byte_limit

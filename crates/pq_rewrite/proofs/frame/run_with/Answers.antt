@@ -14,5 +14,5 @@ returns-clause-ended g c =
     ((c.rewrite-answer.new.source ≡ c.args.source.now) × (c.rewrite-answer.new.sink ≡ c.args.sink.now) × (c.rewrite-answer.new.view ≡ c.args.view.now))
     (c.rewrite-answer.new.sink ≡ c.args.sink.now)
     c.rewrite-answer.result c.status_of.result
-    c.rewrite-answer.ensures.no_rows c.rewrite-answer.ensures.not_served c.rewrite-answer.ensures.untouched c.rewrite-answer.ensures.answer c.rewrite-answer.ensures.kept
+    c.rewrite-answer.ensures.no_rows c.rewrite-answer.ensures.untouched c.rewrite-answer.ensures.answer c.rewrite-answer.ensures.kept
     c.status_of.ensures c.tell_answer.ensures

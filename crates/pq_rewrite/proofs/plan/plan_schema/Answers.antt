@@ -1,9 +1,8 @@
-use Rattle.std.proofs.Common.{rules, ◌∙◌, ap, sym, subst}
+use Rattle.std.proofs.Common.{rules, ◌∙◌, ap, sym}
 use Rattle.columns_core.specs.View.{schema_view, fields_of}
 use Rattle.pq_tree.specs.TreeViews.{metadata_view, trees_view}
 use Rattle.schema_from_tree.specs.FromTree.{arrow_fields}
 use Rattle.schema_key.specs.Inferred.{inferred}
-use Rattle.pq_rewrite.specs.Plans.{ArePlain}
 use Rattle.pq_rewrite.proofs.Plains.{same_keys, some_fields}
 use Rattle.pq_rewrite.proofs.plan.plan_schema.Goals as goal
 
@@ -13,5 +12,5 @@ returns-clause-ok g c = record {
   nesting = c.in-Ok.ensures.shallow;
   fits = c.settled_schemas_fit.ensures (schema_view c.in-Ok.schema).fields (metadata_view c.args.metadata.now) (some_fields c.in-Ok.schema.fields.items (search rules)) (search rules) c.in-Ok-tree_to_write.ensures.ok.1 (search rules) (search rules);
   tree = c.in-Ok-tree_to_write.ensures.ok.0;
-  encodings = subst (λ ts. ArePlain (trees_view ts) c.in_ok-encodings.encodings.items) c.fields-2.ensures.are c.in_ok-encodings.ensures.ok;
+  encodings = search rules;
 }

@@ -10,7 +10,9 @@ returns-clause-ok g c =
     let d = c.in_default-write_groups.ensures.ok in
     let f = footer_at c.args.input.now c.in_ok-place.place _ c.frames_are_told.ensures c.in-Ok.ensures.framed c.in_ok-place.ensures.ok c.in-Ok.ensures.found in
     on_both c.finish_output.result _ _
-    (λ made p. whole (codec_of (g.C.SchemaCodec.bytes_of c.args.codec.now) (g.C.SchemaCodec.reads c.args.codec.now)) _ _ _ _ made.0.bytes.items made.1 c.written_is_converted.ensures d f c.in-Ok-plan_schema.ensures.ok.infers p)
+    (λ made p. whole (codec_of (g.C.SchemaCodec.bytes_of c.args.codec.now) (g.C.SchemaCodec.reads c.args.codec.now)) _ _ _ _ made.0.bytes.items made.1 c.written_is_converted.ensures d
+    (record { fifth = record { fourth = record { third = record { footer = f; shallow = c.in-Ok.ensures.shallow }; few = c.in_ok-check_pairs.ensures.ok }; placed = c.in_default.ensures.ok }; infers = c.in-Ok-plan_schema.ensures.ok.infers; fits = c.in-Ok-plan_schema.ensures.ok.fits })
+    p)
     (c.finish_output.ensures.ok d.chunks d.output_is)
 
 pub returns-in-Err-clause-err : goal.returns-in-Err-clause-err

@@ -30,14 +30,14 @@ returns-clause-ok c =
     let n : length c.loop-block.block ≡ length c.args.block.now + k = ap length c.loop-block.invariant.behind.1 ∙ length-append c.args.block.now (replicate k 0) ∙ ap (λ (j : ℕ). length c.args.block.now + j) (length-replicate k 0) in
     let near : length c.loop-block.block ≤ filled_up (length c.args.block.now) = c.loop-block.invariant.near in
     let less : k < 8 = omega (arith, n, near) in
-    finished c.push_groups.result
-    (λ e start xs s. wrote_last c.args.width k start c.args.out.now.items c.push_groups.new.out.items c.args.block.now c.loop-block.block xs e.0 (omega arith) (omega (arith, n)) c.loop-block.invariant.most (omega arith) less c.loop-block.invariant.behind.1 e.2 e.1 s)
-    (rw c.as_slice.ensures at c.push_groups.ensures.ok)
+    finished c.push_run.result
+    (λ e start xs s. wrote_last c.args.width k start c.args.out.now.items c.push_run.new.out.items c.args.block.now c.loop-block.block xs e.0 (omega arith) (omega (arith, n)) c.loop-block.invariant.most (omega arith) less c.loop-block.invariant.behind.1 e.2 e.1 s)
+    c.push_run.ensures.ok
 
 pub returns-clause-size : goal.returns-clause-size
 returns-clause-size c =
     let near : length c.loop-block.block ≤ filled_up (length c.args.block.now) = c.loop-block.invariant.near in
     let more : c.args.width * length c.loop-block.block ≤ c.args.width * filled_up (length c.args.block.now) = mul-le c.args.width _ c.args.width _ (omega arith) near in
-    finished c.push_groups.result
-    (λ e. omega (arith, more, packed_size c.args.width c.args.out.now.items c.push_groups.new.out.items c.loop-block.block e.0 c.loop-block.invariant.most (omega arith) e.2 e.1))
-    (rw c.as_slice.ensures at c.push_groups.ensures.ok)
+    finished c.push_run.result
+    (λ e. omega (arith, more, packed_size c.args.width c.args.out.now.items c.push_run.new.out.items c.loop-block.block e.0 c.loop-block.invariant.most (omega arith) e.2 e.1))
+    c.push_run.ensures.ok

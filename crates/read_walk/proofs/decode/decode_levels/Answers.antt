@@ -21,4 +21,4 @@ returns-in-Err-clause-err g c =
     c.loop-at.invariant.cannot c.in-Err.error (rw c.some_levels-part.ensures.parts (cannot-first g.D.NestedDecoder.byte_limit c.args.floor c.args.top part ds _ _ _ c.in-Err.error c.requires.ordered c.mixed_word-valid.ensures.bits c.in-Err.ensures.err))
 
 pub returns-clause-ok : goal.returns-clause-ok
-returns-clause-ok g c = c.loop-at.invariant.all (g.D.NestedDecoder.left c.loop-at.values) (g.D.NestedDecoder.slots c.loop-at.decoded) (rw (drop_of_length-le c.args.defs.now {i = c.loop-at.at} (omega (arith, c.loop-at-test.false))) (decoded-none c.args.floor c.args.top (g.D.NestedDecoder.left c.loop-at.values) (g.D.NestedDecoder.slots c.loop-at.decoded)))
+returns-clause-ok g c = c.loop-at.invariant.all (g.D.NestedDecoder.left c.args.decoder.now c.loop-at.values) (g.D.NestedDecoder.slots c.loop-at.decoded) (rw (drop_of_length-le c.args.defs.now {i = c.loop-at.at} (omega (arith, c.loop-at-test.false))) (decoded-none c.args.floor c.args.top (g.D.NestedDecoder.left c.args.decoder.now c.loop-at.values) (g.D.NestedDecoder.slots c.loop-at.decoded)))

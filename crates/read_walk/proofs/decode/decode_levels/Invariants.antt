@@ -7,8 +7,8 @@ use Rattle.read_walk.proofs.decode.decode_levels.Given as goal
 
 abbrev pub invariant-loop-at : goal.invariant-loop-at
 invariant-loop-at g l = record {
-  all : (left' : List Stored) (slots' : List Slot) → Decoded l.floor l.top (drop l.at l.defs) (g.D.NestedDecoder.left l.values) left' (g.D.NestedDecoder.slots l.decoded) slots' → Decoded l.floor l.top l.defs (g.D.NestedDecoder.left l.initial.values) left' (g.D.NestedDecoder.slots l.initial.decoded) slots';
-  cannot : (e : Error) → CannotDecode g.D.NestedDecoder.byte_limit (called l.top (drop l.at l.defs)) (g.D.NestedDecoder.left l.values) (g.D.NestedDecoder.slots l.decoded) e → CannotDecode g.D.NestedDecoder.byte_limit (called l.top l.defs) (g.D.NestedDecoder.left l.initial.values) (g.D.NestedDecoder.slots l.initial.decoded) e;
+  all : (left' : List Stored) (slots' : List Slot) → Decoded l.floor l.top (drop l.at l.defs) (g.D.NestedDecoder.left l.decoder l.values) left' (g.D.NestedDecoder.slots l.decoded) slots' → Decoded l.floor l.top l.defs (g.D.NestedDecoder.left l.decoder l.initial.values) left' (g.D.NestedDecoder.slots l.initial.decoded) slots';
+  cannot : (e : Error) → CannotDecode g.D.NestedDecoder.byte_limit (called l.top (drop l.at l.defs)) (g.D.NestedDecoder.left l.decoder l.values) (g.D.NestedDecoder.slots l.decoded) e → CannotDecode g.D.NestedDecoder.byte_limit (called l.top l.defs) (g.D.NestedDecoder.left l.decoder l.initial.values) (g.D.NestedDecoder.slots l.initial.decoded) e;
 }
 
 abbrev pub decreases-loop-at : goal.decreases-loop-at

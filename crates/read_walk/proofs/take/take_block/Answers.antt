@@ -16,18 +16,18 @@ push_levels-requires-clause-fits g c = all-fit 64 c.args.before c.args.reps.now 
 
 pub returns-in-Ok-clause-ok : goal.returns-in-Ok-clause-ok
 returns-in-Ok-clause-ok g c =
-    both_ok c.push_levels.result (λ made short. took-block 64 c.args.before c.leaf_levels-floor.result.0 c.leaf_levels-floor.result.1 c.args.reps.now c.args.defs.now c.args.nested.now c.push_levels.new.self (g.D.NestedDecoder.slots c.args.decoded.now) (g.D.NestedDecoder.slots c.decode_levels.new.decoded) (g.D.NestedDecoder.left c.args.values.now) (g.D.NestedDecoder.left c.decode_levels.new.values) c.requires.reps c.requires.defs c.requires.fits c.requires.follow c.requires.ended c.requires.decoded c.leaf_levels-floor.ensures.floor c.leaf_levels-floor.ensures.top made short c.in-Ok.ensures.ok) c.push_levels.ensures.ok c.push_levels.ensures.counted
+    both_ok c.push_levels.result (λ made short. took-block 64 c.args.before c.leaf_levels-floor.result.0 c.leaf_levels-floor.result.1 c.args.reps.now c.args.defs.now c.args.nested.now c.push_levels.new.self (g.D.NestedDecoder.slots c.args.decoded.now) (g.D.NestedDecoder.slots c.decode_levels.new.decoded) (g.D.NestedDecoder.left c.args.decoder.now c.args.values.now) (g.D.NestedDecoder.left c.args.decoder.now c.decode_levels.new.values) c.requires.reps c.requires.defs c.requires.fits c.requires.follow c.requires.ended c.requires.decoded c.leaf_levels-floor.ensures.floor c.leaf_levels-floor.ensures.top made short c.in-Ok.ensures.ok) c.push_levels.ensures.ok c.push_levels.ensures.counted
 
 pub returns-in-Ok-clause-err : goal.returns-in-Ok-clause-err
 returns-in-Ok-clause-err g c =
     let most = g.D.NestedDecoder.byte_limit in
-    let left = g.D.NestedDecoder.left c.args.values.now in
+    let left = g.D.NestedDecoder.left c.args.decoder.now c.args.values.now in
     let slots = g.D.NestedDecoder.slots c.args.decoded.now in
     let fit = all-fit 64 c.args.before c.args.reps.now c.args.defs.now c.args.nested.now c.requires.defs c.requires.reps c.requires.fits c.requires.follow c.requires.ended in
     let d = c.in-Ok.ensures.ok in
     let there : AreThere (called (max_definition (kept_way c.args.nested.now)) c.args.defs.now) left = record {
       values = given d.gives;
-      rest = g.D.NestedDecoder.left c.decode_levels.new.values;
+      rest = g.D.NestedDecoder.left c.args.decoder.now c.decode_levels.new.values;
       next = d.values;
       size = rw (← c.leaf_levels-floor.ensures.top) (given-called c.leaf_levels-floor.result.0 c.leaf_levels-floor.result.1 (length slots) (slot_of (g.D.NestedDecoder.slots c.decode_levels.new.decoded)) c.args.defs.now d.gives d.each);
     } in

@@ -23,18 +23,18 @@ push_equal-requires-clause-fits g c = all-fit c.args.count c.args.before (replic
 
 pub returns-in-Ok-clause-ok : goal.returns-in-Ok-clause-ok
 returns-in-Ok-clause-ok g c =
-    both_ok c.push_equal.result (λ made short. took-block c.args.count c.args.before c.leaf_levels-floor.result.0 c.leaf_levels-floor.result.1 (replicate c.args.count c.args.rep) (replicate c.args.count c.args.level) c.args.nested.now c.push_equal.new.self (g.D.NestedDecoder.slots c.args.decoded.now) (g.D.NestedDecoder.slots c.decode_copies.new.decoded) (g.D.NestedDecoder.left c.args.values.now) (g.D.NestedDecoder.left c.decode_copies.new.values) (enough c.args.count c.args.rep) (same-size c.args.count c.args.rep c.args.level) c.requires.fits c.requires.follow c.requires.ended c.requires.decoded c.leaf_levels-floor.ensures.floor c.leaf_levels-floor.ensures.top made short c.in-Ok.ensures.ok) c.push_equal.ensures.ok c.push_equal.ensures.counted
+    both_ok c.push_equal.result (λ made short. took-block c.args.count c.args.before c.leaf_levels-floor.result.0 c.leaf_levels-floor.result.1 (replicate c.args.count c.args.rep) (replicate c.args.count c.args.level) c.args.nested.now c.push_equal.new.self (g.D.NestedDecoder.slots c.args.decoded.now) (g.D.NestedDecoder.slots c.decode_copies.new.decoded) (g.D.NestedDecoder.left c.args.decoder.now c.args.values.now) (g.D.NestedDecoder.left c.args.decoder.now c.decode_copies.new.values) (enough c.args.count c.args.rep) (same-size c.args.count c.args.rep c.args.level) c.requires.fits c.requires.follow c.requires.ended c.requires.decoded c.leaf_levels-floor.ensures.floor c.leaf_levels-floor.ensures.top made short c.in-Ok.ensures.ok) c.push_equal.ensures.ok c.push_equal.ensures.counted
 
 pub returns-in-Ok-clause-err : goal.returns-in-Ok-clause-err
 returns-in-Ok-clause-err g c =
     let most = g.D.NestedDecoder.byte_limit in
-    let left = g.D.NestedDecoder.left c.args.values.now in
+    let left = g.D.NestedDecoder.left c.args.decoder.now c.args.values.now in
     let slots = g.D.NestedDecoder.slots c.args.decoded.now in
     let fit = all-fit c.args.count c.args.before (replicate c.args.count c.args.rep) (replicate c.args.count c.args.level) c.args.nested.now (same-size c.args.count c.args.rep c.args.level) (enough c.args.count c.args.rep) c.requires.fits c.requires.follow c.requires.ended in
     let d = c.in-Ok.ensures.ok in
     let there : AreThere (called (max_definition (kept_way c.args.nested.now)) (replicate c.args.count c.args.level)) left = record {
       values = given d.gives;
-      rest = g.D.NestedDecoder.left c.decode_copies.new.values;
+      rest = g.D.NestedDecoder.left c.args.decoder.now c.decode_copies.new.values;
       next = d.values;
       size = rw (← c.leaf_levels-floor.ensures.top) (given-called c.leaf_levels-floor.result.0 c.leaf_levels-floor.result.1 (length slots) (slot_of (g.D.NestedDecoder.slots c.decode_copies.new.decoded)) (replicate c.args.count c.args.level) d.gives d.each);
     } in

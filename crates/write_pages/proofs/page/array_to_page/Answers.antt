@@ -1,18 +1,27 @@
-use Rattle.std.proofs.Common.{refl}
+use Rattle.std.proofs.Common.{Bool, refl, subst}
 use Rattle.columns_array.specs.Boxed.{boxed}
-use Rattle.columns_core.specs.Shapes.{base}
+use Rattle.columns_core.specs.Shapes.{base, leaf_type}
 use Rattle.columns_slots.specs.Slots.{type_of}
 use Rattle.levels.specs.Nested.{parts_of}
 use Rattle.pq_tree.specs.Views.{physical_view}
-use Rattle.pq_files.specs.Page.{plain}
-use Rattle.write_pages.proofs.PageRows.{written_plain}
+use Rattle.pq_tree.specs.TreeViews.{leaf_view}
+use Rattle.shredding.specs.Parts.{path_slots, path_way}
+use Rattle.nested_paths.specs.Seen.{leaf_slot}
+use Rattle.write_values.specs.Deltas.{page_encoding}
+use Rattle.write_pages.specs.Fits.{is_flat_path}
+use Rattle.write_pages.specs.Holds.{HoldsRows, wants_deltas}
+use Rattle.write_pages.proofs.WrittenForms.{deltas_written}
 use Rattle.write_pages.proofs.PageTable.{fits_served}
 use Rattle.write_pages.proofs.page.array_to_page.Goals as goal
 
 pub page_of_rows-requires-clause-served : goal.page_of_rows-requires-clause-served
 page_of_rows-requires-clause-served c =
-    fits_served (base (type_of (boxed c.args.array.now))) (physical_view c.args.type_.physical_type) c.in_ok-check_written.ensures.ok.1 c.requires.fits.physical
+    fits_served (is_flat_path (parts_of c.args.nested.now)) (base (type_of (boxed c.args.array.now))) (physical_view c.args.type_.physical_type) c.in_ok-check_written.ensures.ok.1 c.requires.fits.physical
 
 pub returns-clause-ok : goal.returns-clause-ok
 returns-clause-ok c =
-    (c.in_ok-page.page, refl, plain, written_plain (parts_of c.args.nested.now) c.args.encoding c.in_ok-check_written.ensures.ok.0, c.in_ok-page.ensures.ok)
+    let t = type_of (boxed c.args.array.now) in
+    let p = physical_view c.args.type_.physical_type in
+    let written = deltas_written t p (parts_of c.args.nested.now) c.args.encoding c.in_ok-check_written.ensures.ok.0 (fits_served (is_flat_path (parts_of c.args.nested.now)) (base t) p c.in_ok-check_written.ensures.ok.1 c.requires.fits.physical) in
+    let page = subst (λ (b : Bool). HoldsRows c.args.options (page_encoding b (leaf_type t) p) (leaf_type t) (leaf_view c.args.type_) p (path_way (parts_of c.args.nested.now)) (path_slots (leaf_slot (boxed c.args.array.now)) (parts_of c.args.nested.now)) c.in_ok-page.page) c.wants_deltas-with_deltas.ensures c.in_ok-page.ensures.ok in
+    (c.in_ok-page.page, refl, page_encoding (wants_deltas (parts_of c.args.nested.now) c.args.encoding) (leaf_type t) p, written, page)

@@ -1,3 +1,5 @@
+use Rattle.columns_core.specs.Shapes.{base}
+use Rattle.write_values.proofs.IntervalPlaces.{served_unordered}
 use Rattle.write_values.proofs.statistics.all_statistics.Goals as goal
 
 pub returns-in-Int8-clause-ok : goal.returns-in-Int8-clause-ok
@@ -26,3 +28,10 @@ returns-in-Int64-clause-ok c = rw c.in-Int64.is (rw c.new-in-Int64.ensures at c.
 
 pub returns-in-UInt64-clause-ok : goal.returns-in-UInt64-clause-ok
 returns-in-UInt64-clause-ok c = rw c.in-UInt64.is (rw c.new-in-UInt64.ensures at c.column_statistics-in-UInt64.ensures.ok)
+
+pub returns-in-FixedSizeBinary-clause-ok : goal.returns-in-FixedSizeBinary-clause-ok
+returns-in-FixedSizeBinary-clause-ok c = rw c.in-FixedSizeBinary.is (rw c.new-in-FixedSizeBinary.ensures.array at c.column_statistics-in-FixedSizeBinary.ensures.ok)
+
+pub null_statistics-requires-clause-unordered : goal.null_statistics-requires-clause-unordered
+null_statistics-requires-clause-unordered c =
+    rw c.in-Months.is (served_unordered (base c.in-Months.a.now.0) c.know-in-Months.ensures.typed (rw c.in-Months.is at c.requires.served))

@@ -10,4 +10,4 @@ invariant_of-result g c = sound-extended c.self.inside.parts.items c.self.inside
 
 pub returns-in-Err-clause-err : goal.returns-in-Err-clause-err
 returns-in-Err-clause-err g c =
-    subst (λ (q : Waiting). Refuses g.L.LeafReader.byte_limit (q.rows - count q.state) c.args.page.now (g.L.LeafReader.stored c.args.bytes.now.values.now c.args.bytes.now.bit) q.state q.leaf c.in-Err.error) c.self.view_is (rw c.len.ensures at c.in-Err.ensures.err)
+    subst (λ (q : Waiting). Refuses g.L.LeafReader.byte_limit (q.rows - count q.state) c.args.page.now (g.L.LeafReader.stored c.args.leaf.now c.args.bytes.now.values.now c.args.bytes.now.bit) q.state q.leaf c.in-Err.error) c.self.view_is (rw c.len.ensures at c.in-Err.ensures.err)

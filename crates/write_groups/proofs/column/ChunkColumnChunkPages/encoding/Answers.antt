@@ -1,6 +1,12 @@
-use Rattle.write_groups.proofs.Next.{all_plain}
+use Rattle.std.proofs.Common.{◌≡◌, All, Some, sym, subst}
+use Rattle.pq_files.specs.Layout.{OutPage}
+use Rattle.pq_tree.specs.declared.types.Encoding.{Encoding}
+use Rattle.write_file.specs.Pages.{encoding_view}
+use Rattle.write_groups.proofs.Next.{all_so}
 use Rattle.write_groups.specs.Given.{to_come}
 use Rattle.write_groups.proofs.column.ChunkColumnChunkPages.encoding.Goals as goal
 
 pub returns : goal.returns
-returns c = λ version l k h. all_plain (to_come c.args.self.now).options.write_statistics (to_come c.args.self.now).type (to_come c.args.self.now).physical (to_come c.args.self.now).way (to_come c.args.self.now).pieces k.pages h.1.pages
+returns c = λ version l k h.
+    let g = to_come c.args.self.now in
+    subst (λ (e : Encoding). All (λ (o : OutPage). encoding_view e ≡ Some o.encoding) k.pages) (sym c.encoding.ensures) (all_so g.options.write_statistics g.encoding g.type g.physical g.way g.pieces k.pages h.1.pages)

@@ -1,0 +1,4 @@
+pub mod Filters
+pub mod Steps
+pub mod Truths
+pub mod Spelling

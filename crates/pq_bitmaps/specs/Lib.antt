@@ -1,0 +1,5 @@
+pub mod Called
+pub mod Filter
+pub mod Selected
+pub mod Stretch
+pub mod Law

@@ -1,0 +1,10 @@
+pub mod Put
+pub mod Rows
+pub mod Written
+pub mod Told
+pub mod Sizes
+pub mod Counts
+pub mod Anew
+pub mod Reading
+pub mod Refusing
+pub mod Refusals

@@ -1,0 +1,5 @@
+pub mod Files
+pub mod Chunks
+pub mod Items
+pub mod Refused
+pub mod Putting

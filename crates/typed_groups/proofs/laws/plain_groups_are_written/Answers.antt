@@ -1,5 +1,0 @@
-use Rattle.typed_groups.proofs.Entries.{written}
-use Rattle.typed_groups.proofs.laws.plain_groups_are_written.Goals as goal
-
-pub returns : goal.returns
-returns c = written c.groups_are_laid.ensures c.served_is_plain.ensures

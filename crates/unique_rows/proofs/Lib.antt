@@ -1,0 +1,4 @@
+pub mod Laid
+pub mod Unique
+pub mod Outs
+pub mod Rewritten

@@ -1,0 +1,16 @@
+use Rattle.std.proofs.Common.{◌≡◌, refl}
+use Rattle.shredding.specs.Slot.{number}
+use Rattle.pq_tree.specs.Physical.{int64}
+use Rattle.write_values.specs.Numbers.{numbers_in_a_row}
+use Rattle.write_values.proofs.Taken.{solid64}
+use Rattle.write_values.proofs.Respelled.{all_told, numbers_spelled64, so_many}
+use Rattle.write_values.proofs.deltas.push_deltas_i64.Goals as goal
+
+pub encode-requires-clause-gives : goal.encode-requires-clause-gives
+encode-requires-clause-gives c = so_many int64 (λ s. s.rest.now) (λ x v. v ≡ number x) (numbers_in_a_row int64 refl) solid64 c.new.result c.args.plain.now c.new.ensures c.args.count c.requires
+
+pub returns-clause-ok : goal.returns-clause-ok
+returns-clause-ok c = λ vs row.
+    let a = c.in_ok-encode.ensures.ok in
+    let told = all_told int64 (λ s. s.rest.now) (λ x v. v ≡ number x) (numbers_in_a_row int64 refl) solid64 c.new.result c.args.plain.now c.new.ensures a.0 vs row a.1 in
+    numbers_spelled64 c.args.out.now.items c.encode.new.out.items a.0 vs told a.2
