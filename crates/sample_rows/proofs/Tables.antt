@@ -15,5 +15,5 @@ pub one_more :
 one_more at row i before xs e x h =
     rw (e, h, map-range_with_len_more at row i (row + i) refl) (append_assoc before (map at (range_with_len row i)) (at (row + i) ∷ []))
 
-pub none_more : {A : Type 0} (at : ℕ → A) (row : ℕ) (xs : List A) → xs ≡ xs ++ map at (range_with_len row 0)
-none_more at row xs = sym (append-nil xs)
+pub none_more : {A : Type 0} (at : ℕ → A) (start : ℕ) (xs : List A) → xs ≡ xs ++ map at (range_with_len start 0)
+none_more at start xs = sym (append-nil xs)

@@ -89,14 +89,14 @@ cut_joined (r ∷ rs) =
 
 slots_joined : (ps : List (List Slots)) → flat_map (field_slots 2) ps ≡ field_slots 2 (flat_map (λ piece. piece) ps)
 slots_joined [] = refl
-slots_joined (p ∷ ps) = ap (λ xs. field_slots 2 p ++ xs) (slots_joined ps) ∙ sym (map-append (λ row. slot_at row 2) p (flat_map (λ piece. piece) ps))
+slots_joined (p ∷ ps) = ap (λ xs. field_slots 2 p ++ xs) (slots_joined ps) ∙ sym (map-append (λ slots. slot_at slots 2) p (flat_map (λ piece. piece) ps))
 
 pub lists_read : (n : ℕ) (chunks : List ArrayTrees) → map seen_in chunks ≡ map (seen_from 0 sample_fields) (all_cut sample_asked (sample_pieces n)) → All HasItems chunks × (flat_map lists_in chunks ≡ each_row items_slot n)
 lists_read n chunks e =
     let all = all_shown chunks (all_cut sample_asked (sample_pieces n)) e in
     let rows : flat_map (λ piece. piece) (all_cut sample_asked (sample_pieces n)) ≡ sample_rows n = cut_joined (sample_pieces n) ∙ pieces_joined (length (sample_rows n)) 1000 (sample_rows n) (omega arith) (omega arith) in (
       All-from_recursion HasItems chunks all.0,
-      all.1 ∙ slots_joined (all_cut sample_asked (sample_pieces n)) ∙ ap (field_slots 2) rows ∙ map-map (λ row. slot_at row 2) sample_row (range_with_len 0 n),
+      all.1 ∙ slots_joined (all_cut sample_asked (sample_pieces n)) ∙ ap (field_slots 2) rows ∙ map-map (λ slots. slot_at slots 2) sample_row (range_with_len 0 n),
     )
 
 -- ---- counted piece by piece
