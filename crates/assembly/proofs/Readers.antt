@@ -1,19 +1,20 @@
 -- Leaves whose types are read are read along their ways too, by the page table.
 use Rattle.std.proofs.Common.{◌≡◌, ◌⊎◌, inl, inr, ℕ, zero, Bool, true, false, Option, Some, None, List, [], ◌∷◌, refl, sym, ap, subst, ◌∙◌, true≢false}
-use Rattle.std.specs.Prelude.{◌&&◌, ◌||◌}
+use Rattle.std.specs.Prelude.{◌&&◌, ◌||◌, if◌then◌else◌}
 use Rattle.std.specs.List.{AllByRecursion as Each}
 use Rattle.columns_core.specs.Shapes.{base}
-use Rattle.columns_core.specs.Tree.{TypeTree, t_list, t_fixed_size_list, t_large_list, t_struct, t_map, t_extension, t_decimal, t_null, t_interval, FieldTree, field}
+use Rattle.columns_core.specs.Tree.{TypeTree, t_list, t_fixed_size_list, t_large_list, t_struct, t_map, t_extension, t_fixed_size_binary, t_decimal, t_null, t_interval, FieldTree, field}
 use Rattle.columns_core.specs.declared.types.IntervalUnit.TheVariants.{YearMonth, DayTime, MonthDayNano}
 use Rattle.pq_tree.specs.Tree.{Leaf}
 use Rattle.read_state.specs.Initial.{IsWay}
 use Rattle.read_state.specs.declared.init.InitNested.{InitNested}
 use Rattle.read_state.specs.declared.init.InitNested.TheVariants.{Primitive, List as ListOf, Struct}
 use Rattle.schema_fit.specs.Fits.{asked_of}
-use Rattle.schema_fit.specs.PageTable.{row_of, is_allowed}
+use Rattle.schema_fit.specs.PageTable.{row_of, is_allowed, is_stored_length, only_flat}
 use Rattle.schema_fit.specs.declared.page_table.Asked.{Asked}
 use Rattle.schema_fit.specs.declared.page_table.Asked.TheVariants as A
 use Rattle.schema_fit.specs.declared.page_table.Row.{Row}
+use Rattle.schema_fit.specs.declared.page_table.Stored.TheVariants as S
 use Rattle.schema_map.specs.Rows.{asked_by}
 use Rattle.shredding.specs.Along.{thin}
 use Rattle.shredding.specs.Shape.{Way, at_leaf, in_list, in_struct}
@@ -37,6 +38,10 @@ row_nests o row e f n = true≢false (sym n ∙ subst (flat_row false) e f)
 no_row : (row : Row) → None ≡ Some row → ⊥
 no_row row e = cc
 
+flat_chunks : (b : Bool) (m : ℕ) → flat_row false (if b then only_flat (S.Fixed m) else None)
+flat_chunks true m = refl
+flat_chunks false m = tt
+
 nests : (b : Bool) (t : TypeTree) (row : Row) → row_of (record { data_type = t; is_nullable = b }) ≡ Some row → row.is_nested ≡ true → reads_nested t ≡ true
 nests true (t_decimal p s) row e n = absurd (row_nests _ row e refl n)
 nests false (t_decimal p s) row e n = absurd (row_nests _ row e refl n)
@@ -46,6 +51,8 @@ nests true (t_interval DayTime) row e n = absurd (row_nests _ row e refl n)
 nests false (t_interval DayTime) row e n = absurd (row_nests _ row e refl n)
 nests true (t_interval MonthDayNano) row e n = absurd (no_row row e)
 nests false (t_interval MonthDayNano) row e n = absurd (no_row row e)
+nests true (t_fixed_size_binary m) row e n = absurd (row_nests _ row e (flat_chunks (is_stored_length m) m) n)
+nests false (t_fixed_size_binary m) row e n = absurd (row_nests _ row e (flat_chunks (is_stored_length m) m) n)
 nests b t row e n = refl
 
 -- ---- a leaf that may be null where its type asks for it

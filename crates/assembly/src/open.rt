@@ -81,8 +81,8 @@ fn open_columns<I: Pages + Drop>(
 ///
 /// - `InvalidArgumentError(A1)`: a chunk size of no rows.
 /// - `InvalidArgumentError(A8)`: columns, types and the field's leaves differ in number, or a struct has no field.
-/// - `NotYetImplemented(N5)`: a leaf's type is not read, not under its physical type, not beneath lists and structs (decimals and intervals), or not
-///   where it may not be null (nulls alone); a list of fixed size or a union.
+/// - `NotYetImplemented(N5)`: a leaf's type is not read, not under its physical type, not beneath lists and structs (decimals, intervals and byte
+///   strings of one size), or not where it may not be null (nulls alone); a list of fixed size or a union.
 /// - `Memory`.
 pub fn column_iter_to_arrays<I: Pages + Drop>(
     alloc: Global,

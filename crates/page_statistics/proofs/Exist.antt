@@ -6,7 +6,7 @@ use Rattle.std.specs.Int.{w32, w64, cast_signed, cast_unsigned}
 use Rattle.std.proofs.Math.Facts.{Fits-of_z, sfits_to_z}
 use Rattle.std.proofs.lemmas.Bool.{cases_lt}
 use Rattle.std.proofs.lemmas.Int.{by_lt_z, to_z-of_z}
-use Rattle.std.proofs.lemmas.List.Elements.{All-from_recursion, Contains-append_right}
+use Rattle.std.proofs.lemmas.List.Elements.{All-from_recursion, recursion_from_All, Contains-append_right}
 use Rattle.std.proofs.lemmas.Nat.{pow_below}
 use Rattle.std.specs.Int.Signed.{<ℤ_irrefl}
 use Rattle.std.specs.Cmp.{int_chain}
@@ -19,7 +19,7 @@ use Rattle.pq_files.specs.Page.{values_in}
 use Rattle.pq_files.specs.Statistics.{Bounds, AreBounds, HasBounds, IsBound, IsBoundText, IsBefore, IsUpTo, has_order}
 use Rattle.pq_files.specs.Stored.{AreStored, IsStored, IsStoredOption}
 use Rattle.page_statistics.specs.Laws.{StatisticsExist}
-use Rattle.page_statistics.specs.Spelled.{AreSpelled, BoundsAreSpelled, IsSpelled, bound_text}
+use Rattle.page_statistics.specs.Spelled.{HasOwnBytes, AreSpelled, BoundsAreSpelled, IsSpelled, bound_text}
 use Rattle.page_statistics.proofs.Further.{up_to_self, up_to_trans}
 
 -- ---- values of one type are in order
@@ -189,19 +189,19 @@ spelled_bounds t p b vs o h = record {
 -- ---- of a column
 
 abbrev IsKept : LeafType → Physical → Value → Type 0
-IsKept t p v = (s : Value) × IsStored t p v s
+IsKept t p v = (s : Value) × IsStored t p v s × HasOwnBytes t s
 
-kept_more : (t : LeafType) (p : Physical) (r d r' d' : ℕ) (u v : Option Value) (xs : List Triple) → IsStoredOption t p u v → Each (IsKept t p) (values_in xs) → Each (IsKept t p) (values_in (record { repetition = r; definition = d; value = u } ∷ xs))
-kept_more t p r d r' d' None None xs h e = e
-kept_more t p r d r' d' (Some u) (Some v) xs h e = ((v, h), e)
-kept_more t p r d r' d' None (Some v) xs h e = absurd h
-kept_more t p r d r' d' (Some u) None xs h e = absurd h
+kept_more : (t : LeafType) (p : Physical) (r d r' d' : ℕ) (u v : Option Value) (xs ys : List Triple) → IsStoredOption t p u v → Each (HasOwnBytes t) (values_in (record { repetition = r'; definition = d'; value = v } ∷ ys)) → (Each (HasOwnBytes t) (values_in ys) → Each (IsKept t p) (values_in xs)) → Each (IsKept t p) (values_in (record { repetition = r; definition = d; value = u } ∷ xs))
+kept_more t p r d r' d' None None xs ys h k e = e k
+kept_more t p r d r' d' (Some u) (Some v) xs ys h k e = ((v, h, k.0), e k.1)
+kept_more t p r d r' d' None (Some v) xs ys h k e = absurd h
+kept_more t p r d r' d' (Some u) None xs ys h k e = absurd h
 
-values_kept : (t : LeafType) (p : Physical) (xs ys : List Triple) → AreStored t p xs ys → Each (IsKept t p) (values_in xs)
-values_kept t p [] [] h = tt
-values_kept t p [] (y ∷ ys) h = absurd h
-values_kept t p (x ∷ xs) [] h = absurd h
-values_kept t p (x ∷ xs) (y ∷ ys) h = kept_more t p x.repetition x.definition y.repetition y.definition x.value y.value xs h.0.value (values_kept t p xs ys h.1)
+values_kept : (t : LeafType) (p : Physical) (xs ys : List Triple) → AreStored t p xs ys → Each (HasOwnBytes t) (values_in ys) → Each (IsKept t p) (values_in xs)
+values_kept t p [] [] h k = tt
+values_kept t p [] (y ∷ ys) h k = absurd h
+values_kept t p (x ∷ xs) [] h k = absurd h
+values_kept t p (x ∷ xs) (y ∷ ys) h k = kept_more t p x.repetition x.definition y.repetition y.definition x.value y.value xs ys h.0.value k (values_kept t p xs ys h.1)
 
 all_tagged : (t : LeafType) (p : Physical) (vs : List Value) → Each (IsKept t p) vs → Each (λ u. tag u ≡ kind t) vs
 all_tagged t p [] h = tt
@@ -213,7 +213,7 @@ one_of P (u ∷ us) v h (zero, l, e) = subst P e h.0
 one_of P (u ∷ us) v h (suc i, l, e) = one_of P us v h.1 (i, omega (arith, l), e)
 
 spelled : (t : LeafType) (p : Physical) (v : Value) → IsKept t p v → (s : List ℕ) × IsSpelled t p s v
-spelled t p v k = (bound_text p k.0, record { stored = k.0; is_stored = k.1; is = refl })
+spelled t p v k = (bound_text p k.0, record { stored = k.0; is_stored = k.1; has_bytes = k.2; is = refl })
 
 bounds : (t : LeafType) (p : Physical) (v : Value) (vs : List Value) → Each (IsKept t p) (v ∷ vs) → (b : Bounds) × AreSpelled t p b (v ∷ vs)
 bounds t p v vs h =
@@ -241,7 +241,7 @@ some_bounds t p true [] o h = (None, tt, tt)
 some_bounds t p true (v ∷ vs) o h = let b = bounds t p v vs h in (Some b.0, spelled_bounds t p b.0 (v ∷ vs) o b.1, b.1)
 
 pub statistics_exist : StatisticsExist
-statistics_exist false t p column stored h = (None, tt, tt)
-statistics_exist true t p column stored h =
-    let b = some_bounds t p (has_order t) (values_in column) refl (values_kept t p column stored h) in
+statistics_exist false t p column stored h k = (None, tt, tt)
+statistics_exist true t p column stored h k =
+    let b = some_bounds t p (has_order t) (values_in column) refl (values_kept t p column stored h (recursion_from_All (HasOwnBytes t) (values_in stored) k)) in
     (Some (record { null_count = count_by (λ x. is_none x.value) column; bounds = b.0 }), record { null_count = refl; bounds = b.1 }, b.2)

@@ -9,7 +9,7 @@ use Rattle.pq_files.specs.Page.{values_in}
 use Rattle.pq_files.specs.Statistics.{Bounds, HasBounds, IsBefore, IsImplied, IsUpTo, has_order}
 use Rattle.pq_files.specs.Stored.{IsStored}
 use Rattle.page_statistics.specs.Laws.{StatisticsAreUnique}
-use Rattle.page_statistics.specs.Spelled.{AreSpelled, BoundsAreSpelled, IsSpelled, bound_text}
+use Rattle.page_statistics.specs.Spelled.{AreSpelled, BoundsAreSpelled, HasOwnBytes, IsSpelled, bound_text}
 
 implied_once : (a b : Bool) → IsImplied a b → IsImplied b a → a ≡ b
 implied_once false false h k = refl
@@ -40,9 +40,9 @@ up_to_once (number a) (bytes b) h k = absurd h
 up_to_once (bytes a) (truth b) h k = absurd h
 up_to_once (bytes a) (number b) h k = absurd h
 
-module _ (t : LeafType) (p : Physical) (once : (v s r : Value) → IsStored t p v s → IsStored t p v r → s ≡ r) where
+module _ (t : LeafType) (p : Physical) (once : (v s r : Value) → HasOwnBytes t s → HasOwnBytes t r → IsStored t p v s → IsStored t p v r → s ≡ r) where
   text_once : (a b : List ℕ) (v w : Value) → v ≡ w → IsSpelled t p a v → IsSpelled t p b w → a ≡ b
-  text_once a b v w e h k = h.is ∙ (ap (bound_text p) (once w h.stored k.stored (rw e at h.is_stored) k.is_stored) ∙ sym k.is)
+  text_once a b v w e h k = h.is ∙ (ap (bound_text p) (once w h.stored k.stored h.has_bytes k.has_bytes (rw e at h.is_stored) k.is_stored) ∙ sym k.is)
 
   made_once : (a b : Bounds) → a.least ≡ b.least → a.greatest ≡ b.greatest → a ≡ b
   made_once a b l g = λ i. record { least = l i; greatest = g i }

@@ -1,9 +1,10 @@
 -- The texts of bounds as they are written: each value has one (Parquet format, parquet.thrift: Statistics; Encodings, "Plain").
 use Rattle.std.specs.Prelude.{◌≡◌, ℕ, List, [], ◌∷◌, true, false, All, Contains, Option, Some, None}
 use Rattle.std.specs.Int.{w32, w64, cast_unsigned, to_le_bytes}
-use Rattle.shredding.specs.Shape.{LeafType}
+use Rattle.shredding.specs.Shape.{LeafType, decimal}
 use Rattle.shredding.specs.Slot.{Value, truth, number, bytes}
 use Rattle.pq_tree.specs.Physical.{Physical, boolean, int32, int64, byte_array, fixed}
+use Rattle.pq_files.specs.Once.{HasBytes}
 use Rattle.pq_files.specs.Statistics.{Bounds, Statistics, IsUpTo}
 use Rattle.pq_files.specs.Stored.{IsStored}
 
@@ -17,10 +18,15 @@ bound_text byte_array (bytes s) = s
 bound_text (fixed n) (bytes s) = s
 bound_text _ _ = []
 
--- the text of what is stored for a value
+-- where the type is that of decimals, a stored byte string has bytes: so each value has one stored value
+abbrev pub HasOwnBytes : LeafType → Value → Type 0
+HasOwnBytes t stored = t ≡ decimal → HasBytes stored
+
+-- the text of what is stored for a value, which for a decimal are bytes
 pub record IsSpelled (t : LeafType) (p : Physical) (s : List ℕ) (v : Value) : Type 0 where
   pub stored : Value
   pub is_stored : IsStored t p v stored
+  pub has_bytes : HasOwnBytes t stored
   pub is : s ≡ bound_text p stored
 
 -- the texts of the least and of the greatest of the values

@@ -1,7 +1,7 @@
 //! The laws of statistics.
 ghost use Rattle.page_statistics.specs.Laws.{StatisticsAreUnique, StatisticsExist};
 
-/// Each column whose values are stored has statistics (Parquet format, parquet.thrift: `Statistics`).
+/// Each column whose values are stored, decimals as bytes, has statistics (Parquet format, parquet.thrift: `Statistics`).
 pub fn statistics_exist()
     ensures { StatisticsExist }
 {}

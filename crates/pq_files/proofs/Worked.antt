@@ -26,7 +26,7 @@ use Rattle.pq_files.specs.Page.{IsPage, plain, delta}
 use Rattle.pq_files.specs.PageReasons.{IsOutside}
 use Rattle.pq_files.specs.Plain.{InARow, IsPlain}
 use Rattle.pq_files.specs.Room.{footer_room, planned_footer, V3}
-use Rattle.pq_files.specs.Stored.{IsStored}
+use Rattle.pq_files.specs.Stored.{IsStored, HoldsDecimal}
 use Rattle.pq_files.specs.WrittenExample.{out_groups}
 use Rattle.pq_files.specs.RowReasons.{BreaksIn}
 use Rattle.pq_files.proofs.FirstFile.{one_bit, two_bits, repetitions, definitions}
@@ -230,6 +230,7 @@ are_worked =
       wide_are = (254 ∷ replicate 7 255, 2 ∷ 1 ∷ replicate 6 0, (refl, refl), (2 ∷ 1 ∷ replicate 6 0, [], (refl, refl), refl, refl), refl);
       fixed_are = (1 ∷ 2 ∷ 3 ∷ [], 4 ∷ 5 ∷ 6 ∷ [], (refl, refl), (4 ∷ 5 ∷ 6 ∷ [], [], (refl, refl), refl, refl), refl);
       negative = (omega arith, omega arith, refl, refl);
+      held = ((omega arith, omega arith, omega arith), (omega arith, omega arith, omega arith));
       truths_are = (refl, refl);
       entries_are = entries_are;
       none_are = ([], refl, tt);
@@ -322,4 +323,4 @@ disagree e = omega (arith, ap (λ ts. first_definition ts) e)
     first_definition (t ∷ ts) = t.definition
 
 pub are_not_spelled : AreNotSpelled
-are_not_spelled = record { plain_cut = plain_cut; past_entries = past_entries; too_large = too_large; wrapped = (omega arith, omega arith, refl); lowest_first = lowest_first; no_months = no_months; no_null = no_null; breaks = breaks; goes_on = goes_on; disagree = disagree }
+are_not_spelled = record { plain_cut = plain_cut; past_entries = past_entries; too_large = too_large; wrapped = (omega arith, omega arith, refl); lowest_first = lowest_first; too_wide = (λ h. absurd (omega (arith, h.2))); no_months = no_months; no_null = no_null; breaks = breaks; goes_on = goes_on; disagree = disagree }

@@ -31,6 +31,13 @@ IsStored months (fixed n) (bytes t) s = (n ≡ 12) × (length t ≡ 12) × (drop
 IsStored days (fixed n) (bytes t) s = (n ≡ 12) × (length t ≡ 12) × (take 4 t ≡ replicate 4 0) × (s ≡ bytes t)
 IsStored _ _ _ _ = ⊥
 
+-- the decimals that a physical type holds: numbers of 32 or 64 bits, or of so many bytes, in two's complement
+abbrev pub HoldsDecimal : Physical → ℤ → Type 0
+HoldsDecimal int32 z = Fits 32 z
+HoldsDecimal int64 z = Fits 64 z
+HoldsDecimal (fixed n) z = (1 ≤ n) × (n ≤ 16) × Fits (8 * n) z
+HoldsDecimal p z = ⊥
+
 -- with each value replaced by its stored value
 abbrev pub IsStoredOption : LeafType → Physical → Option Value → Option Value → Type 0
 IsStoredOption t p None None = Unit {0}

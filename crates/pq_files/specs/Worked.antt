@@ -17,7 +17,7 @@ use Rattle.pq_files.specs.PageReasons.{IsOutside}
 use Rattle.pq_files.specs.Plain.{IsPlain}
 use Rattle.pq_files.specs.Room.{room, level_room, schema_value_size, key_room, footer_room, planned_footer, V3}
 use Rattle.pq_files.specs.RowReasons.{BreaksIn}
-use Rattle.pq_files.specs.Stored.{IsStored}
+use Rattle.pq_files.specs.Stored.{IsStored, HoldsDecimal}
 use Rattle.pq_files.specs.WrittenExample.{out_groups}
 use Rattle.pq_numbers.specs.Bits.{unpacked}
 use Rattle.pq_files.specs.Delta.{AreDeltas, AreDeltaLengths}
@@ -81,6 +81,8 @@ pub record AreWorked : Type 0 where
   pub fixed_are : IsPlain (fixed 3) (1 ∷ 2 ∷ 3 ∷ 4 ∷ 5 ∷ 6 ∷ []) (bytes (1 ∷ 2 ∷ 3 ∷ []) ∷ bytes (4 ∷ 5 ∷ 6 ∷ []) ∷ [])
   -- -300 in two bytes, highest first
   pub negative : IsStored decimal (fixed 2) (number (negsuc 299)) (bytes (254 ∷ 212 ∷ []))
+  -- the least and the greatest decimal of nine bytes
+  pub held : HoldsDecimal (fixed 9) (negsuc (2 ^ 71 - 1)) × HoldsDecimal (fixed 9) (pos (2 ^ 71 - 1))
   pub truths_are : IsPlain boolean (5 ∷ []) (truth true ∷ truth false ∷ truth true ∷ [])
   pub entries_are : IsIndexed (entry ∷ []) (0 ∷ []) (entry ∷ entry ∷ entry ∷ [])
   pub none_are : IsIndexed (entry ∷ []) [] []
@@ -113,6 +115,7 @@ pub record AreNotSpelled : Type 0 where
   pub wrapped : IsStored (unsigned 32) int32 (number (pos 4294967295)) (number (negsuc 0))
   -- the lowest byte first
   pub lowest_first : ¬ IsStored decimal (fixed 2) (number (negsuc 299)) (bytes (212 ∷ 254 ∷ []))
+  pub too_wide : ¬ HoldsDecimal (fixed 9) (pos (2 ^ 71))
   pub no_months : IsOutside months (fixed 12) (bytes (replicate 11 0 ++ 1 ∷ []))
   pub no_null : IsOutside nothing int32 (number (pos 0))
   -- an item after a null list, and two columns of a struct that is null in one alone

@@ -1,22 +1,20 @@
 -- A schema that passed its stage is not refused at it.
-use Rattle.std.proofs.Common.{◌≡◌, ◌≢◌, ◌⊎◌, ◌<◌, ◌≤◌, ℕ, suc, Bool, true, false, List, [], ◌∷◌, length, Option, Some, None, refl, sym, ap, subst, ◌∙◌, inl, inr, arith, true≢false, is_some}
+use Rattle.std.proofs.Common.{◌≡◌, ◌⊎◌, suc, true, false, List, [], ◌∷◌, length, Option, Some, None, refl, sym, ap, subst, ◌∙◌, inl, inr, arith, true≢false, is_some}
 use Rattle.std.specs.List.{AllZip}
 use Rattle.columns_base.specs.declared.error.Error.{Error}
-use Rattle.columns_base.specs.declared.error.Error.TheVariants.{ReadFault, WriteFault, InputLimit, OutOfSpec, NotYetImplemented, InvalidArgumentError, Overflow, Memory}
+use Rattle.columns_base.specs.declared.error.Error.TheVariants.{OutOfSpec, NotYetImplemented, InvalidArgumentError}
 use Rattle.columns_base.specs.declared.error.S.TheVariants as S
 use Rattle.columns_base.specs.declared.error.N.TheVariants as N
 use Rattle.columns_base.specs.declared.error.A.TheVariants as A
 use Rattle.columns_core.specs.Tree.{FieldTree, FieldTrees, no_fields, more_fields}
-use Rattle.columns_core.specs.View.{SchemaTree, fields_of}
+use Rattle.columns_core.specs.View.{SchemaTree}
 use Rattle.pq_metadata.specs.Footer.{Footer}
-use Rattle.pq_tree.specs.Tree.{Tree, Trees}
+use Rattle.pq_tree.specs.Tree.{Tree}
 use Rattle.pq_files.specs.Reasons.{AnyOf, AnyZip}
 use Rattle.schema_fit.specs.Fits.{agrees_with}
-use Rattle.schema_from_tree.specs.FromTree.{arrow_fields}
 use Rattle.schema_key.specs.declared.infer.KeyRule.{KeyRule}
-use Rattle.schema_key.specs.Inferred.{inferred}
 use Rattle.schema_map.specs.Rows.{HasRows as FieldHasRows}
-use Rattle.schema_to_tree.specs.Conditions.{AreWritten, RefusesSchema, most}
+use Rattle.schema_to_tree.specs.Conditions.{RefusesSchema}
 use Rattle.pq_headline.specs.Rewrites.{Codec, InfersSchema}
 use Rattle.pq_headline.specs.Served.{are_served_fields}
 use Rattle.pq_headline.specs.Stages.{HaveRows, Misfits, RefusesSchema6, SchemaFits, fields_with_columns, list_fields, trees_with_columns}

@@ -1,5 +1,5 @@
 -- The leaves of a field's own tree, and their encodings.
-use Rattle.std.proofs.Common.{◌≡◌, ◌+◌, ℕ, suc, Bool, true, false, ◌&&◌, cond, List, [], ◌∷◌, ◌++◌, length, map, refl, sym, ap, subst, ◌∙◌, arith, length-append, true≢false}
+use Rattle.std.proofs.Common.{◌≡◌, ℕ, suc, Bool, true, false, List, [], ◌∷◌, ◌++◌, length, map, refl, sym, ap, ◌∙◌, arith, length-append, true≢false}
 use Rattle.std.proofs.lemmas.Bool.{and_parts}
 use Rattle.std.proofs.lemmas.List.{length-map}
 use Rattle.std.specs.List.{AllZip}
@@ -25,7 +25,7 @@ zipped R [] (y ∷ ys) h = absurd h
 zipped R (x ∷ xs) [] h = absurd h
 zipped R (x ∷ xs) (y ∷ ys) h = ap (λ n. suc n) (zipped R xs ys h.1)
 
-own : RowsDecide → (f : FieldTree) → HasRows f → HasNoEmptyStruct (shape_of f) → length (field_columns f) ≡ length (leaves (tree_of f))
+pub own : RowsDecide → (f : FieldTree) → HasRows f → HasNoEmptyStruct (shape_of f) → length (field_columns f) ≡ length (leaves (tree_of f))
 own law f r s = let a : AreAlike f (leaves (tree_of f)) = fitting_alike f (tree_of f) s ((law f).1 r) in zipped _ (field_columns f) (leaves (tree_of f)) a.are
 
 pub as_many : RowsDecide → (f : FieldTree) (ls : List Leaf) → HasRows f → HasNoEmptyStruct (shape_of f) → AreAlike f ls → length ls ≡ length (leaves (tree_of f))
@@ -61,10 +61,10 @@ mutual
   type_keys b (t_dictionary key t sorted) s = absurd (true≢false (sym s))
   type_keys b t s = (refl, tt)
 
-  field_keys : (f : FieldTree) → is_served_field f ≡ true → NoKeys (field_columns f)
+  pub field_keys : (f : FieldTree) → is_served_field f ≡ true → NoKeys (field_columns f)
   field_keys (field name t b m) s = type_keys b t s
 
-  fields_keys : (b : Bool) (i : ℕ) (fs : FieldTrees) → are_served_fields fs ≡ true → NoKeys (columns_from b i fs)
+  pub fields_keys : (b : Bool) (i : ℕ) (fs : FieldTrees) → are_served_fields fs ≡ true → NoKeys (columns_from b i fs)
   fields_keys b i no_fields s = tt
   fields_keys b i (more_fields f fs) s =
       let ss = and_parts (is_served_field f) (are_served_fields fs) s in
@@ -76,7 +76,7 @@ chosen_plain [] (l ∷ ls) e k = absurd (omega (arith, e))
 chosen_plain (c ∷ cs) [] e k = absurd (omega (arith, e))
 chosen_plain (c ∷ cs) (l ∷ ls) e k = rw k.0 (ap (λ (q : List Encoding). plain ∷ q) (chosen_plain cs ls (omega (arith, e)) k.1))
 
-counts : RowsDecide → (b : Bool) (i : ℕ) (fs : FieldTrees) → CanBeWritten fs → length (columns_from b i fs) ≡ length (leaves_of (trees_of fs))
+pub counts : RowsDecide → (b : Bool) (i : ℕ) (fs : FieldTrees) → CanBeWritten fs → length (columns_from b i fs) ≡ length (leaves_of (trees_of fs))
 counts law b i no_fields h = refl
 counts law b i (more_fields f fs) h =
     let one : length (map (beneath_struct b i) (field_columns f)) ≡ length (leaves (tree_of f)) = length-map (field_columns f) (beneath_struct b i) ∙ own law f h.0 h.1 in

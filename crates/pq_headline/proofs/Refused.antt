@@ -1,7 +1,7 @@
 -- Why an output is refused, as a reason of the input.
-use Rattle.std.proofs.Common.{◌≡◌, ◌⊎◌, inl, inr, ◌+◌, ◌<◌, ℕ, List, [], ◌∷◌, ◌++◌, length, map, Option, refl, sym, ap, subst}
+use Rattle.std.proofs.Common.{◌≡◌, ◌⊎◌, inl, inr, ◌<◌, ℕ, List, [], ◌∷◌, ◌++◌, length, map, Option, refl, sym, ap, subst}
 use Rattle.std.specs.List.{AllZip}
-use Rattle.shredding.specs.Slot.{Slots, Value, fields}
+use Rattle.shredding.specs.Slot.{Slots, Value}
 use Rattle.columns_base.specs.declared.error.Error.{Error}
 use Rattle.columns_base.specs.declared.error.Error.TheVariants.{Overflow}
 use Rattle.columns_base.specs.declared.error.V.TheVariants.{V3}

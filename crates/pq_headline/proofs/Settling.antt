@@ -1,9 +1,9 @@
 -- Fields of which each can be written, against the trees of a file.
-use Rattle.std.proofs.Common.{◌≡◌, ◌≢◌, ◌+◌, ◌<◌, ◌≤◌, ℕ, zero, suc, Bool, true, false, not, ◌&&◌, ◌||◌, nat_eq, List, [], ◌∷◌, length, filter, Option, Some, None, refl, sym, ap, subst, ◌∙◌, arith, true≢false, ne_eqb}
+use Rattle.std.proofs.Common.{◌≡◌, ◌≢◌, ◌<◌, ℕ, Bool, true, false, not, ◌&&◌, ◌||◌, nat_eq, List, [], ◌∷◌, Option, Some, None, refl, sym, ap, subst, arith, true≢false, ne_eqb}
 use Rattle.std.proofs.lemmas.Bool.{and_parts, and_from}
 use Rattle.std.specs.List.{AllZip}
 use Rattle.shredding.specs.Shape.{HasNoEmptyStruct, HaveNoEmptyStruct}
-use Rattle.columns_core.specs.Measures.{leaves as type_leaves, field_leaves, fields_leaves}
+use Rattle.columns_core.specs.Measures.{leaves as type_leaves, field_leaves}
 use Rattle.columns_core.specs.Shapes.{base, shape_of, shapes_of, type_shape}
 use Rattle.columns_core.specs.Tree.{TypeTree, t_list, t_fixed_size_list, t_large_list, t_struct, t_union, t_map, t_dictionary, t_extension, FieldTree, field, FieldTrees, no_fields, more_fields}
 use Rattle.pq_metadata.specs.Footer.{Footer}
@@ -23,7 +23,7 @@ use Rattle.pq_headline.proofs.Alike.{fitting_all_alike}
 
 -- ---- no struct is without fields, and each field has a column
 
-or_parts : (a b : Bool) → (a || b) ≡ false → (a ≡ false) × (b ≡ false)
+pub or_parts : (a b : Bool) → (a || b) ≡ false → (a ≡ false) × (b ≡ false)
 or_parts true b h = absurd (true≢false h)
 or_parts false b h = (refl, h)
 
@@ -46,7 +46,7 @@ mutual
   filled_field : (f : FieldTree) → some_field is_empty_struct f ≡ false → is_served_field f ≡ true → HasNoEmptyStruct (shape_of f)
   filled_field (field name t b m) h s = filled t b h s
 
-  filled_fields : (fs : FieldTrees) → some_fields is_empty_struct fs ≡ false → are_served_fields fs ≡ true → HaveNoEmptyStruct (shapes_of fs)
+  pub filled_fields : (fs : FieldTrees) → some_fields is_empty_struct fs ≡ false → are_served_fields fs ≡ true → HaveNoEmptyStruct (shapes_of fs)
   filled_fields no_fields h s = tt
   filled_fields (more_fields f fs) h s =
       let hs = or_parts (some_field is_empty_struct f) (some_fields is_empty_struct fs) h in
@@ -75,7 +75,7 @@ mutual
 has_some : (n : ℕ) → 0 < n → not (nat_eq n 0) ≡ true
 has_some n h = let e : nat_eq n 0 ≡ false = ne_eqb n 0 (omega (arith, h)) in ap not e
 
-all_have : (fs : FieldTrees) → some_fields is_empty_struct fs ≡ false → are_served_fields fs ≡ true → fields_with_columns fs ≡ list_fields fs
+pub all_have : (fs : FieldTrees) → some_fields is_empty_struct fs ≡ false → are_served_fields fs ≡ true → fields_with_columns fs ≡ list_fields fs
 all_have no_fields h s = refl
 all_have (more_fields f fs) h s =
     let hs = or_parts (some_field is_empty_struct f) (some_fields is_empty_struct fs) h in
@@ -112,7 +112,7 @@ all_fit no_fields (t ∷ ts) g h = absurd g
 all_fit (more_fields f fs) [] g h = absurd g
 all_fit (more_fields f fs) (t ∷ ts) g h = (fits_by f t g.0 h.0, all_fit fs ts g.1 h.1)
 
-can_be : (fs : FieldTrees) → some_fields is_empty_struct fs ≡ false → are_served_fields fs ≡ true → HaveRows fs → CanBeWritten fs
+pub can_be : (fs : FieldTrees) → some_fields is_empty_struct fs ≡ false → are_served_fields fs ≡ true → HaveRows fs → CanBeWritten fs
 can_be no_fields h s r = tt
 can_be (more_fields f fs) h s r =
     let hs = or_parts (some_field is_empty_struct f) (some_fields is_empty_struct fs) h in

@@ -11,7 +11,7 @@ use Rattle.pq_files.specs.Carried.{start_of}
 use Rattle.pq_numbers.specs.Texts.{IsAt}
 use Rattle.pq_headline.specs.Lists.{AllZip3}
 use Rattle.pq_headline.specs.Arrays.{array_at}
-use Rattle.pq_headline.specs.Openings.{Opening, IsItem, Assembled, leaf_levels}
+use Rattle.pq_headline.specs.Openings.{AreAlike, Opening, IsItem, Assembled, leaf_levels}
 use Rattle.pq_pages.specs.Outcomes.{Outcome}
 use Rattle.pq_pages.specs.ReadsChunk.{ReadsChunk}
 
@@ -45,9 +45,11 @@ pub record Reads (bytes : List ℕ) (place : ℕ) (m : ChunkMeta) (l : Leaf) (ou
   -- a header may be as long as the chunk
   pub reads : ReadsChunk placed.size (leaf_levels l) placed.num_values text outcomes
 
+-- the reader of a field: its leaves are those of its columns, no more and no less
 pub record OpensField (bytes : List ℕ) (place : ℕ) (rows : ℕ) (chunk_size : Option ℕ) (f : FieldTree) (ls : List Leaf) (ms : List ChunkMeta) (o : Opening) : Type 0 where
   pub field : o.field ≡ f
   pub leaves_are : o.leaves ≡ ls
+  pub alike : AreAlike f ls
   pub rows_are : o.rows ≡ rows
   pub chunk_size_is : o.chunk_size ≡ chunk_size
   pub read : AllZip3 (Reads bytes place) ms ls o.outcomes

@@ -1,8 +1,8 @@
 -- The groups of an output: rows in pieces, and each piece's columns in pages.
-use Rattle.std.specs.Prelude.{◌≡◌, ℕ, List, [], ◌∷◌, length, map, Option, Some, None, Bool, cond, ◌&&◌, ◌⊎◌, ◌<◌, Contains}
+use Rattle.std.specs.Prelude.{◌≡◌, ℕ, ℤ, List, [], ◌∷◌, length, map, Option, Some, None, Bool, cond, ◌&&◌, ◌⊎◌, ◌<◌, Contains}
 use Rattle.std.specs.List.{AllZip}
 use Rattle.shredding.specs.Cut.{cut}
-use Rattle.shredding.specs.Slot.{Slot, fields, Slots, Value}
+use Rattle.shredding.specs.Slot.{Slot, fields, Slots, Value, number}
 use Rattle.shredding.specs.Shred.{Triple, column}
 use Rattle.columns_core.specs.Shapes.{leaf_type}
 use Rattle.columns_core.specs.Tree.{FieldTrees}
@@ -11,7 +11,7 @@ use Rattle.pq_tree.specs.Tree.{Leaf, columns_of}
 use Rattle.pq_files.specs.Layout.{OutPage, OutChunk, OutGroup, plain_length, rows_per_page, bounded, AreStoredEntries, delta_of}
 use Rattle.pq_files.specs.Page.{Encoding, plain, dictionary, values_in}
 use Rattle.pq_files.specs.Statistics.{HasStatistics}
-use Rattle.pq_files.specs.Stored.{IsStored, AreStored}
+use Rattle.pq_files.specs.Stored.{AreStored, HoldsDecimal}
 use Rattle.pq_files.specs.Reasons.{AnyOf}
 use Rattle.pq_files.specs.Room.{room, max_size}
 use Rattle.schema_to_tree.specs.Table.{schema_of}
@@ -74,7 +74,7 @@ all_chosen wants_delta _ _ = []
 
 -- a present value of a column of decimals that its physical type does not hold
 abbrev pub IsWide : ArrowColumn → Leaf → List Slots → Type 0
-IsWide c l rows = (leaf_type c.data_type ≡ decimal) × (v : Value) × Contains (values_in (column c.way (map fields rows))) v × ((s : Value) → IsStored decimal l.physical v s → ⊥)
+IsWide c l rows = (leaf_type c.data_type ≡ decimal) × (z : ℤ) × Contains (values_in (column c.way (map fields rows))) (number z) × ¬ HoldsDecimal l.physical z
 
 abbrev pub SomeIsWide : List ArrowColumn → List Leaf → List Slots → Type 0
 SomeIsWide (c ∷ cs) (l ∷ ls) rows = IsWide c l rows ⊎ SomeIsWide cs ls rows

@@ -1,7 +1,7 @@
 -- Why an input is refused, stage by stage. What is refused at a stage has passed those before it.
 -- The stages are: 1 the options, 2 how many bytes there are, 3 the frame and the footer, 4 how many pairs the footer claims, 5 where its chunks lie, 6 the schema, 7 pages and
 -- the rows that they hold, 8 how large the output is and whether it holds each decimal. Of the first two a caller knows before any byte is looked at.
-use Rattle.std.specs.Prelude.{◌≡◌, ◌≢◌, ◌⊎◌, ℕ, ◌+◌, ◌<◌, ◌≤◌, ℤ, pos, negsuc, List, [], ◌∷◌, ◌++◌, length, map, filter, sum_by, false, not, nat_eq, All, Option, Some, None, true}
+use Rattle.std.specs.Prelude.{◌≡◌, ◌≢◌, ◌⊎◌, ℕ, ◌<◌, ◌≤◌, ℤ, pos, negsuc, List, [], ◌∷◌, ◌++◌, length, map, filter, sum_by, false, not, nat_eq, All, Option, Some, None, true}
 use Rattle.std.specs.List.{AllZip}
 use Rattle.shredding.specs.Slot.{Slots}
 use Rattle.columns_base.specs.declared.error.Error.{Error}
@@ -37,8 +37,7 @@ use Rattle.pq_files.specs.Layout.{OutGroup}
 use Rattle.pq_files.specs.Room.{max_size, footer_room, planned_footer}
 use Rattle.schema_to_tree.specs.Table.{schema_of}
 use Rattle.write_counts.specs.Passing.{GroupPasses}
-use Rattle.shredding.specs.Shred.{column}
-use Rattle.shredding.specs.Slot.{fields, Value}
+use Rattle.shredding.specs.Slot.{Value}
 
 -- ---- stage 4: the pairs that the footer claims
 

@@ -12,12 +12,12 @@ use Rattle.pq_headline.specs.Laws.{RefusedIsNotValid}
 use Rattle.pq_headline.specs.Rewrites.{Asked, Codec}
 use Rattle.pq_headline.specs.Stages.{Valid}
 use Rattle.rewrite_words.specs.declared.options.RewriteOptions.{RewriteOptions}
-use Rattle.pq_rewrite.specs.Answer.{Answered, Ends, KeptUnlessWritten, Meaning, Refused, Rewrote}
-use Rattle.pq_rewrite.specs.Asks.{Causes, asked_by}
-use Rattle.pq_rewrite.specs.Ended.{AreDeclined, AreTaken, Declines, Ended}
-use Rattle.pq_rewrite.specs.Notes.{line, status}
+use Rattle.rewrite_whole.specs.Answer.{Ends, KeptUnlessWritten, Meaning, Refused, Rewrote}
+use Rattle.rewrite_whole.specs.Asks.{Causes, asked_by}
+use Rattle.pq_rewrite.specs.Ended.{Answered, AreDeclined, AreTaken, Declines, Ended}
+use Rattle.rewrite_notes.specs.Notes.{line, status}
 use Rattle.pq_rewrite.specs.Run.{Held, IsRefusedFor}
-use Rattle.pq_rewrite.specs.declared.report.Report.{Report}
+use Rattle.rewrite_notes.specs.declared.report.Report.{Report}
 
 by_cause : (m : Meaning) (limit : ℕ) (e : Ends) (tells : List ℕ → Type 0) (n : ℕ) (x : Error) → n ≡ status (Err x) → tells (line (Err x)) → Refused m limit e x → (y : Error) × IsRefusedFor m.refuses limit e.left_old e.left_new tells n y
 by_cause m limit e tells n x s t r = (x, record { is_status = s; told = t; cause = inr r })

@@ -7,8 +7,8 @@ use Rattle.columns_base.specs.declared.error.Error.TheVariants.{InputLimit}
 use Rattle.columns_base.specs.declared.error.Limit.TheVariants.{Bytes}
 use Rattle.pq_io.specs.Ends.{AppendsFront}
 use Rattle.pq_io.specs.Reading.{GaveAll, GavePast}
-use Rattle.pq_rewrite.specs.Notes.{error_status, report_text}
-use Rattle.pq_rewrite.specs.declared.report.Report.{Report}
+use Rattle.rewrite_notes.specs.Notes.{error_status, report_text}
+use Rattle.rewrite_notes.specs.declared.report.Report.{Report}
 
 -- The bytes that the source held, where it tells them, are so.
 abbrev pub Held : Option (List ℕ) → (List ℕ → Type 0) → Type 0

@@ -17,3 +17,5 @@ pub mod MixedValues
 pub mod FixedRead
 pub mod IntervalsRead
 pub mod DecimalsRead
+pub mod BitRuns
+pub mod Chunks

@@ -9,7 +9,7 @@ use Rattle.read_walk.proofs.Decoding.{slots-append, slots-values, cannot-behind,
 use Rattle.read_leaf.specs.Fixed.{value_slots, TookValues}
 use Rattle.read_leaf.proofs.SetBits.{ones-append, spread-append}
 
-both-slots : (vs ws : List Value) (bs cs : List Bool) → length vs ≡ length bs → value_slots (vs ++ ws) (bs ++ cs) ≡ value_slots vs bs ++ value_slots ws cs
+pub both-slots : (vs ws : List Value) (bs cs : List Bool) → length vs ≡ length bs → value_slots (vs ++ ws) (bs ++ cs) ≡ value_slots vs bs ++ value_slots ws cs
 both-slots [] ws [] cs e = refl
 both-slots [] ws (b ∷ bs) cs e = absurd (omega (arith, e))
 both-slots (v ∷ vs) ws [] cs e = absurd (omega (arith, e))

@@ -1,5 +1,5 @@
 -- What is held of an interval or a decimal is the value that arrays of its type have; with the proofs, since a trait's law is given with them.
-use Rattle.std.proofs.Common.{◌≡◌, ℤ, true, false, refl, sym, true≢false}
+use Rattle.std.proofs.Common.{◌≡◌, ℤ, true, refl, sym, true≢false}
 use Rattle.columns_core.specs.Natives.{stores_i32, stores_i128, stores_days, value_i32, value_i128, value_days, within_signed}
 use Rattle.columns_core.specs.Tree.{TypeTree, t_int32, t_date32, t_time32, t_interval}
 use Rattle.columns_core.specs.declared.native.DaysMs.{DaysMs}

@@ -6,3 +6,4 @@ pub mod Loads
 pub mod Truths
 pub mod Fixed
 pub mod FixedTypes
+pub mod FixedBytes

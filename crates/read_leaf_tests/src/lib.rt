@@ -4,4 +4,6 @@
 #[cfg(test)]
 mod array_tests;
 #[cfg(test)]
+mod fixed_bytes_tests;
+#[cfg(test)]
 mod fixed_tests;

@@ -26,6 +26,7 @@ kind_in (C.LargeBinary r) = K.LargeBinary
 kind_in (C.FixedDecimal r n) = K.FixedDecimal n
 kind_in (C.Months r) = K.Months
 kind_in (C.Days r) = K.Days
+kind_in (C.FixedSizeBinary r n) = K.FixedSizeBinary n
 
 abbrev pub reader_in : {I : Type 0} → KindColumn I → Reading
 reader_in (C.Boolean r) = r
@@ -48,3 +49,4 @@ reader_in (C.LargeBinary r) = r
 reader_in (C.FixedDecimal r n) = r
 reader_in (C.Months r) = r
 reader_in (C.Days r) = r
+reader_in (C.FixedSizeBinary r n) = r

@@ -12,7 +12,9 @@ ghost use Rattle.read_pieces.specs.Pieces.{IsPieceOf};
 ghost use Rattle.read_state.specs.Initial.{IsWay};
 ghost use Rattle.read_walk.specs.Values.{Stored};
 ghost use Rattle.read_leaf.specs.Fixed.{stored_fixed};
+ghost use Rattle.read_leaf.specs.FixedBytes.{loaded_bytes};
 ghost use Rattle.read_types.specs.Arrays.{makes_fixed};
+ghost use Rattle.read_types.specs.LeafTypes.{reads_chunks};
 ghost use Rattle.read_types.specs.Reads.{limit_of, stored_of, types_of};
 ghost use Rattle.read_leaves.specs.Kinds.{kind_in, reader_in};
 
@@ -24,7 +26,9 @@ use read_column::ColumnReader;
 use read_leaf::{Bytes, FixedValue, Text};
 use read_pieces::{ColumnPiece, LeafReader};
 use read_state::InitNested;
-use read_types::{Fixed, LeafArray, LeafKind, Nulls, NumberBox, Numbers, Strings, Truths};
+use read_types::{
+    Fixed, FixedBytes, LeafArray, LeafKind, Nulls, NumberBox, Numbers, Strings, Truths,
+};
 use std::alloc::Global;
 use std::marker::PhantomData;
 
@@ -52,6 +56,8 @@ pub enum KindColumn<I: Pages> {
     FixedDecimal(ColumnReader<I, Fixed<i128>>, usize),
     Months(ColumnReader<I, Fixed<i32>>),
     Days(ColumnReader<I, Fixed<DaysMs>>),
+    /// With the size of each string.
+    FixedSizeBinary(ColumnReader<I, FixedBytes>, usize),
 }
 
 /// The pages of a column, its physical type, the parts of the way to its leaf, and how its rows are read.
@@ -112,6 +118,20 @@ fn next_fixed<I: Pages, T: FixedValue + NumberBox>(
     next_of(reader, &leaf, alloc, data_type)
 }
 
+// The same of byte strings of so many bytes each.
+#[tactic(auto, using(crate::proofs::Leaves::chunks_made))]
+fn next_chunks<I: Pages>(
+    reader: &mut ColumnReader<I, FixedBytes>,
+    size: usize,
+    alloc: Global,
+    data_type: &DataType,
+) -> Option<Result<ColumnPiece>>
+    requires { reads_chunks size (base (type_view data_type.now)) ≡ true }
+    ensures { (o : ColumnOpening) (pieces : List (List Triple)) → IsReading (stored_fixed loaded_bytes size) 0 o pieces reader.old → GivesPiece (IsReading (stored_fixed loaded_bytes size) 0) (λ p ts. IsPieceOf o.column (type_view data_type.now) ts p) o pieces result reader.new }
+{
+    next_of(reader, &FixedBytes { size }, alloc, data_type)
+}
+
 impl<I: Pages> KindColumn<I> {
     /// The reader of a column whose values are read so.
     ///
@@ -144,6 +164,7 @@ impl<I: Pages> KindColumn<I> {
             LeafKind::FixedDecimal(size) => KindColumn::FixedDecimal(rows.read()?, size),
             LeafKind::Months => KindColumn::Months(rows.read()?),
             LeafKind::Days => KindColumn::Days(rows.read()?),
+            LeafKind::FixedSizeBinary(size) => KindColumn::FixedSizeBinary(rows.read()?, size),
         })
     }
 
@@ -178,6 +199,9 @@ impl<I: Pages> KindColumn<I> {
             KindColumn::FixedDecimal(reader, size) => next_fixed(reader, *size, alloc, data_type),
             KindColumn::Months(reader) => next_fixed(reader, 12, alloc, data_type),
             KindColumn::Days(reader) => next_fixed(reader, 12, alloc, data_type),
+            KindColumn::FixedSizeBinary(reader, size) => {
+                next_chunks(reader, *size, alloc, data_type)
+            }
         }
     }
 }

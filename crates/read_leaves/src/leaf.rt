@@ -64,6 +64,7 @@ fn may_nest(data_type: &DataType) -> bool
     match data_type.base() {
         DataType::Decimal(_, _) => false,
         DataType::Interval(_) => false,
+        DataType::FixedSizeBinary(_) => false,
         _ => true,
     }
 }

@@ -1,15 +1,15 @@
 -- Plain values of one size are loaded as the page table says.
-use Rattle.std.proofs.Common.{◌≡◌, ◌↔◌, inl, inr, ℕ, zero, suc, ◌+◌, ◌-◌, ◌<◌, ◌≤◌, ◌==◌, ℤ, Bool, true, false, true≢false, Some, None, List, [], ◌∷◌, ◌++◌, length, take, drop, replicate, refl, arith, ap, sym, subst, ◌∙◌, append_assoc, length-append, if◌then◌else◌}
+use Rattle.std.proofs.Common.{◌≡◌, ◌↔◌, inl, inr, ℕ, zero, suc, ◌<◌, ◌≤◌, ◌==◌, ℤ, Bool, true, false, true≢false, Some, None, List, [], ◌∷◌, ◌++◌, length, take, drop, replicate, refl, arith, ap, sym, subst, ◌∙◌, append_assoc, length-append, if◌then◌else◌}
 use Rattle.std.specs.Prelude.{◌&&◌, nat_le}
 use Rattle.std.specs.List.{AllZip}
 use Rattle.std.proofs.lemmas.Bool.{and_parts, cases_lt}
-use Rattle.std.proofs.lemmas.Bool.Decides.{leb_tells}
+use Rattle.std.proofs.lemmas.Bool.Decides.{leb_tells, eqb_tells}
 use Rattle.std.proofs.lemmas.List.{length-take-le, length-drop, take-append-drop, take_at, drop_at}
-use Rattle.shredding.specs.Shape.{LeafType, decimal, months, days}
+use Rattle.shredding.specs.Shape.{LeafType, fixed_bytes, decimal, months, days}
 use Rattle.shredding.specs.Slot.{Value, truth, number, bytes}
 use Rattle.columns_core.specs.Natives.{stores_i32, stores_i128, stores_days}
 use Rattle.columns_core.specs.Shapes.{leaf_type}
-use Rattle.columns_core.specs.Tree.{TypeTree, t_int32, t_date32, t_time32, t_interval, t_decimal}
+use Rattle.columns_core.specs.Tree.{TypeTree, t_int32, t_date32, t_time32, t_interval, t_fixed_size_binary, t_decimal}
 use Rattle.columns_core.specs.declared.types.IntervalUnit.TheVariants.{YearMonth, DayTime}
 use Rattle.pq_files.proofs.StoredOnce.{are_unique}
 use Rattle.pq_files.specs.Plain.{InARow}
@@ -18,11 +18,14 @@ use Rattle.pq_headline.specs.Columns.{ArrowColumn}
 use Rattle.pq_numbers.specs.Texts.{Begins}
 use Rattle.pq_tree.specs.Physical.{fixed}
 use Rattle.read_leaf.specs.Fixed.{are_zeros, is_fixed, loaded_days, loaded_decimal, loaded_months, stored_fixed}
+use Rattle.read_leaf.specs.FixedBytes.{loaded_bytes}
 use Rattle.read_leaf.proofs.FixedRead.{fixed-first, fixed-none}
 use Rattle.read_leaf.proofs.IntervalsRead.{all_zeros}
 use Rattle.read_pieces.specs.Leaves.{IsLoaded, ReadsPlain, ReadsLeaf}
 use Rattle.read_types.specs.Arrays.{makes_fixed}
+use Rattle.read_types.specs.LeafTypes.{reads_chunks}
 use Rattle.read_walk.specs.Values.{Stored}
+use Rattle.schema_fit.specs.PageTable.{is_stored_length}
 
 -- a value is loaded exactly where the page table stores it so
 abbrev LoadsFixed : LeafType → ℕ → (List ℕ → Stored) → Type 0
@@ -214,3 +217,26 @@ decimals_read n e c m =
     let p = and_parts (nat_le 1 n) (nat_le n 16) e in
     let a = le-holds 1 n p.0 in
     reads-fixed c n loaded_decimal a (rw (decimal-type c.data_type m) (loads-decimal n a (le-holds n 16 p.1)))
+
+-- ---- byte strings of one size
+
+loads-chunks : (n : ℕ) → LoadsFixed (fixed_bytes n) n loaded_bytes
+loads-chunks n s (bytes t) l = (
+  (λ h. let same : t ≡ s = same-bytes t s (some-bytes s (bytes t) h) in (refl, ap length same ∙ l, ap bytes (sym same))),
+  (λ h. ap (λ (v : Value). Some v) h.2),
+)
+loads-chunks n s (truth b) l = ((λ h. absurd (not-truth b s (some-bytes s (truth b) h))), (λ h. absurd h))
+loads-chunks n s (number z) l = ((λ h. absurd (not-number z s (some-bytes s (number z) h))), (λ h. absurd h))
+
+same-size : (n m : ℕ) → (n == m) ≡ true → n ≡ m
+same-size n m e = elim (eqb_tells n m) [ inl h ↦ h.1 | inr h ↦ absurd (true≢false (sym e ∙ h.0)) ]
+
+chunk-type : (n : ℕ) (t : TypeTree) → reads_chunks n t ≡ true → (leaf_type t ≡ fixed_bytes n) × (1 ≤ n)
+chunk-type n (t_fixed_size_binary m) e =
+    let p = and_parts (n == m) (is_stored_length m) e in
+    let same : n ≡ m = same-size n m p.0 in
+    (ap fixed_bytes (sym same), omega (arith, same, le-holds 1 m (and_parts (nat_le 1 m) (nat_le m 2147483647) p.1).0))
+chunk-type n t e = absurd (true≢false (sym e))
+
+pub chunks_read : (n : ℕ) (c : ArrowColumn) → reads_chunks n c.data_type ≡ true → ReadsLeaf c (fixed n) (stored_fixed loaded_bytes n) 0
+chunks_read n c e = let k = chunk-type n c.data_type e in reads-fixed c n loaded_bytes k.1 (rw k.0 (loads-chunks n))

@@ -1,6 +1,6 @@
 -- How many bytes a plain value of one size has.
 use Rattle.std.proofs.lemmas.Bool.Decides.{leb_tells}
-use Rattle.std.proofs.Common.{◌≡◌, inl, inr, true, ℕ, zero, suc, ◌+◌, ◌<◌, ◌≤◌, Some, None, List, [], ◌∷◌, ◌++◌, length, take, drop, refl, arith, ap, ◌∙◌, length-append}
+use Rattle.std.proofs.Common.{◌≡◌, inl, inr, true, ℕ, zero, suc, ◌<◌, ◌≤◌, Some, None, List, [], ◌∷◌, ◌++◌, length, take, drop, refl, arith, ap, ◌∙◌, length-append}
 use Rattle.std.proofs.lemmas.List.{length-take, length-take-le, take_at, drop_at}
 use Rattle.shredding.specs.Slot.{Value}
 use Rattle.read_leaf.specs.Fixed.{stored_fixed}

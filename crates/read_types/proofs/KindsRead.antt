@@ -6,7 +6,7 @@ use Rattle.columns_core.specs.Natives.{stores_i8, stores_i16, stores_i32, stores
 use Rattle.read_leaf.specs.Loads.{loads-i8, loads-i16, loads-i32, loads-i64, loads-i128, loads-wide-i128, loads-u8, loads-u16, loads-u32, loads-wide-u32, loads-u64}
 use Rattle.read_types.specs.Reads.{LeavesAreRead}
 use Rattle.read_types.specs.declared.kind.LeafKind.TheVariants as K
-use Rattle.read_types.proofs.FixedRead.{months_read, days_read, decimals_read}
+use Rattle.read_types.proofs.FixedRead.{chunks_read, months_read, days_read, decimals_read}
 use Rattle.read_types.proofs.NumbersRead.{reads-32, reads-64}
 use Rattle.read_types.proofs.NullsRead.{nulls}
 use Rattle.read_types.proofs.Slots.{stores-so, ordered-so}
@@ -34,3 +34,4 @@ leaves-read K.LargeBinary c e = large-strings c e
 leaves-read (K.FixedDecimal n) c e = let p = and_parts (nat_le 1 n && nat_le n 16) (makes_fixed stores_i128 c.data_type) e in decimals_read n p.0 c p.1
 leaves-read K.Months c e = months_read c e
 leaves-read K.Days c e = days_read c e
+leaves-read (K.FixedSizeBinary n) c e = chunks_read n c e

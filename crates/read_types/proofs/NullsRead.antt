@@ -1,5 +1,5 @@
 -- A column of nulls alone.
-use Rattle.std.proofs.Common.{◌≡◌, ℕ, zero, suc, ◌+◌, ◌<◌, ◌≤◌, ℤ, true, false, true≢false, Some, None, List, [], ◌∷◌, length, replicate, refl, arith, ap, sym}
+use Rattle.std.proofs.Common.{◌≡◌, ℕ, zero, suc, ◌+◌, ◌<◌, ◌≤◌, ℤ, true, true≢false, Some, None, List, [], ◌∷◌, length, replicate, refl, arith, ap, sym}
 use Rattle.shredding.specs.Parts.{slots_from}
 use Rattle.shredding.specs.Slot.{Slot, null}
 use Rattle.columns_core.specs.Shapes.{leaf_type}

@@ -1,10 +1,10 @@
 -- How many bytes a plain value has.
-use Rattle.std.proofs.Common.{◌≡◌, inl, inr, ℕ, zero, suc, ◌+◌, ◌-◌, ◌*◌, ◌/◌, ◌<◌, ◌≤◌, ℤ, Bool, true, false, nat_lt, Option, Some, None, option_map, List, [], ◌∷◌, ◌++◌, map, length, take, drop, refl, arith, ap, sym, ◌∙◌, length-append}
+use Rattle.std.proofs.Common.{◌≡◌, inl, inr, ℕ, suc, ◌+◌, ◌-◌, ◌*◌, ◌/◌, ◌<◌, ◌≤◌, ℤ, Bool, true, false, nat_lt, Option, Some, None, option_map, List, [], ◌∷◌, ◌++◌, map, length, take, drop, arith, ap, sym, ◌∙◌, length-append}
 use Rattle.std.proofs.Math.Nat.{add-mul-div_left, div-eq_of_lt}
 use Rattle.std.proofs.Math.Seq.{take-add}
 use Rattle.std.proofs.lemmas.Bool.{cases_lt}
 use Rattle.std.proofs.lemmas.List.{length-take, length-take-le, length-drop, take_at, drop_at, take-take}
-use Rattle.shredding.specs.Slot.{Value, number, bytes}
+use Rattle.shredding.specs.Slot.{number, bytes}
 use Rattle.pq_files.specs.Plain.{IsPrefixed}
 use Rattle.pq_numbers.specs.Texts.{number_of}
 use Rattle.read_leaf.specs.Numbers.{loaded_value, plain_numbers, stored_numbers}

@@ -1,5 +1,6 @@
 -- The slots of arrays of what is decoded.
-use Rattle.std.proofs.Common.{◌≡◌, ℕ, zero, suc, ◌+◌, ◌-◌, ◌≤◌, ℤ, Bool, true, false, List, [], ◌∷◌, map, length, refl, arith, ap, sym, ◌∙◌, true≢false}
+use Rattle.std.proofs.Common.{◌≡◌, ℕ, zero, suc, ◌+◌, ◌-◌, ◌*◌, ◌/◌, ◌%◌, ◌<◌, ◌≤◌, ℤ, Bool, true, false, List, [], ◌∷◌, map, length, refl, arith, ap, sym, ◌∙◌, true≢false}
+use Rattle.std.proofs.Math.Nat.{div-add-mod, mul-div_cancel_left}
 use Rattle.std.proofs.lemmas.List.{length-map}
 use Rattle.std.proofs.lemmas.Str.{IsUtf8-from_is_utf8}
 use Rattle.std.specs.Str.{is_utf8}
@@ -9,11 +10,12 @@ use Rattle.columns_core.specs.Rising.{RisesFrom, IsRising, last_place}
 use Rattle.columns_core.specs.Shapes.{leaf_type}
 use Rattle.columns_core.specs.Tree.{TypeTree}
 use Rattle.columns_leaf.specs.Texts.{IsText, AreTexts}
-use Rattle.columns_slots.proofs.Strings.{pieces_len}
-use Rattle.columns_slots.specs.Bytes.{pieces, pieces_values}
+use Rattle.columns_slots.proofs.Strings.{chunks_len, pieces_len}
+use Rattle.columns_slots.specs.Bytes.{chunks, chunks_values, pieces, pieces_values}
 use Rattle.columns_slots.specs.Slots.{slots, slot_at, AreUpTo, IsPlaces}
 use Rattle.pq_files.specs.Statistics.{has_order}
 use Rattle.read_leaf.specs.Fixed.{value_slots as fixed_slots}
+use Rattle.read_leaf.specs.FixedBytes.{chunk_slots}
 use Rattle.read_leaf.specs.Numbers.{number_slots}
 use Rattle.read_leaf.specs.Strings.{string_slots, AreAllowed}
 use Rattle.read_leaf.specs.Truths.{truth_slots}
@@ -74,6 +76,38 @@ fixed-array t worth held valued numbers xs bits bs n b e = rw (n, b) record {
   same = masked-slots t (map worth xs) bs (length-map xs worth ∙ e) ∙ of-values worth held valued xs bs;
   entries = refl;
 }
+
+-- ---- byte strings of one size
+
+of-chunks : (vs : List Value) (bs : List Bool) → value_slots vs bs ≡ fixed_slots vs bs
+unfolding value_slots
+of-chunks [] bs = refl
+of-chunks (v ∷ vs) [] = refl
+of-chunks (v ∷ vs) (true ∷ bs) = rw (of-chunks vs bs) refl
+of-chunks (v ∷ vs) (false ∷ bs) = rw (of-chunks vs bs) refl
+
+-- two sizes of as many strings, at least one, over the same bytes
+same-width : (n size width : ℕ) → 0 < n → size * n ≡ width * n → size ≡ width
+same-width n size width some e =
+    let turn : n * size ≡ n * width = omega (arith, e) in
+    sym (mul-div_cancel_left size some) ∙ (ap (λ (k : ℕ). k / n) turn ∙ mul-div_cancel_left width some)
+
+same-chunks : (n size width : ℕ) (content : List ℕ) → size * n ≡ width * n → chunks_values width n content ≡ chunks_values size n content
+same-chunks zero size width content e = refl
+same-chunks (suc n) size width content e = ap (λ (k : ℕ). chunks_values k (suc n) content) (sym (same-width (suc n) size width (omega arith) e))
+
+pub chunk-array : (t : TypeTree) (size width : ℕ) (content text : List ℕ) (bits bs : List Bool) → content ≡ text → bits ≡ bs → length text ≡ size * length bs → length content % width ≡ 0 → length bits ≡ length content / width → IsLeafArray t (chunk_slots size text bs) (masked_leaf t (chunks_values width (length content / width) content) bits)
+chunk-array t size width content text bits bs c b even whole count =
+    let n = length bs in
+    let number : length content / width ≡ n = sym count ∙ ap length b in
+    let exact : size * n ≡ width * n = sym even ∙ (ap length (sym c) ∙ (sym (div-add-mod (length content) width) ∙ (omega (arith, whole) ∙ ap (λ (k : ℕ). width * k) number))) in
+    let values : chunks_values width (length content / width) content ≡ chunks_values size n text = ap (λ (k : ℕ). chunks_values width k content) number ∙ (ap (chunks_values width n) c ∙ same-chunks n size width text exact) in
+    let many : length (chunks_values size n text) ≡ n = length-map (chunks size n text) bytes ∙ chunks_len size n text in
+    rw (values, b) record {
+      typed = refl;
+      same = masked-slots t (chunks_values size n text) bs many ∙ of-chunks (chunks_values size n text) bs;
+      entries = refl;
+    }
 
 -- a type of such arrays stores the numbers, and has an order
 pub stores-so : (stores : TypeTree → Bool) (t : TypeTree) → makes_numbers stores t ≡ true → stores t ≡ true

@@ -1,11 +1,12 @@
 -- The types whose values are read, each with the physical types of its column (Parquet format, "Types" and LogicalTypes). Of the others
--- that pages may have, fixed byte strings and dictionaries are not read yet.
+-- that pages may have, dictionaries alone are not read yet.
 use Rattle.std.specs.Prelude.{ℕ, Bool, true, false, ◌&&◌, ◌==◌, nat_le}
 use Rattle.columns_core.specs.declared.types.TimeUnit.TheVariants.{Second, Millisecond, Microsecond, Nanosecond}
-use Rattle.columns_core.specs.Tree.{TypeTree, t_int8, t_int16, t_int32, t_int64, t_uint8, t_uint16, t_uint32, t_uint64, t_timestamp, t_date32, t_date64, t_time32, t_time64, t_duration, t_binary, t_large_binary, t_utf8, t_large_utf8, t_decimal, t_null, t_interval}
+use Rattle.columns_core.specs.Tree.{TypeTree, t_int8, t_int16, t_int32, t_int64, t_uint8, t_uint16, t_uint32, t_uint64, t_timestamp, t_date32, t_date64, t_time32, t_time64, t_duration, t_binary, t_large_binary, t_utf8, t_large_utf8, t_fixed_size_binary, t_decimal, t_null, t_interval}
 use Rattle.columns_core.specs.declared.types.IntervalUnit.TheVariants.{YearMonth, DayTime}
 use Rattle.columns_slots.specs.Types.{is_boolean}
 use Rattle.pq_tree.specs.Physical.{Physical, boolean, int32, int64, byte_array, fixed}
+use Rattle.schema_fit.specs.PageTable.{is_stored_length}
 
 -- as numbers of 32 bits
 abbrev pub reads_small : TypeTree → Bool
@@ -55,10 +56,16 @@ abbrev pub reads_decimal : TypeTree → Bool
 reads_decimal (t_decimal precision scale) = true
 reads_decimal t = false
 
--- as so many bytes: intervals as twelve, decimals as one to sixteen
+-- as byte strings of so many bytes: those of the type's own size, which may be from 1 to 2^31 - 1
+abbrev pub reads_chunks : ℕ → TypeTree → Bool
+reads_chunks n (t_fixed_size_binary m) = (n == m) && is_stored_length m
+reads_chunks n t = false
+
+-- as so many bytes: intervals as twelve, decimals as one to sixteen, byte strings as their size says
 abbrev pub reads_fixed : ℕ → TypeTree → Bool
 reads_fixed n (t_interval unit) = (n == 12) && reads_interval (t_interval unit)
 reads_fixed n (t_decimal precision scale) = nat_le 1 n && nat_le n 16
+reads_fixed n (t_fixed_size_binary m) = reads_chunks n (t_fixed_size_binary m)
 reads_fixed n t = false
 
 -- values of a type, without its extensions, are read under this physical type
@@ -70,11 +77,12 @@ is_read t byte_array = reads_string t
 is_read t (fixed n) = reads_fixed n t
 is_read t p = false
 
--- those of a column beneath lists or structs too: decimals and intervals are read only where the field's own
--- type is theirs
+-- those of a column beneath lists or structs too: decimals, intervals and byte strings of one size are read only
+-- where the field's own type is theirs
 abbrev pub reads_nested : TypeTree → Bool
 reads_nested (t_decimal precision scale) = false
 reads_nested (t_interval unit) = false
+reads_nested (t_fixed_size_binary size) = false
 reads_nested t = true
 
 -- those of a required leaf too: a leaf of nulls alone is optional

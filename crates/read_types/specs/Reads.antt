@@ -8,6 +8,7 @@ use Rattle.columns_slots.specs.Types.{is_boolean, is_null_type, is_text, is_bina
 use Rattle.pq_headline.specs.Columns.{ArrowColumn}
 use Rattle.pq_tree.specs.Physical.{Physical, boolean, int32, int64, byte_array, fixed}
 use Rattle.read_leaf.specs.Fixed.{loaded_days, loaded_decimal, loaded_months, stored_fixed}
+use Rattle.read_leaf.specs.FixedBytes.{loaded_bytes}
 use Rattle.read_leaf.specs.Numbers.{as_signed, as_unsigned, stored_numbers}
 use Rattle.read_leaf.specs.PlainValues.{spelled_32, spelled_64}
 use Rattle.read_leaf.specs.Strings.{stored_strings}
@@ -15,6 +16,7 @@ use Rattle.read_leaf.specs.Truths.{stored_truths}
 use Rattle.read_pieces.specs.Leaves.{ReadsLeaf}
 use Rattle.read_walk.specs.Values.{Stored}
 use Rattle.read_types.specs.Arrays.{makes_fixed, makes_numbers}
+use Rattle.read_types.specs.LeafTypes.{reads_chunks}
 use Rattle.read_types.specs.declared.kind.LeafKind.{LeafKind}
 use Rattle.read_types.specs.declared.kind.LeafKind.TheVariants as K
 
@@ -40,6 +42,7 @@ physical_of K.LargeBinary = byte_array
 physical_of (K.FixedDecimal n) = fixed n
 physical_of K.Months = fixed 12
 physical_of K.Days = fixed 12
+physical_of (K.FixedSizeBinary n) = fixed n
 
 -- the types of its arrays, without extensions
 abbrev pub types_of : LeafKind → TypeTree → Bool
@@ -63,6 +66,7 @@ types_of K.LargeBinary = is_binary true
 types_of (K.FixedDecimal n) = λ t. (nat_le 1 n && nat_le n 16) && makes_fixed stores_i128 t
 types_of K.Months = makes_fixed stores_i32
 types_of K.Days = makes_fixed stores_days
+types_of (K.FixedSizeBinary n) = reads_chunks n
 
 -- the stored values of plain bytes, as they are loaded
 abbrev pub stored_of : LeafKind → List ℕ → List Stored
@@ -86,6 +90,7 @@ stored_of K.LargeBinary = stored_strings (λ s. true)
 stored_of (K.FixedDecimal n) = stored_fixed loaded_decimal n
 stored_of K.Months = stored_fixed loaded_months 12
 stored_of K.Days = stored_fixed loaded_days 12
+stored_of (K.FixedSizeBinary n) = stored_fixed loaded_bytes n
 
 -- one above the greatest number of bytes that the offsets of its arrays count; 0 for what is stored as fixed bytes, which no offsets
 -- count, and 1 for what has no bytes
@@ -97,6 +102,7 @@ limit_of K.LargeBinary = 2 ^ 63
 limit_of (K.FixedDecimal n) = 0
 limit_of K.Months = 0
 limit_of K.Days = 0
+limit_of (K.FixedSizeBinary n) = 0
 limit_of k = 1
 
 -- a column of a kind's type is read as its values are stored

@@ -5,8 +5,9 @@ ghost use Rattle.columns_core.specs.View.{type_view};
 ghost use Rattle.columns_slots.specs.Types.{is_boolean};
 ghost use Rattle.pq_tree.specs.Physical.{boolean, int32, int64, byte_array, fixed};
 ghost use Rattle.pq_tree.specs.Views.{physical_view};
-ghost use Rattle.read_types.specs.LeafTypes.{is_read, reads_decimal, reads_fixed, reads_interval, reads_small, reads_string, reads_wide};
+ghost use Rattle.read_types.specs.LeafTypes.{is_read, reads_chunks, reads_decimal, reads_fixed, reads_interval, reads_small, reads_string, reads_wide};
 ghost use Rattle.read_types.specs.Reads.{physical_of, types_of};
+ghost use Rattle.schema_fit.specs.PageTable.{is_stored_length};
 
 use columns_base::PhysicalType;
 use columns_core::{DataType, IntervalUnit, TimeUnit};
@@ -43,6 +44,8 @@ pub enum LeafKind {
     Months,
     /// Intervals of days and milliseconds, stored as twelve bytes.
     Days,
+    /// Byte strings of so many bytes, stored as they are.
+    FixedSizeBinary(usize),
 }
 
 // Of the type that is stored as truth values.
@@ -135,6 +138,31 @@ fn holds_decimals(size: usize) -> bool
     1 <= size && size <= 16
 }
 
+// Whether byte strings are stored as so many bytes: from 1 to 2^31 - 1.
+fn holds_chunks(size: usize) -> bool
+    ensures { result ≡ is_stored_length size }
+{
+    1 <= size && size <= 2_147_483_647
+}
+
+// Of byte strings of one size, which are stored as they are.
+fn chunk_kind(data_type: &DataType, size: usize) -> Option<LeafKind>
+    ensures { MatchOption result (reads_chunks size (type_view data_type.now) ≡ false) (λ k. (physical_of k ≡ fixed size) × (types_of k (type_view data_type.now) ≡ true) × (reads_chunks size (type_view data_type.now) ≡ true)) }
+{
+    match data_type {
+        DataType::FixedSizeBinary(length) => {
+            if size != *length {
+                return None;
+            }
+            if !holds_chunks(size) {
+                return None;
+            }
+            Some(LeafKind::FixedSizeBinary(size))
+        }
+        _ => None,
+    }
+}
+
 // Of types that are stored as so many bytes.
 fn fixed_kind(data_type: &DataType, size: usize) -> Option<LeafKind>
     ensures { MatchOption result (reads_fixed size (type_view data_type.now) ≡ false) (λ k. (physical_of k ≡ fixed size) × (types_of k (type_view data_type.now) ≡ true) × (reads_fixed size (type_view data_type.now) ≡ true)) }
@@ -152,6 +180,7 @@ fn fixed_kind(data_type: &DataType, size: usize) -> Option<LeafKind>
             }
             decimal_kind(data_type, size)
         }
+        DataType::FixedSizeBinary(_) => chunk_kind(data_type, size),
         _ => None,
     }
 }

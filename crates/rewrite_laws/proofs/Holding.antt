@@ -1,35 +1,33 @@
 -- What an output holds when it is read again.
-use Rattle.std.proofs.Common.{◌≡◌, ◌≢◌, ◌<◌, ℕ, zero, suc, List, [], ◌∷◌, ◌++◌, length, map, flat_map, take, drop, Option, Some, None, refl, sym, ap, subst, ◌∙◌, arith}
+use Rattle.std.proofs.Common.{◌≡◌, ◌<◌, ℕ, zero, suc, List, [], ◌∷◌, ◌++◌, length, map, flat_map, drop, Option, Some, None, refl, sym, ap, subst, arith}
 use Rattle.std.specs.Prelude.{All}
 use Rattle.std.specs.List.{AllZip}
 use Rattle.std.proofs.lemmas.Grind.{flat_map-append}
 use Rattle.std.proofs.lemmas.List.{append-nil}
 use Rattle.std.proofs.lemmas.List.Elements.{All-take, All-drop}
 use Rattle.shredding.specs.Cut.{cut, pieces, whole}
-use Rattle.shredding.specs.Shape.{AreOf, LeafType, Way}
+use Rattle.shredding.specs.Shape.{AreOf}
 use Rattle.shredding.specs.Shred.{Triple, column, shred}
 use Rattle.shredding.specs.Slot.{Slot, Slots, fields, Value}
 use Rattle.shredding.proofs.Pieces.{pieces_are_rows}
 use Rattle.shredding.proofs.Unique.{cons_head, cons_tail}
 use Rattle.columns_core.specs.Shapes.{shapes_of, leaf_type}
 use Rattle.columns_core.specs.Tree.{FieldTrees}
-use Rattle.pq_metadata.specs.Footer.{Footer, GroupMeta, Key}
-use Rattle.pq_tree.specs.Physical.{Physical}
+use Rattle.pq_metadata.specs.Footer.{GroupMeta}
 use Rattle.pq_tree.specs.Tree.{Leaf, Schema, columns_of}
-use Rattle.pq_files.specs.Carried.{Column, Group, GroupPages, HoldsPages, IsGroup, column_in, group_in}
-use Rattle.pq_files.specs.Chunk.{Chunk, triples_of}
+use Rattle.pq_files.specs.Carried.{Column, Group, GroupPages, IsGroup, column_in, group_in}
 use Rattle.pq_files.specs.Layout.{OutChunk, OutGroup, OutPage, plain_length, rows_per_page}
-use Rattle.pq_files.specs.Packed.{column_out, group_out, triples_out, Packed}
+use Rattle.pq_files.specs.Packed.{column_out, group_out, triples_out}
 use Rattle.pq_files.specs.Page.{Encoding, values_in}
 use Rattle.pq_files.specs.Stored.{AreStored}
 use Rattle.schema_to_tree.specs.Table.{schema_of}
 use Rattle.pq_headline.specs.Columns.{ArrowColumn, schema_columns}
 use Rattle.pq_headline.specs.Lists.{AllZip3}
 use Rattle.pq_headline.specs.Output.{AreLaid, IsLaid, IsPageOfRows, Style, Written, page_rows, all_chosen}
-use Rattle.pq_headline.specs.Rewrites.{Asked, Codec, Counts, Converts, IsPieceOut, Piece, Rewrites, all_pieces, keys_out, piece_in}
-use Rattle.pq_headline.specs.Rows.{AreRowsOf, HoldsRows, IsColumnOf, Seen}
+use Rattle.pq_headline.specs.Rewrites.{Asked, IsPieceOut, Piece, all_pieces, keys_out, piece_in}
+use Rattle.pq_headline.specs.Rows.{HoldsRows, IsColumnOf}
 use Rattle.pq_headline.proofs.Written.{zip_more}
-use Rattle.rewrite_laws.specs.Laws.{FileHolds, OutputsHoldTheirRows, WasWritten, rows_out}
+use Rattle.rewrite_laws.specs.Laws.{OutputsHoldTheirRows}
 
 -- ---- a column in pages
 

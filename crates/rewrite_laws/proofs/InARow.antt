@@ -2,7 +2,7 @@
 use Rattle.std.proofs.Common.{◌≡◌, ◌≢◌, ◌<◌, ◌≤◌, ℕ, zero, suc, List, [], ◌∷◌, ◌++◌, length, map, flat_map, take, drop, filter, length-drop, take-append-drop, not, Option, Some, None, refl, sym, ap, subst, ◌∙◌, arith}
 use Rattle.std.proofs.lemmas.Grind.{flat_map-append}
 use Rattle.std.proofs.lemmas.List.{append-nil, map-append}
-use Rattle.shredding.specs.Cut.{cut, pieces, whole}
+use Rattle.shredding.specs.Cut.{cut, pieces}
 use Rattle.shredding.specs.Slot.{Slots}
 use Rattle.columns_core.specs.Tree.{FieldTrees}
 use Rattle.columns_core.specs.View.{SchemaTree, fields_of}
@@ -14,11 +14,11 @@ use Rattle.schema_from_tree.specs.FromTree.{arrow_fields}
 use Rattle.schema_key.specs.declared.infer.KeyRule.{KeyRule}
 use Rattle.schema_key.specs.declared.infer.KeyRule.TheVariants.{Use}
 use Rattle.schema_key.specs.Inferred.{inferred}
-use Rattle.schema_key.specs.Key.{schema_key, schema_entry}
+use Rattle.schema_key.specs.Key.{schema_key}
 use Rattle.pq_headline.specs.Lists.{AllZip3}
 use Rattle.pq_headline.specs.Rows.{HoldsRows}
-use Rattle.pq_headline.specs.Rewrites.{Piece, Rewrites, all_pieces, keys_out, piece_in}
-use Rattle.rewrite_laws.specs.Laws.{FileHolds, RewritesKeepRows, WasWritten, all_rows, rows_out}
+use Rattle.pq_headline.specs.Rewrites.{Piece, all_pieces, keys_out, piece_in}
+use Rattle.rewrite_laws.specs.Laws.{FileHolds, RewritesKeepRows, all_rows, rows_out}
 use Rattle.rewrite_laws.proofs.Holding.{outputs_hold}
 use Rattle.rewrite_laws.proofs.Unique.{one_file, same_footer}
 

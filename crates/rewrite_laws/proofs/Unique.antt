@@ -1,9 +1,8 @@
 -- The groups of a file hold at most one list of rows each.
-use Rattle.std.proofs.Common.{◌≡◌, ℕ, true, false, List, [], ◌∷◌, map, refl, sym, ap, subst, ◌∙◌}
-use Rattle.std.specs.Prelude.{All}
+use Rattle.std.proofs.Common.{◌≡◌, ℕ, List, [], ◌∷◌, map, refl, ap, subst, ◌∙◌}
 use Rattle.std.specs.List.{AllZip}
-use Rattle.shredding.specs.Shape.{AreOf, Way, struct, ways}
-use Rattle.shredding.specs.Shred.{Triple, column, schema_columns as shape_columns}
+use Rattle.shredding.specs.Shape.{Way}
+use Rattle.shredding.specs.Shred.{column}
 use Rattle.shredding.specs.Slot.{Slot, Slots, fields}
 use Rattle.shredding.proofs.Schema.{schema_unique}
 use Rattle.columns_core.specs.Shapes.{shapes_of, leaf_type}

@@ -12,7 +12,7 @@ use Rattle.schema_key.specs.declared.infer.KeyRule.TheVariants.{Use}
 use Rattle.schema_key.specs.Laws.{IsDecodable, IsInferredFrom}
 use Rattle.schema_to_tree.specs.Table.{schema_of}
 use Rattle.pq_headline.specs.Lists.{AllZip3}
-use Rattle.pq_headline.specs.Rewrites.{Asked, Codec, Counts, HasFooterAt, InfersSchema, Piece, Rewrites, all_pieces, keys_out}
+use Rattle.pq_headline.specs.Rewrites.{Asked, Codec, Counts, HasFooterAt, Rewrites, all_pieces, keys_out}
 use Rattle.pq_headline.specs.Rows.{HoldsRows, Seen}
 use Rattle.pq_headline.specs.Served.{are_served_fields}
 

@@ -16,6 +16,8 @@ mod pass_tests;
 #[cfg(test)]
 mod run_tests;
 #[cfg(test)]
+mod sample_tests;
+#[cfg(test)]
 mod sink_tests;
 #[cfg(test)]
 mod view_tests;

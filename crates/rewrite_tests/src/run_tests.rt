@@ -10,10 +10,16 @@ const BAD: &[&[&str]] = &[
     &[""],
     &["-"],
     &["sample"],
+    &["sample", "0"],
+    &["sample", "1000001"],
+    &["sample", "ten"],
+    &["sample", "10", "--delta"],
+    &["--delta", "sample", "10"],
     &["--version=3"],
     &["--version"],
     &["--page="],
     &["--page=+1"],
+    &["--chunk=x"],
     &["--chunk=9223372036854775808"],
     &["--limit=00000000000000000001"],
     &["--no-stats "],
@@ -119,6 +125,22 @@ fn words_ask_for_options(rt: HostRuntime) -> Result<(), AllocError> {
     for (words, status, line) in ASKED {
         assert!(rt; answers(rt.alloc(), words, *status, line)?);
     }
+    Ok(())
+}
+
+#[test]
+fn each_group_is_cut_by_itself(rt: HostRuntime) -> Result<(), AllocError> {
+    // groups of 3 rows and of 1, then of 2, 1 and 1
+    let first = run_with(rt.alloc(), &["--chunk=3"], THE_FIRST_FILE, NO_FAULTS)?;
+    let made = run_with(
+        rt.alloc(),
+        &["--chunk=2"],
+        first.gained.as_slice(),
+        NO_FAULTS,
+    )?;
+    assert!(rt;
+        made.status == 0 && made.notes.as_slice() == b"groups 3, rows 4, pages 3\n".as_slice()
+    );
     Ok(())
 }
 

@@ -3,6 +3,7 @@ use Rattle.std.specs.Prelude.{◌≡◌, ℕ, List, [], ◌∷◌, ◌-◌, ◌^
 use Rattle.pq_tree.specs.declared.version.Version.TheVariants.{V2}
 use Rattle.schema_key.specs.declared.infer.KeyRule.TheVariants.{Ignore}
 use Rattle.rewrite_words.specs.declared.options.RewriteOptions.{RewriteOptions}
+use Rattle.rewrite_words.specs.Sample.{sample_of}
 use Rattle.rewrite_words.specs.Words.{options_of, defaults}
 
 -- all words, in an order of their own
@@ -47,3 +48,9 @@ pub record AreWorked : Type 0 where
   pub no_number : options_of (codes "--page" ∷ []) ≡ None
   pub empty : options_of ([] ∷ []) ≡ None
   pub blank : options_of (codes "--delta " ∷ []) ≡ None
+  pub ten_rows : sample_of (codes "sample" ∷ codes "10" ∷ []) ≡ Some 10
+  pub most_rows : sample_of (codes "sample" ∷ codes "1000000" ∷ []) ≡ Some 1000000
+  pub no_rows : sample_of (codes "sample" ∷ codes "0" ∷ []) ≡ None
+  pub too_many_rows : sample_of (codes "sample" ∷ codes "1000001" ∷ []) ≡ None
+  pub no_count : sample_of (codes "sample" ∷ []) ≡ None
+  pub with_options : sample_of (codes "sample" ∷ codes "10" ∷ codes "--delta" ∷ []) ≡ None

@@ -3,3 +3,4 @@ pub mod Examples
 pub mod Laws
 pub mod Numbers
 pub mod Words
+pub mod Sample

@@ -6,10 +6,12 @@ mod laws;
 mod numbers;
 mod options;
 mod read;
+mod sample;
 mod setting;
 #[cfg(test)]
 mod tests;
 
-pub use laws::{as_worked, order_does_not_matter};
+pub use laws::{as_worked, forms_exclude, order_does_not_matter};
 pub use options::RewriteOptions;
 pub use read::read_words;
+pub use sample::read_sample;

@@ -9,7 +9,7 @@ const MAX_DIGITS: usize = 19;
 const NUMBER_LIMIT: u64 = 1 << 63;
 
 /// The number that 1 to 19 digits write; None for any other text, and for a number of 2^63 and more.
-fn read_number(text: &[u8]) -> Option<u64>
+pub(crate) fn read_number(text: &[u8]) -> Option<u64>
     ensures { result ≡ number_of text.now }
 {
     if text.is_empty() {

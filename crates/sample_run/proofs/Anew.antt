@@ -1,16 +1,17 @@
 -- What the sample is written anew as.
 use Rattle.std.proofs.Common.{◌≡◌, IfErr, IfOk, OnOk, Result, Ok, Err, ℕ, zero, suc, ◌+◌, ◌*◌, ◌/◌, ◌≤◌, All, List, [], ◌∷◌, ◌++◌, length, map, Option, Some, None, sum_by, refl, subst, ap, ◌∙◌, arith}
 use Rattle.std.specs.List.{AllByRecursion, AllZip, range_with_len}
-use Rattle.std.proofs.lemmas.List.{append-nil}
+use Rattle.std.proofs.lemmas.List.{append-nil, length-map}
 use Rattle.std.proofs.lemmas.List.Elements.{All-from_recursion, recursion_from_All}
 use Rattle.std.proofs.lemmas.List.FromFn.{length-map-range_with_len}
 use Rattle.std.proofs.lemmas.List.Sums.{sum_by-cons}
 use Rattle.std.proofs.lemmas.Slice.Zip.{AllZip-long}
-use Rattle.shredding.specs.Slot.{Slots, Value}
+use Rattle.shredding.specs.Slot.{Slots, Value, fields}
 use Rattle.pq_files.specs.Layout.{OutGroup}
 use Rattle.pq_tree.specs.Tree.{columns_of}
 use Rattle.pq_tree.specs.declared.version.Version.TheVariants.{V1, V2}
 use Rattle.pq_headline.specs.Columns.{schema_columns}
+use Rattle.pq_headline.specs.Output.{all_chosen}
 use Rattle.pq_headline.specs.Rewrites.{Counted, Counts}
 use Rattle.pq_headline.specs.Rows.{Seen, seen_from}
 use Rattle.sample_rows.specs.Fields.{sample_fields, sample_tree}
@@ -20,10 +21,11 @@ use Rattle.unique_rows.proofs.Laid.{AllNone}
 use Rattle.unique_rows.proofs.Outs.{all_cut_all}
 use Rattle.unique_rows.specs.Held.{AreRowsIn}
 use Rattle.sample_run.proofs.Counts.{AreLight, IsShort, all_pages, counted, short_pieces, summed}
-use Rattle.sample_run.proofs.Sizes.{IsRow, column_light, light_int32, light_int64, light_text, slim_ids, slim_items, slim_tags}
-use Rattle.pq_rewrite.specs.Asks.{Gives, counts_of}
-use Rattle.pq_rewrite.specs.Views.{Sees}
-use Rattle.pq_rewrite.specs.declared.report.Report.{Report}
+use Rattle.sample_sizes.proofs.Fine.{are_fine, as_slots, column_small}
+use Rattle.sample_sizes.specs.Rows.{IsRow}
+use Rattle.rewrite_whole.specs.Asks.{Gives, counts_of}
+use Rattle.rewrite_whole.specs.Views.{Sees}
+use Rattle.rewrite_notes.specs.declared.report.Report.{Report}
 use Rattle.unique_rows.proofs.Rewritten.{files_are_rewritten}
 use Rattle.unique_rows.specs.Rewritten.{all_cut}
 use Rattle.sample_run.proofs.Told.{told}
@@ -39,10 +41,12 @@ rows_recursion : (rows : List Slots) → All IsRow rows → AllByRecursion IsRow
 rows_recursion rows h = recursion_from_All IsRow rows h
 
 light_rows : (rows : List Slots) → AllByRecursion IsRow rows → AreLight rows (schema_columns sample_fields) (columns_of (schema_of sample_fields))
-light_rows rows h = (
-  λ stored s. column_light _ _ _ rows stored light_int64 slim_ids h s,
-  (λ stored s. column_light _ _ _ rows stored light_text slim_tags h s, (λ stored s. column_light _ _ _ rows stored light_int32 slim_items h s, tt)),
-)
+light_rows rows h =
+    let slots = as_slots rows h in
+    let long = length-map rows fields in (
+      λ stored s. omega (arith, long, (column_small _ _ (map fields rows) stored are_fine.0 slots s).light),
+      (λ stored s. omega (arith, long, (column_small _ _ (map fields rows) stored are_fine.1.0 slots s).light), (λ stored s. omega (arith, long, (column_small _ _ (map fields rows) stored are_fine.1.1.0 slots s).light), tt)),
+    )
 
 abbrev pages_of : OutGroup → ℕ
 pages_of g = sum_by (λ c. length c.pages) g.chunks
@@ -53,7 +57,7 @@ none_each (d ∷ ds) h = (h.0, none_each ds h.1)
 
 three_pages : (rows : List Slots) (out : OutGroup) → AllByRecursion IsRow rows → IsShort rows → AreRowsIn sample_style sample_fields rows out → pages_of out ≡ 3
 three_pages rows out a s h =
-    all_pages sample_style rows (schema_columns sample_fields) (columns_of (schema_of sample_fields)) h.encodings h.entries out.chunks refl s (none_each h.entries (recursion_from_All (λ d. d ≡ None) h.entries h.none)) (light_rows rows a) h.laid.columns
+    all_pages sample_style rows (schema_columns sample_fields) (columns_of (schema_of sample_fields)) (all_chosen h.deltas (schema_columns sample_fields) (columns_of (schema_of sample_fields))) h.entries out.chunks refl s (none_each h.entries (recursion_from_All (λ d. d ≡ None) h.entries h.none)) (light_rows rows a) h.laid.columns
 
 -- ---- all of them
 all_three : (ps : List (List Slots)) (outs : List OutGroup) → AllByRecursion (All IsRow) ps → AllByRecursion (IsShort {A = Slots}) ps → AllZip (AreRowsIn sample_style sample_fields) ps outs → sum_by pages_of outs ≡ 3 * length ps

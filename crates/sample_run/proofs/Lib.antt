@@ -1,10 +1,11 @@
-pub mod Put
 pub mod Rows
 pub mod Written
 pub mod Told
-pub mod Sizes
 pub mod Counts
 pub mod Anew
 pub mod Reading
 pub mod Refusing
+pub mod Sized
 pub mod Refusals
+pub mod Put
+pub mod Naturals

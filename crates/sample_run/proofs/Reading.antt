@@ -20,9 +20,9 @@ use Rattle.sample_rows.proofs.Counted.{few_sampled}
 use Rattle.sample_rows.specs.Present.{numbers_in, present}
 use Rattle.sample_rows.specs.Rows.{each_row, items_slot, sample_row, sample_rows}
 use Rattle.unique_rows.specs.Rewritten.{all_cut}
-use Rattle.pq_rewrite.specs.Asks.{Gives}
-use Rattle.pq_rewrite.specs.declared.report.Report.{Report}
-use Rattle.pq_rewrite.specs.declared.rows_view.RowsView.{RowsView}
+use Rattle.rewrite_whole.specs.Asks.{Gives}
+use Rattle.rewrite_notes.specs.declared.report.Report.{Report}
+use Rattle.rewrite_whole.specs.declared.rows_view.RowsView.{RowsView}
 use Rattle.pq_tree.specs.declared.version.Version.TheVariants.{V2}
 use Rattle.sample_run.proofs.Anew.{sample_read}
 use Rattle.sample_run.specs.Files.{IsSampleFile, plain_codec, sample_asked, sample_pieces}

@@ -10,9 +10,9 @@ use Rattle.columns_base.specs.declared.error.Limit.TheVariants.{Bytes, Pairs}
 use Rattle.pq_headline.specs.Rows.{Seen}
 use Rattle.pq_headline.specs.Stages.{Refuses}
 use Rattle.pq_io.specs.Reading.{GavePast}
-use Rattle.pq_rewrite.specs.Answer.{Ends, Refused, Rewrote, meaning}
-use Rattle.pq_rewrite.specs.Asks.{Causes, Gives}
-use Rattle.pq_rewrite.specs.declared.report.Report.{Report}
+use Rattle.rewrite_whole.specs.Answer.{Ends, Refused, Rewrote, meaning}
+use Rattle.rewrite_whole.specs.Asks.{Causes, Gives}
+use Rattle.rewrite_notes.specs.declared.report.Report.{Report}
 use Rattle.sample_run.specs.Files.{plain_codec, sample_asked, sample_options}
 use Rattle.sample_run.specs.Refused.{IsNotRewritten}
 

@@ -3,7 +3,7 @@ use Rattle.std.proofs.Common.{◌≡◌, ℕ, ◌<◌, ◌≤◌, List, [], ◌�
 use Rattle.std.proofs.lemmas.List.Elements.{All-from_recursion}
 use Rattle.columns_slots.specs.Tree.{ArrayTrees}
 use Rattle.pq_headline.specs.Columns.{is_dictionary, schema_columns}
-use Rattle.pq_headline.specs.Output.{IsLaidGroup}
+use Rattle.pq_headline.specs.Output.{IsLaidGroup, all_chosen}
 use Rattle.pq_files.specs.Layout.{OutGroup}
 use Rattle.pq_files.specs.Packed.{Packed}
 use Rattle.pq_tree.specs.declared.version.Version.TheVariants.{V1}
@@ -21,7 +21,6 @@ use Rattle.write_pages.specs.declared.options.WriteOptions.{WriteOptions}
 use Rattle.shredding.specs.Shape.{AreOf}
 use Rattle.columns_core.specs.Shapes.{shapes_of}
 use Rattle.pq_tree.specs.Tree.{columns_of}
-use Rattle.pq_files.specs.Page.{plain}
 use Rattle.sample_run.proofs.Rows.{columns_len, columns_typed, rows_are, rows_of_columns}
 use Rattle.sample_run.specs.Chunks.{IsFileOfChunk, IsGroupFor}
 use Rattle.sample_run.specs.Files.{IsSampleFile, sample_style, written_options}
@@ -33,18 +32,18 @@ pub no_dictionary : HasNoDictionary sample_fields
 no_dictionary = All-from_recursion (λ c. is_dictionary c.data_type ≡ false) (schema_columns sample_fields) (refl, (refl, (refl, tt)))
 
 -- ---- the group, laid out
-group_of : (laid : GroupsAreLaid) (n : ℕ) (chunk : ArrayTrees) (out : OutGroup) → n ≤ 1000000 → AreColumns n chunk → IsGroupFor sample_tree written_options chunk out → AreRowsIn sample_style sample_fields (sample_rows n) out
+pub group_of : (laid : GroupsAreLaid) (n : ℕ) (chunk : ArrayTrees) (out : OutGroup) → n ≤ 1000000 → AreColumns n chunk → IsGroupFor sample_tree written_options chunk out → AreRowsIn sample_style sample_fields (sample_rows n) out
 group_of laid n chunk out few h g =
     let columns : AreColumns n g.group.chunk = subst (AreColumns n) (sym g.chunk_is) h in
     let rows = rows_of_columns n g.group.chunk columns in
     let l = laid false sample_fields g.group out (columns_typed n g.group.chunk columns) (columns_even n g.group.chunk columns) (subst (All (AreOf (shapes_of sample_fields))) (sym rows) (rows_are n few)) g.trees refl g.plain g.columns g.gives in
     record {
       are = rows_are n few;
-      encodings = _;
+      deltas = false;
       entries = map (λ c. None) (schema_columns sample_fields);
       none = All-from_recursion (λ d. d ≡ None) (None ∷ None ∷ None ∷ []) (refl, (refl, (refl, tt)));
-      laid = subst (λ (o : WriteOptions). IsLaidGroup (style_of o) (sample_rows n) (schema_columns sample_fields) (columns_of (schema_of sample_fields)) (map (λ c. plain) (schema_columns sample_fields)) (map (λ c. None) (schema_columns sample_fields)) out) g.options_are
-          (subst (λ rs. IsLaidGroup (style_of g.group.options) rs (schema_columns sample_fields) (columns_of (schema_of sample_fields)) (map (λ c. plain) (schema_columns sample_fields)) (map (λ c. None) (schema_columns sample_fields)) out) rows l);
+      laid = subst (λ (o : WriteOptions). IsLaidGroup (style_of o) (sample_rows n) (schema_columns sample_fields) (columns_of (schema_of sample_fields)) (all_chosen false (schema_columns sample_fields) (columns_of (schema_of sample_fields))) (map (λ c. None) (schema_columns sample_fields)) out) g.options_are
+          (subst (λ rs. IsLaidGroup (style_of g.group.options) rs (schema_columns sample_fields) (columns_of (schema_of sample_fields)) (all_chosen false (schema_columns sample_fields) (columns_of (schema_of sample_fields))) (map (λ c. None) (schema_columns sample_fields)) out) rows l);
     }
 
 pub sample_written : (laid : GroupsAreLaid) (n : ℕ) (chunk : ArrayTrees) (bytes : List ℕ) → 0 < n → n ≤ 1000000 → AreColumns n chunk → IsFileOfChunk (Some []) (Some bytes) sample_tree (plain_bytes sample_tree) written_options chunk → IsSampleFile V1 (sample_rows n ∷ []) bytes

@@ -7,9 +7,9 @@ use Rattle.pq_tree.specs.declared.version.Version.TheVariants.{V1, V2}
 use Rattle.pq_headline.specs.Output.{Style}
 use Rattle.pq_headline.specs.Rewrites.{Asked, Codec, Counts}
 use Rattle.pq_headline.specs.Rows.{Seen, seen_from}
-use Rattle.pq_rewrite.specs.Asks.{asked_by, codec_of, counts_of}
-use Rattle.pq_rewrite.specs.Views.{Sees}
-use Rattle.pq_rewrite.specs.declared.report.Report.{Report}
+use Rattle.rewrite_whole.specs.Asks.{asked_by, codec_of, counts_of}
+use Rattle.rewrite_whole.specs.Views.{Sees}
+use Rattle.rewrite_notes.specs.declared.report.Report.{Report}
 use Rattle.rewrite_words.specs.declared.options.RewriteOptions.{RewriteOptions}
 use Rattle.sample_rows.specs.Fields.{sample_fields, sample_tree}
 use Rattle.sample_rows.specs.Rows.{sample_rows}

@@ -1,6 +1,6 @@
 //! What the sample's files are asked for.
-use pq_rewrite::{KeyRule, RewriteOptions};
 use pq_tree::{CompressionOptions, Version};
+use rewrite_whole::{KeyRule, RewriteOptions};
 use write_pages::WriteOptions;
 
 /// The first file: what stands without words.

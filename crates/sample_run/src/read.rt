@@ -1,19 +1,21 @@
 //! The items of a file of the sample.
 ghost use Rattle.std.specs.Prelude.{◌≡◌, ◌<◌, ◌≤◌, All, IfOk, IfErr, flat_map};
+ghost use Rattle.columns_base.specs.declared.error.Error.TheVariants.{Memory};
 ghost use Rattle.pq_tree.specs.declared.version.Version.TheVariants.{V2};
 ghost use Rattle.sample_rows.specs.Present.{items_of, sample_items};
 ghost use Rattle.sample_rows.specs.Rows.{each_row, items_slot};
 ghost use Rattle.sample_rows.specs.Totals.{totals_view};
 ghost use Rattle.sample_run.specs.Files.{IsSampleFile, sample_pieces};
-ghost use Rattle.sample_run.specs.Refused.{IsNotRewritten};
 ghost use Rattle.sample_run.specs.Items.{HasItems, lists_in};
 
 use crate::rewrite::rewrite_file;
 use columns_array::Chunk;
 use columns_base::Result;
-use pq_rewrite::RowsView;
+use rewrite_whole::RowsView;
 use sample_rows::{Totals, count_items};
+use sample_sizes::samples_pass_no_size;
 use std::alloc::Global;
+use unique_rows::files_are_refused_for_size_alone;
 
 /// The present items of one piece.
 #[tactic(auto, using(crate::proofs::Reading::third_array, crate::proofs::Reading::third_there))]
@@ -39,13 +41,15 @@ fn count_pieces(pieces: &[Chunk], count: u32) -> Totals
     totals
 }
 
-/// How many items are present in the file of so many rows, and their sum: it is read piece by piece to arrays.
+/// How many items are present in the file of so many rows, and their sum: it is read piece by piece to arrays. Only want of memory is refused.
 pub fn read_items(alloc: Global, file: Vec<u8>, count: u32) -> Result<Totals>
     requires few { count ≤ 1000000 }
     requires file { IsSampleFile V2 (sample_pieces count) file.items }
     ensures ok { IfOk result (λ totals. totals_view totals ≡ sample_items count) }
-    ensures err { IfErr result (IsNotRewritten file.items) }
+    ensures err { IfErr result (λ e. e ≡ Memory) }
 {
+    files_are_refused_for_size_alone();
+    samples_pass_no_size();
     let mut view = RowsView::new(alloc);
     match rewrite_file(alloc, file, &mut view) {
         Ok(_) => Ok(count_pieces(view.pieces(), count)),

@@ -1,13 +1,15 @@
 //! The rewrite of a file in memory.
 ghost use Rattle.std.specs.Prelude.{IfOk, IfErr};
 ghost use Rattle.pq_io.specs.PlainSinks.{plain_taken};
-ghost use Rattle.pq_rewrite.specs.Asks.{Gives};
+ghost use Rattle.rewrite_whole.specs.Asks.{Gives};
+ghost use Rattle.rewrite_whole.specs.Views.{Grows};
 ghost use Rattle.sample_run.specs.Files.{plain_codec, sample_asked};
 ghost use Rattle.sample_run.specs.Refused.{IsNotRewritten};
 
 use crate::options::REWRITTEN;
 use columns_base::Result;
-use pq_rewrite::{PlainSink, PlainSource, Report, View, rewrite};
+use pq_io::{PlainSink, PlainSource};
+use rewrite_whole::{Report, View, rewrite};
 use schema_codec::PlainCodec;
 use std::alloc::Global;
 
@@ -19,6 +21,7 @@ pub fn rewrite_file<V: View>(
 ) -> Result<(Report, PlainSink)>
     ensures ok { IfOk result (λ made. Gives plain_codec sample_asked (V.seen view.old) (V.seen view.new) input.items (plain_taken made.1) made.0) }
     ensures err { IfErr result (IsNotRewritten input.items) }
+    ensures shown { Grows (V.seen view.old) (V.seen view.new) }
 {
     let mut source = PlainSource::new(input);
     let mut sink = PlainSink::new(alloc);

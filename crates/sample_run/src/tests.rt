@@ -1,7 +1,7 @@
 //! The smallest samples.
 use crate::{Sampled, sample};
 use columns_base::Error;
-use pq_rewrite::{NoView, Report};
+use rewrite_whole::{NoView, Report};
 use std::test::Fail;
 
 type TestResult = Result<(), Fail>;

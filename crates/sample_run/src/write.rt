@@ -1,5 +1,5 @@
 //! The first file of the sample.
-ghost use Rattle.std.specs.Prelude.{◌≡◌, ◌<◌, ◌≤◌, ℕ, [], ◌∷◌, IfOk, IfErr, OnOk, Some, map};
+ghost use Rattle.std.specs.Prelude.{◌≡◌, ◌<◌, ◌≤◌, [], ◌∷◌, IfOk, IfErr, OnOk, Some, map};
 ghost use Rattle.columns_base.specs.declared.error.Error.TheVariants.{Memory};
 ghost use Rattle.columns_core.specs.View.{schema_view};
 ghost use Rattle.pq_io.specs.PlainSinks.{plain_taken};
@@ -8,12 +8,9 @@ ghost use Rattle.pq_tree.specs.declared.version.Version.TheVariants.{V1};
 ghost use Rattle.sample_rows.specs.Rows.{sample_rows};
 ghost use Rattle.schema_codec.specs.Spelling.{plain_bytes};
 ghost use Rattle.sample_run.specs.Chunks.{IsFileOfChunk};
-ghost use Rattle.sample_run.specs.Putting.{HasPut, IsFreshWriter, IsSampleGroup};
-ghost use Rattle.sample_run.specs.Refused.{IsNotWritten};
-ghost use Rattle.columns_slots.specs.Slots.{AreTyped};
+ghost use Rattle.sample_run.specs.Putting.{AreSampleArrays, HasPut, IsFreshWriter, IsSampleGroup};
 ghost use Rattle.columns_slots.specs.Tree.{ArrayTrees};
 ghost use Rattle.pq_tree.specs.declared.types.Encoding.TheVariants.{Plain};
-ghost use Rattle.sample_rows.specs.Columns.{AreColumns};
 ghost use Rattle.sample_rows.specs.Fields.{sample_fields, sample_tree};
 ghost use Rattle.schema_to_tree.specs.Table.{schema_of};
 ghost use Rattle.sample_run.specs.Files.{IsSampleFile, written_options};
@@ -25,9 +22,13 @@ use columns_core::Schema;
 use pq_io::PlainSink;
 use pq_tree::{Encoding, ParquetType};
 use sample_rows::{sample_chunk, sample_schema};
+use sample_sizes::{
+    arrays_have_no_entries, counts_hold, footers_have_room, no_page_is_large, samples_are_groups,
+    schema_is_small,
+};
 use schema_codec::PlainCodec;
 use std::alloc::Global;
-use typed_groups::{know_sound, suiting_chunks_are_taken};
+use typed_groups::{know_sound, large_pages_are_large, suiting_chunks_are_taken};
 use write_groups::{FileWriter, RowGroupIter, groups_are_laid, row_group_iter};
 
 /// PLAIN for one column.
@@ -64,7 +65,7 @@ fn copy_trees(alloc: Global, trees: &[ParquetType]) -> Result<Vec<ParquetType>>
 
 /// The columns of the sample's arrays.
 fn sample_group(alloc: Global, chunk: Chunk, trees: Vec<ParquetType>) -> Result<RowGroupIter>
-    requires columns { (n : ℕ) × (n ≤ 1000000) × AreColumns n chunk }
+    requires columns { AreSampleArrays chunk }
     requires trees { trees_view trees.items ≡ (schema_of sample_fields).fields }
     ensures ok { IfOk result (λ g. IsSampleGroup chunk g) }
     ensures err { IfErr result (λ e. e ≡ Memory) }
@@ -102,10 +103,16 @@ fn trees_of(alloc: Global, writer: &FileWriter<PlainSink>) -> Result<Vec<Parquet
 /// Writes the group.
 fn put_group(writer: &mut FileWriter<PlainSink>, group: RowGroupIter) -> Result<()>
     requires fresh { IsFreshWriter writer.old }
-    requires group { (chunk : ArrayTrees) × IsSampleGroup chunk group × AreTyped sample_fields chunk }
+    requires group { (chunk : ArrayTrees) × IsSampleGroup chunk group }
     ensures ok { (chunk : ArrayTrees) → IsSampleGroup chunk group → OnOk result (HasPut chunk writer.new) }
-    ensures err { IfErr result IsNotWritten }
+    ensures err { IfErr result (λ e. e ≡ Memory) }
 {
+    groups_are_laid();
+    large_pages_are_large();
+    samples_are_groups();
+    arrays_have_no_entries();
+    no_page_is_large();
+    counts_hold();
     match writer.write(group) {
         Ok(()) => Ok(()),
         Err(error) => Err(error),
@@ -116,8 +123,12 @@ fn put_group(writer: &mut FileWriter<PlainSink>, group: RowGroupIter) -> Result<
 fn end_file(writer: FileWriter<PlainSink>) -> Result<PlainSink>
     requires { (chunk : ArrayTrees) × HasPut chunk writer }
     ensures ok { (chunk : ArrayTrees) → HasPut chunk writer → IfOk result (λ k. IsFileOfChunk (Some []) (Some (plain_taken k)) sample_tree (plain_bytes sample_tree) written_options chunk) }
-    ensures err { IfErr result IsNotWritten }
+    ensures err { IfErr result (λ e. e ≡ Memory) }
 {
+    groups_are_laid();
+    samples_are_groups();
+    schema_is_small();
+    footers_have_room();
     let mut writer = writer;
     match writer.end(None, &PlainCodec) {
         Ok(_) => Ok(writer.into_inner()),
@@ -128,9 +139,9 @@ fn end_file(writer: FileWriter<PlainSink>) -> Result<PlainSink>
 /// Writes a chunk of the schema as a file of one group, or of none where it has no rows.
 fn write_chunk(alloc: Global, schema: Schema, chunk: Chunk) -> Result<PlainSink>
     requires schema { schema_view schema ≡ sample_tree }
-    requires columns { (n : ℕ) × (n ≤ 1000000) × AreColumns n chunk }
+    requires columns { AreSampleArrays chunk }
     ensures ok { IfOk result (λ k. IsFileOfChunk (Some []) (Some (plain_taken k)) sample_tree (plain_bytes sample_tree) written_options chunk) }
-    ensures err { IfErr result IsNotWritten }
+    ensures err { IfErr result (λ e. e ≡ Memory) }
 {
     let mut writer = sample_writer(alloc, schema)?;
     let trees = trees_of(alloc, &writer)?;
@@ -146,7 +157,7 @@ fn write_chunk(alloc: Global, schema: Schema, chunk: Chunk) -> Result<PlainSink>
 pub fn write_rows(alloc: Global, count: u32) -> Result<PlainSink>
     requires some { 0 < count }
     requires few { count ≤ 1000000 }
-    ensures err { IfErr result IsNotWritten }
+    ensures err { IfErr result (λ e. e ≡ Memory) }
     ensures ok { IfOk result (λ k. IsSampleFile V1 (sample_rows count ∷ []) (plain_taken k)) }
 {
     groups_are_laid();

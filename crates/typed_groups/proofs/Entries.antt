@@ -14,7 +14,7 @@ use Rattle.pq_headline.specs.Served.{is_served_type, are_served_fields}
 use Rattle.pq_tree.specs.Tree.{Trees, columns_of}
 use Rattle.schema_to_tree.specs.Table.{schema_of}
 use Rattle.typed_groups.proofs.Leaves.{served_first, served_rest}
-use Rattle.typed_groups.proofs.Nodes.{list_is, struct_is, parts_served, null_unserved, fixed_unserved, keys_unserved}
+use Rattle.typed_groups.proofs.Nodes.{list_is, item_served, struct_is, parts_served, null_unserved, fixed_unserved, keys_unserved}
 use Rattle.typed_groups.specs.Suiting.{AreAllSound, GroupsAreWritten}
 use Rattle.write_groups.specs.Laid.{AreChosen, GroupsAreLaid, style_of}
 
@@ -49,8 +49,8 @@ mutual
   no_entries (dictionary_array t ks c m) b h s = absurd (keys_unserved t (type_of c) h.2 s)
   no_entries (fixed_list_array t w n c m) b h s = absurd (fixed_unserved t (type_of c) h.3 s)
   no_entries (list_array t os c m) b h s =
-      let p = list_is [] b t (type_of c) h.3 s in
-      no_entries c p.is_nullable h.2 p.served ∙ sym (ap none_each p.columns ∙ none_map (beneath_list b p.limit) (type_columns p.is_nullable (type_of c)))
+      let p = list_is [] b t (type_of c) h.3 in
+      no_entries c p.is_nullable h.2 (item_served t (type_of c) h.3 s) ∙ sym (ap none_each p.columns ∙ none_map (beneath_list b p.limit) (type_columns p.is_nullable (type_of c)))
   no_entries (struct_array t cs m) b h s =
       let p = struct_is [] b t cs h.3 h.2 in
       none_of_all cs (part_types (base t)) b 0 (each_sound (first_len cs) cs h.0) h.2 (parts_served t s) ∙ sym (ap none_each p.columns)

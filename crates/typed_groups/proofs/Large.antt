@@ -40,7 +40,7 @@ use Rattle.typed_groups.proofs.LargeColumns.{IsOfLarge, each_large}
 
 -- ---- fields side by side
 
-own_beneath : (place : ℕ) (ws : List Way) (arrays : List ArrayTree) (cs : List ArrowColumn) → AreAlong ws arrays cs → AreOwnColumns place ws arrays (map (beneath_struct false place) cs)
+pub own_beneath : (place : ℕ) (ws : List Way) (arrays : List ArrayTree) (cs : List ArrowColumn) → AreAlong ws arrays cs → AreOwnColumns place ws arrays (map (beneath_struct false place) cs)
 own_beneath place [] [] [] h = tt
 own_beneath place (w ∷ ws) (a ∷ arrays) (c ∷ cs) h = (ap (in_struct false place) h.0, h.1, own_beneath place ws arrays cs h.2)
 own_beneath place [] [] (c ∷ cs) h = absurd h
@@ -94,11 +94,11 @@ head_of : Slots → Slot
 head_of no_slots = null
 head_of (slot s ss) = s
 
-rest_of : Slots → Slots
+pub rest_of : Slots → Slots
 rest_of no_slots = no_slots
 rest_of (slot s ss) = ss
 
-later_at : (ss : Slots) (j : ℕ) → slot_at ss (suc j) ≡ slot_at (rest_of ss) j
+pub later_at : (ss : Slots) (j : ℕ) → slot_at ss (suc j) ≡ slot_at (rest_of ss) j
 unfolding rest_of
 later_at no_slots j = refl
 later_at (slot s ss) j = refl
@@ -112,11 +112,11 @@ unfolding rest_of
 rest_are f fs no_slots h = absurd h
 rest_are f fs (slot s ss) h = h.1
 
-each_rest : (f : Shape) (fs : Shapes) (at : Slots → Slots) (rows : List Slots) → Each (λ row. AreOf (shape f fs) (at row)) rows → Each (λ row. AreOf fs (rest_of (at row))) rows
+pub each_rest : (f : Shape) (fs : Shapes) (at : Slots → Slots) (rows : List Slots) → Each (λ row. AreOf (shape f fs) (at row)) rows → Each (λ row. AreOf fs (rest_of (at row))) rows
 each_rest f fs at [] h = tt
 each_rest f fs at (r ∷ rows) h = (rest_are f fs (at r) h.0, each_rest f fs at rows h.1)
 
-each_first : (f : Shape) (fs : Shapes) (at : Slots → Slots) (place : ℕ) (rows : List Slots) → ((row : Slots) → slot_at row place ≡ slot_at (at row) 0) → Each (λ row. AreOf (shape f fs) (at row)) rows → Each (IsOf f) (field_slots place rows)
+pub each_first : (f : Shape) (fs : Shapes) (at : Slots → Slots) (place : ℕ) (rows : List Slots) → ((row : Slots) → slot_at row place ≡ slot_at (at row) 0) → Each (λ row. AreOf (shape f fs) (at row)) rows → Each (IsOf f) (field_slots place rows)
 each_first f fs at place [] e h = tt
 each_first f fs at place (r ∷ rows) e h = (subst (IsOf f) (sym (e r)) (first_is f fs (at r) h.0), each_first f fs at place rows e h.1)
 
@@ -159,7 +159,7 @@ all_large own read o rows no_fields (more_arrays c cs) ess columns place at erro
 all_large own read o rows (more_fields (field x t y z) fs) no_arrays ess columns place at error h typed e are even own_slots r = absurd typed
 all_large own read o rows (more_fields (field x t y z) fs) (more_arrays c cs) [] columns place at error h typed e are even own_slots r = absurd h
 
-even_len : (cs : ArrayTrees) → AreEven cs → HaveLen (first_len cs) cs
+pub even_len : (cs : ArrayTrees) → AreEven cs → HaveLen (first_len cs) cs
 even_len no_arrays h = tt
 even_len (more_arrays c cs) h = (refl, h)
 

@@ -51,7 +51,7 @@ pieces_map f (suc k) n (x ∷ xs) =
 cut_map : {A B : Type 0} (f : A → B) (n : ℕ) (xs : List A) → cut (map f xs) (Some n) ≡ map (map f) (cut xs (Some n))
 cut_map f n xs = ap (λ k. pieces k n (map f xs)) (length-map xs f) ∙ pieces_map f (length xs) n xs
 
-map_twice : {A B C : Type 0} (f : B → C) (g : A → B) (xs : List A) → map f (map g xs) ≡ map (λ x. f (g x)) xs
+pub map_twice : {A B C : Type 0} (f : B → C) (g : A → B) (xs : List A) → map f (map g xs) ≡ map (λ x. f (g x)) xs
 map_twice f g [] = refl
 map_twice f g (x ∷ xs) = ap (λ ys. f (g x) ∷ ys) (map_twice f g xs)
 
@@ -69,7 +69,7 @@ zip_length P (x ∷ xs) (z ∷ zs) h = ap suc (zip_length P xs zs h.1)
 -- ---- a column
 
 -- what is seen of a field's slots along a way has the column that the schema's rows have
-seen_rows : (w : Way) (i : ℕ) (rows : List Slots) → column (thin w) (map (λ row. along w (slot_at row i)) rows) ≡ column (in_struct false i w) (map fields rows)
+pub seen_rows : (w : Way) (i : ℕ) (rows : List Slots) → column (thin w) (map (λ row. along w (slot_at row i)) rows) ≡ column (in_struct false i w) (map fields rows)
 seen_rows w i rows = ap (column (thin w)) (sym (map_twice (along w) (λ row. slot_at row i) rows)) ∙ (seen_along w (field_slots i rows) ∙ sym (own_columns i w rows))
 
 -- a page of these pairs is too large

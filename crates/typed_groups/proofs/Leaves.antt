@@ -1,6 +1,7 @@
 -- The leaves of an array whose type is served, and nothing that stands against them.
-use Rattle.std.proofs.Common.{◌≡◌, ℕ, ◌==◌, Bool, true, false, cond, nat_eq, Option, None, Some, List, [], ◌∷◌, ◌++◌, map, refl, sym, ap, subst, ◌∙◌, arith, append-nil, eq-eqb}
-use Rattle.std.proofs.lemmas.Bool.{and_parts}
+use Rattle.std.proofs.Common.{◌≡◌, ℕ, ◌==◌, Bool, true, false, true≢false, cond, nat_eq, Option, None, Some, List, [], ◌∷◌, ◌++◌, map, refl, sym, ap, subst, ◌∙◌, arith, append-nil, eq-eqb}
+use Rattle.std.proofs.lemmas.Bool.{and_parts, or_left}
+use Rattle.std.specs.Prelude.{◌&&◌, ◌||◌}
 use Rattle.shredding.specs.Parts.{Part}
 use Rattle.shredding.specs.Slot.{Value, value}
 use Rattle.columns_base.specs.declared.error.Error.{Error}
@@ -19,10 +20,12 @@ use Rattle.pq_tree.specs.Columns.{last_of}
 use Rattle.pq_tree.specs.Options.{or_else}
 use Rattle.pq_tree.specs.Tree.{Leaf, Tree, leaf, group, Trees, count_trees, defines, leaves, leaves_of, under}
 use Rattle.pq_tree.specs.Types.{Info}
-use Rattle.schema_to_tree.specs.Table.{one, trees_of}
+use Rattle.schema_to_tree.specs.Table.{one, stored_as, trees_of}
 use Rattle.typed_arrays.specs.Typed.{node}
-use Rattle.typed_groups.proofs.Nodes.{LeafNode, leaf_is, leaf_node_is, list_is, struct_is, parts_served, null_unserved, fixed_unserved, keys_unserved}
-use Rattle.write_pages.specs.Fits.{is_written}
+use Rattle.typed_groups.proofs.Nodes.{LeafNode, leaf_is, leaf_node_is, list_is, item_placed, struct_is, parts_placed, placed_served, null_unserved, fixed_unserved, keys_unserved}
+use Rattle.typed_groups.proofs.Places.{is_placed, are_placed}
+use Rattle.write_pages.proofs.PageTable.{written_along}
+use Rattle.write_pages.specs.Fits.{is_written, is_written_along, is_written_flat, is_written_in}
 use Rattle.write_values.specs.Served.{is_served}
 
 -- ---- array and tree go together
@@ -47,72 +50,80 @@ served_first n t b m fs s = (and_parts (is_served_type t) (are_served_fields fs)
 pub served_rest : (n : List ℕ) (t : TypeTree) (b : Bool) (m : List _) (fs : FieldTrees) → are_served_fields (more_fields (field n t b m) fs) ≡ true → are_served_fields fs ≡ true
 served_rest n t b m fs s = (and_parts (is_served_type t) (are_served_fields fs) s).1
 
+placed_first : (n : List ℕ) (t : TypeTree) (b : Bool) (m : List _) (fs : FieldTrees) → are_placed (more_fields (field n t b m) fs) ≡ true → is_placed false t ≡ true
+placed_first n t b m fs s = (and_parts (is_placed false t) (are_placed fs) s).0
+
+placed_rest : (n : List ℕ) (t : TypeTree) (b : Bool) (m : List _) (fs : FieldTrees) → are_placed (more_fields (field n t b m) fs) ≡ true → are_placed fs ≡ true
+placed_rest n t b m fs s = (and_parts (is_placed false t) (are_placed fs) s).1
+
 mutual
-  pub goes : (a : ArrayTree) (name : List ℕ) (b : Bool) → IsSound a → is_served_type (type_of a) ≡ true → misfit a (node name b (type_of a)) ≡ None
-  goes (null_array t n) name b h s = absurd (null_unserved t h s)
-  goes (leaf_array t vs m) name b h s = ap (λ (k : Bool). cond k None differs) (leaf_node_is name b t h.1)
-  goes (dictionary_array t ks c m) name b h s = absurd (keys_unserved t (type_of c) h.2 s)
-  goes (fixed_list_array t w n c m) name b h s = absurd (fixed_unserved t (type_of c) h.3 s)
-  goes (list_array t os c m) name b h s =
-      let p = list_is name b t (type_of c) h.3 s in
-      ap (λ (o : Option Tree). given differs (misfit c) o) p.item ∙ goes c p.item_name p.is_nullable h.2 p.served
-  goes (struct_array t cs m) name b h s =
+  pub goes : (flat : Bool) (a : ArrayTree) (name : List ℕ) (b : Bool) → IsSound a → is_placed flat (type_of a) ≡ true → misfit a (node name b (type_of a)) ≡ None
+  goes flat (null_array t n) name b h s = absurd (null_unserved t h (placed_served flat t s))
+  goes flat (leaf_array t vs m) name b h s = ap (λ (k : Bool). cond k None differs) (leaf_node_is name b t h.1)
+  goes flat (dictionary_array t ks c m) name b h s = absurd (keys_unserved t (type_of c) h.2 (placed_served flat t s))
+  goes flat (fixed_list_array t w n c m) name b h s = absurd (fixed_unserved t (type_of c) h.3 (placed_served flat t s))
+  goes flat (list_array t os c m) name b h s =
+      let p = list_is name b t (type_of c) h.3 in
+      ap (λ (o : Option Tree). given differs (misfit c) o) p.item ∙ goes false c p.item_name p.is_nullable h.2 (item_placed flat t (type_of c) h.3 s)
+  goes flat (struct_array t cs m) name b h s =
       let p = struct_is name b t cs h.3 h.2 in
       ap (λ (o : Option Trees). given differs (counted (count_arrays cs) (misfits cs)) o) p.nodes
-      ∙ by_count (count_arrays cs == count_trees (trees_of (part_types (base t)))) (misfits cs (trees_of (part_types (base t)))) (eq-eqb (count_arrays cs) (count_trees (trees_of (part_types (base t)))) (same_count (part_types (base t)) cs h.2)) (all_go cs (part_types (base t)) (first_len cs) h.0 h.2 (parts_served t s))
+      ∙ by_count (count_arrays cs == count_trees (trees_of (part_types (base t)))) (misfits cs (trees_of (part_types (base t)))) (eq-eqb (count_arrays cs) (count_trees (trees_of (part_types (base t)))) (same_count (part_types (base t)) cs h.2)) (all_go cs (part_types (base t)) (first_len cs) h.0 h.2 (parts_placed flat t s))
 
-  all_go : (cs : ArrayTrees) (fs : FieldTrees) (n : ℕ) → AreSound n cs → AreTyped fs cs → are_served_fields fs ≡ true → misfits cs (trees_of fs) ≡ None
+  all_go : (cs : ArrayTrees) (fs : FieldTrees) (n : ℕ) → AreSound n cs → AreTyped fs cs → are_placed fs ≡ true → misfits cs (trees_of fs) ≡ None
   all_go no_arrays no_fields n h typed s = refl
   all_go (more_arrays c cs) (more_fields (field name t b m) fs) n h typed s =
       both_none (misfit c (node name b t)) (misfits cs (trees_of fs))
-      (subst (λ (x : TypeTree). misfit c (node name b x) ≡ None) (sym typed.0) (goes c name b h.0 (ap is_served_type (sym typed.0) ∙ served_first name t b m fs s)))
-      (all_go cs fs n h.2 typed.1 (served_rest name t b m fs s))
+      (subst (λ (x : TypeTree). misfit c (node name b x) ≡ None) (sym typed.0) (goes false c name b h.0 (ap (is_placed false) (sym typed.0) ∙ placed_first name t b m fs s)))
+      (all_go cs fs n h.2 typed.1 (placed_rest name t b m fs s))
   all_go no_arrays (more_fields (field x t y z) fs) n h typed s = absurd typed
   all_go (more_arrays c cs) no_fields n h typed s = absurd typed
 
 -- ---- leaves
 
--- A leaf array of a served type, the leaf of its tree, and its path.
-pub record IsServedLeaf (l : Leaf) (parts : List Part) (a : ArrayTree) : Type 0 where
-  pub written : is_written (base (type_of a)) ≡ true
+-- A leaf array in its place, the leaf of its tree, and its path: a column of its own, or beneath lists or structs.
+pub record IsServedLeaf (flat : Bool) (l : Leaf) (parts : List Part) (a : ArrayTree) : Type 0 where
+  pub along : is_written_along parts a ≡ true
+  pub anywhere : flat ≡ false → is_written (base (type_of a)) ≡ true
   pub served : is_served (base (type_of a)) l.physical ≡ true
+  pub own : l.physical ≡ (stored_as (base (type_of a))).physical
   pub info : Info
   pub last : last_of l.path ≡ Some info
   pub optional : nat_eq (defines info.repetition) 1 ≡ is_leaf_optional parts
   pub values : ℕ → Value
   pub are : (i : ℕ) → value (values i) ≡ leaf_slot a i
 
-abbrev pub AreServedLeaves : List Leaf → List (List Part) → List ArrayTree → Type 0
-AreServedLeaves [] [] [] = Unit {0}
-AreServedLeaves (l ∷ ls) (p ∷ ps) (a ∷ arrays) = IsServedLeaf l p a × AreServedLeaves ls ps arrays
-AreServedLeaves _ _ _ = ⊥
+abbrev pub AreServedLeaves : Bool → List Leaf → List (List Part) → List ArrayTree → Type 0
+AreServedLeaves flat [] [] [] = Unit {0}
+AreServedLeaves flat (l ∷ ls) (p ∷ ps) (a ∷ arrays) = IsServedLeaf flat l p a × AreServedLeaves flat ls ps arrays
+AreServedLeaves flat _ _ _ = ⊥
 
 last_under : (info i : Info) (path : List Info) → last_of path ≡ Some info → last_of (i ∷ path) ≡ Some info
 last_under info i [] e = absurd cc
 last_under info i (j ∷ path) e = ap (λ (o : Option Info). or_else o (Some i)) e
 
-served_under : (i : Info) (ls : List Leaf) (ps : List (List Part)) (arrays : List ArrayTree) → AreServedLeaves ls ps arrays → AreServedLeaves (map (under i) ls) ps arrays
+served_under : (i : Info) (ls : List Leaf) (ps : List (List Part)) (arrays : List ArrayTree) → AreServedLeaves false ls ps arrays → AreServedLeaves false (map (under i) ls) ps arrays
 served_under i [] [] [] h = tt
 served_under i (l ∷ ls) (p ∷ ps) (a ∷ arrays) h =
     let r = h.0 in
-    (record { written = r.written; served = r.served; info = r.info; last = last_under r.info i l.path r.last; optional = r.optional; values = r.values; are = r.are }, served_under i ls ps arrays h.1)
+    (record { along = r.along; anywhere = r.anywhere; served = r.served; own = r.own; info = r.info; last = last_under r.info i l.path r.last; optional = r.optional; values = r.values; are = r.are }, served_under i ls ps arrays h.1)
 served_under i [] [] (a ∷ arrays) h = absurd h
 served_under i [] (p ∷ ps) arrays h = absurd h
 served_under i (l ∷ ls) [] arrays h = absurd h
 served_under i (l ∷ ls) (p ∷ ps) [] h = absurd h
 
 -- a part above that is no leaf
-below_served : (part : Part) (ls : List Leaf) (ps : List (List Part)) (arrays : List ArrayTree) → ((path : List Part) → is_leaf_optional (part ∷ path) ≡ is_leaf_optional path) → AreServedLeaves ls ps arrays → AreServedLeaves ls (below (part ∷ []) ps) arrays
+below_served : (part : Part) (ls : List Leaf) (ps : List (List Part)) (arrays : List ArrayTree) → ((path : List Part) → is_leaf_optional (part ∷ path) ≡ is_leaf_optional path) → AreServedLeaves false ls ps arrays → AreServedLeaves false ls (below (part ∷ []) ps) arrays
 below_served part [] [] [] e h = tt
 below_served part (l ∷ ls) (p ∷ ps) (a ∷ arrays) e h =
     let r = h.0 in
-    (record { written = r.written; served = r.served; info = r.info; last = r.last; optional = r.optional ∙ sym (e p); values = r.values; are = r.are }, below_served part ls ps arrays e h.1)
+    (record { along = written_along (part ∷ p) a (r.anywhere refl); anywhere = r.anywhere; served = r.served; own = r.own; info = r.info; last = r.last; optional = r.optional ∙ sym (e p); values = r.values; are = r.are }, below_served part ls ps arrays e h.1)
 below_served part [] [] (a ∷ arrays) e h = absurd h
 below_served part [] (p ∷ ps) arrays e h = absurd h
 below_served part (l ∷ ls) [] arrays e h = absurd h
 below_served part (l ∷ ls) (p ∷ ps) [] e h = absurd h
 
-both_served : (ls ks : List Leaf) (ps qs : List (List Part)) (xs ys : List ArrayTree) → AreServedLeaves ls ps xs → AreServedLeaves ks qs ys → AreServedLeaves (ls ++ ks) (ps ++ qs) (xs ++ ys)
+both_served : (ls ks : List Leaf) (ps qs : List (List Part)) (xs ys : List ArrayTree) → AreServedLeaves false ls ps xs → AreServedLeaves false ks qs ys → AreServedLeaves false (ls ++ ks) (ps ++ qs) (xs ++ ys)
 both_served [] ks [] qs [] ys h g = g
 both_served (l ∷ ls) ks (p ∷ ps) qs (x ∷ xs) ys h g = (h.0, both_served ls ks ps qs xs ys h.1 g)
 both_served [] ks [] qs (x ∷ xs) ys h g = absurd h
@@ -124,38 +135,64 @@ both_served (l ∷ ls) ks (p ∷ ps) qs [] ys h g = absurd h
 over_leaves : (i j : Info) (t : Tree) → leaves (group i (one (group j (one t)))) ≡ map (under i) (map (under j) (leaves t))
 over_leaves i j t = ap (map (under i)) (append-nil (map (under j) (leaves t ++ [])) ∙ ap (map (under j)) (append-nil (leaves t)))
 
-of_leaf : (name : List ℕ) (b : Bool) (t : TypeTree) (vs : List Value) (m : Mask) (n : Tree) (p : LeafNode name b t) → n ≡ leaf p.info p.physical → AreServedLeaves (leaves n) ((part_at (is_optional n) (leaf_array t vs m) ∷ []) ∷ []) (leaf_array t vs m ∷ [])
-of_leaf name b t vs m n p e =
-    subst (λ (x : Tree). AreServedLeaves (leaves x) ((part_at (is_optional x) (leaf_array t vs m) ∷ []) ∷ []) (leaf_array t vs m ∷ [])) (sym e)
-    (record { written = p.written; served = p.served; info = p.info; last = refl; optional = refl; values = λ i. leaf_at vs i; are = λ i. refl }, tt)
+-- of a leaf alone
+in_any_column : (flat : Bool) (t : TypeTree) → is_written_in flat t ≡ true → flat ≡ false → is_written t ≡ true
+in_any_column true t w e = absurd (true≢false e)
+in_any_column false t w e = sym (or-false (is_written t)) ∙ w
+  where
+    or-false : (b : Bool) → (b || false) ≡ b
+    or-false true = refl
+    or-false false = refl
+
+in_own_column : (flat : Bool) (t : TypeTree) → is_written_in flat t ≡ true → is_written_in true t ≡ true
+in_own_column true t w = w
+in_own_column false t w = or_left (is_written t) (true && is_written_flat t) (in_any_column false t w refl)
+
+of_leaf : (flat : Bool) (name : List ℕ) (b : Bool) (t : TypeTree) (vs : List Value) (m : Mask) (n : Tree) (p : LeafNode flat name b t) → n ≡ leaf p.info p.physical → AreServedLeaves flat (leaves n) ((part_at (is_optional n) (leaf_array t vs m) ∷ []) ∷ []) (leaf_array t vs m ∷ [])
+of_leaf flat name b t vs m n p e =
+    subst (λ (x : Tree). AreServedLeaves flat (leaves x) ((part_at (is_optional x) (leaf_array t vs m) ∷ []) ∷ []) (leaf_array t vs m ∷ [])) (sym e)
+    (record { along = in_own_column flat (base t) p.written; anywhere = in_any_column flat (base t) p.written; served = p.served; own = p.own; info = p.info; last = refl; optional = refl; values = λ i. leaf_at vs i; are = λ i. refl }, tt)
+
+-- what is in any column is in its own too
+in_either : (flat : Bool) (ls : List Leaf) (ps : List (List Part)) (arrays : List ArrayTree) → AreServedLeaves false ls ps arrays → AreServedLeaves flat ls ps arrays
+in_either flat [] [] [] h = tt
+in_either flat (l ∷ ls) (p ∷ ps) (a ∷ arrays) h =
+    let r = h.0 in
+    (record { along = r.along; anywhere = λ e. r.anywhere refl; served = r.served; own = r.own; info = r.info; last = r.last; optional = r.optional; values = r.values; are = r.are }, in_either flat ls ps arrays h.1)
+in_either flat [] [] (a ∷ arrays) h = absurd h
+in_either flat [] (p ∷ ps) arrays h = absurd h
+in_either flat (l ∷ ls) [] arrays h = absurd h
+in_either flat (l ∷ ls) (p ∷ ps) [] h = absurd h
 
 mutual
-  pub are_served : (a : ArrayTree) (name : List ℕ) (b : Bool) → IsSound a → is_served_type (type_of a) ≡ true → AreServedLeaves (leaves (node name b (type_of a))) (paths a (node name b (type_of a))) (array_leaves a)
-  are_served (null_array t n) name b h s = absurd (null_unserved t h s)
-  are_served (leaf_array t vs m) name b h s = let p = leaf_is name b t h.1 s in of_leaf name b t vs m (node name b t) p p.is
-  are_served (dictionary_array t ks c m) name b h s = absurd (keys_unserved t (type_of c) h.2 s)
-  are_served (fixed_list_array t w n c m) name b h s = absurd (fixed_unserved t (type_of c) h.3 s)
-  are_served (list_array t os c m) name b h s =
-      let p = list_is name b t (type_of c) h.3 s in
-      let inner = are_served c p.item_name p.is_nullable h.2 p.served in
+  pub are_served : (flat : Bool) (a : ArrayTree) (name : List ℕ) (b : Bool) → IsSound a → is_placed flat (type_of a) ≡ true → AreServedLeaves flat (leaves (node name b (type_of a))) (paths a (node name b (type_of a))) (array_leaves a)
+  are_served flat (null_array t n) name b h s = absurd (null_unserved t h (placed_served flat t s))
+  are_served flat (leaf_array t vs m) name b h s = let p = leaf_is flat name b t h.1 s in of_leaf flat name b t vs m (node name b t) p p.is
+  are_served flat (dictionary_array t ks c m) name b h s = absurd (keys_unserved t (type_of c) h.2 (placed_served flat t s))
+  are_served flat (fixed_list_array t w n c m) name b h s = absurd (fixed_unserved t (type_of c) h.3 (placed_served flat t s))
+  are_served flat (list_array t os c m) name b h s =
+      let p = list_is name b t (type_of c) h.3 in
+      let inner = are_served false c p.item_name p.is_nullable h.2 (item_placed flat t (type_of c) h.3 s) in
       let item = node p.item_name p.is_nullable (type_of c) in
       let under_both = served_under p.top _ (paths c item) (array_leaves c) (served_under p.middle (leaves item) (paths c item) (array_leaves c) inner) in
       let mine = below_served (part_at (is_optional (node name b t)) (list_array t os c m)) _ (paths c item) (array_leaves c) (λ path. refl) under_both in
-      subst (λ (ls : List Leaf). AreServedLeaves ls (below (part_at (is_optional (node name b t)) (list_array t os c m) ∷ []) (given [] (paths c) (item_node (node name b t)))) (array_leaves c)) (sym (ap leaves p.is ∙ over_leaves p.top p.middle item))
-      (subst (λ (o : Option Tree). AreServedLeaves (map (under p.top) (map (under p.middle) (leaves item))) (below (part_at (is_optional (node name b t)) (list_array t os c m) ∷ []) (given [] (paths c) o)) (array_leaves c)) (sym p.item) mine)
-  are_served (struct_array t cs m) name b h s =
+      in_either flat _ _ (array_leaves c)
+      (subst (λ (ls : List Leaf). AreServedLeaves false ls (below (part_at (is_optional (node name b t)) (list_array t os c m) ∷ []) (given [] (paths c) (item_node (node name b t)))) (array_leaves c)) (sym (ap leaves p.is ∙ over_leaves p.top p.middle item))
+      (subst (λ (o : Option Tree). AreServedLeaves false (map (under p.top) (map (under p.middle) (leaves item))) (below (part_at (is_optional (node name b t)) (list_array t os c m) ∷ []) (given [] (paths c) o)) (array_leaves c)) (sym p.item) mine))
+  are_served flat (struct_array t cs m) name b h s =
       let fs = part_types (base t) in
       let p = struct_is name b t cs h.3 h.2 in
-      let inner = all_served cs fs (first_len cs) h.0 h.2 (parts_served t s) in
+      let inner = all_leaves_served cs fs (first_len cs) h.0 h.2 (parts_placed flat t s) in
       let mine = below_served (part_at (is_optional (node name b t)) (struct_array t cs m)) _ (paths_in cs (trees_of fs)) (leaves_in cs) (λ path. refl) (served_under p.top (leaves_of (trees_of fs)) (paths_in cs (trees_of fs)) (leaves_in cs) inner) in
-      subst (λ (x : List Leaf). AreServedLeaves x (below (part_at (is_optional (node name b t)) (struct_array t cs m) ∷ []) (given [] (paths_in cs) (field_nodes (node name b t)))) (leaves_in cs)) (sym (ap leaves p.is))
-      (subst (λ (o : Option Trees). AreServedLeaves (map (under p.top) (leaves_of (trees_of fs))) (below (part_at (is_optional (node name b t)) (struct_array t cs m) ∷ []) (given [] (paths_in cs) o)) (leaves_in cs)) (sym p.nodes) mine)
+      in_either flat _ _ (leaves_in cs)
+      (subst (λ (x : List Leaf). AreServedLeaves false x (below (part_at (is_optional (node name b t)) (struct_array t cs m) ∷ []) (given [] (paths_in cs) (field_nodes (node name b t)))) (leaves_in cs)) (sym (ap leaves p.is))
+      (subst (λ (o : Option Trees). AreServedLeaves false (map (under p.top) (leaves_of (trees_of fs))) (below (part_at (is_optional (node name b t)) (struct_array t cs m) ∷ []) (given [] (paths_in cs) o)) (leaves_in cs)) (sym p.nodes) mine))
 
-  all_served : (cs : ArrayTrees) (fs : FieldTrees) (n : ℕ) → AreSound n cs → AreTyped fs cs → are_served_fields fs ≡ true → AreServedLeaves (leaves_of (trees_of fs)) (paths_in cs (trees_of fs)) (leaves_in cs)
-  all_served no_arrays no_fields n h typed s = tt
-  all_served (more_arrays c cs) (more_fields (field name t b m) fs) n h typed s =
+  all_leaves_served : (cs : ArrayTrees) (fs : FieldTrees) (n : ℕ) → AreSound n cs → AreTyped fs cs → are_placed fs ≡ true → AreServedLeaves false (leaves_of (trees_of fs)) (paths_in cs (trees_of fs)) (leaves_in cs)
+  all_leaves_served no_arrays no_fields n h typed s = tt
+  all_leaves_served (more_arrays c cs) (more_fields (field name t b m) fs) n h typed s =
       both_served (leaves (node name b t)) (leaves_of (trees_of fs)) (paths c (node name b t)) (paths_in cs (trees_of fs)) (array_leaves c) (leaves_in cs)
-      (subst (λ (x : TypeTree). AreServedLeaves (leaves (node name b x)) (paths c (node name b x)) (array_leaves c)) (sym typed.0) (are_served c name b h.0 (ap is_served_type (sym typed.0) ∙ served_first name t b m fs s)))
-      (all_served cs fs n h.2 typed.1 (served_rest name t b m fs s))
-  all_served no_arrays (more_fields (field x t y z) fs) n h typed s = absurd typed
-  all_served (more_arrays c cs) no_fields n h typed s = absurd typed
+      (subst (λ (x : TypeTree). AreServedLeaves false (leaves (node name b x)) (paths c (node name b x)) (array_leaves c)) (sym typed.0) (are_served false c name b h.0 (ap (is_placed false) (sym typed.0) ∙ placed_first name t b m fs s)))
+      (all_leaves_served cs fs n h.2 typed.1 (placed_rest name t b m fs s))
+  all_leaves_served no_arrays (more_fields (field x t y z) fs) n h typed s = absurd typed
+  all_leaves_served (more_arrays c cs) no_fields n h typed s = absurd typed

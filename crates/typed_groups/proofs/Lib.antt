@@ -1,8 +1,10 @@
+mod Places
 mod Nodes
 mod Leaves
 mod Named
-mod Taken
 mod Entries
 mod LargeColumns
+mod Taken
 mod Large
+mod Wide
 mod Worked

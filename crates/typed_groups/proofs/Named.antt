@@ -1,9 +1,11 @@
 -- The encodings that are chosen are ones in which pages are written.
-use Rattle.std.proofs.Common.{◌≡◌, ◌<◌, ℕ, Bool, true, false, true≢false, cond, Some, List, [], ◌∷◌, refl, sym, ap, subst, arith}
-use Rattle.std.specs.Prelude.{◌&&◌}
+use Rattle.std.proofs.Common.{◌≡◌, ◌<◌, ◌≤◌, ℕ, Bool, true, false, true≢false, cond, inl, inr, Some, List, [], ◌∷◌, refl, sym, ap, subst, ◌∙◌, arith}
+use Rattle.std.specs.Prelude.{◌&&◌, ◌||◌, leb}
+use Rattle.std.proofs.lemmas.Bool.{le-leb}
+use Rattle.std.proofs.lemmas.Bool.Decides.{leb_tells}
 use Rattle.shredding.specs.Shape.{LeafType, nothing, truths, text, binary, signed, unsigned, fixed_bytes, decimal, months, days}
 use Rattle.columns_core.specs.Shapes.{base, leaf_type}
-use Rattle.columns_core.specs.Tree.{TypeTree, t_null, t_int8, t_int16, t_int32, t_int64, t_uint8, t_uint16, t_uint32, t_uint64, t_date32, t_date64, t_time32, t_time64, t_timestamp, t_duration, t_utf8, t_large_utf8, t_binary, t_large_binary, t_list, t_large_list, t_map, t_fixed_size_list, t_struct}
+use Rattle.columns_core.specs.Tree.{TypeTree, t_null, t_int8, t_int16, t_int32, t_int64, t_uint8, t_uint16, t_uint32, t_uint64, t_date32, t_date64, t_time32, t_time64, t_timestamp, t_duration, t_utf8, t_large_utf8, t_binary, t_large_binary, t_list, t_large_list, t_map, t_fixed_size_list, t_struct, t_decimal, t_extension}
 use Rattle.columns_slots.specs.Slots.{IsSound, AreTyped, count_arrays, type_of}
 use Rattle.columns_slots.specs.Tree.{ArrayTree, null_array, leaf_array, list_array, fixed_list_array, struct_array, dictionary_array, ArrayTrees, no_arrays, more_arrays}
 use Rattle.columns_slots.specs.Types.{is_leaf, is_null_type, list_item, fixed_item, part_types}
@@ -14,8 +16,10 @@ use Rattle.pq_tree.specs.Physical.{Physical, boolean, int32, int64, byte_array, 
 use Rattle.pq_tree.specs.Tree.{Leaf}
 use Rattle.pq_tree.specs.declared.types.Encoding.{Encoding as RustEncoding}
 use Rattle.schema_to_tree.specs.Encodes.{is_delta, is_strings}
+use Rattle.schema_to_tree.specs.Length.{decimal_length}
+use Rattle.schema_to_tree.specs.Table.{decimal_physical, stored_as}
 use Rattle.write_values.specs.Deltas.{encoding_name}
-use Rattle.write_values.specs.Served.{is_small, is_wide, is_string, is_served}
+use Rattle.write_values.specs.Served.{is_small, is_wide, is_string, is_decimal, is_served}
 use Rattle.write_pages.specs.Fits.{is_written_as}
 use Rattle.write_groups.specs.Laid.{field_encoding}
 
@@ -48,6 +52,13 @@ string_deltas t_large_utf8 e = refl
 string_deltas t_binary e = refl
 string_deltas t_large_binary e = refl
 string_deltas t e = absurd (true≢false (sym e))
+
+is_least : (k n : ℕ) → leb k n ≡ true → k ≤ n
+is_least k n e = elim (leb_tells k n) [ inl h ↦ h.1 | inr h ↦ absurd (let f = sym h.0 ∙ e in cc) ]
+
+first_holds : (a b : Bool) → b ≡ false → (a || b) ≡ true → a ≡ true
+first_holds true b d s = refl
+first_holds false b d s = absurd (true≢false (sym s ∙ d))
 
 module _ (t : TypeTree) where
   narrow : (l : LeafType) → is_small (base t) ≡ true → is_written_as (encoding_name (delta_of l int32)) t int32 ≡ true
@@ -110,18 +121,40 @@ module _ (t : TypeTree) where
   fixed_length n months = refl
   fixed_length n days = refl
 
-  deltas_written : (p : Physical) → is_served (base t) p ≡ true → is_written_as (encoding_name (delta_of (leaf_type t) p)) t p ≡ true
-  deltas_written int32 s = narrow (leaf_type t) s
-  deltas_written int64 s = wide (leaf_type t) s
-  deltas_written byte_array s = string (leaf_type t) s
-  deltas_written boolean s = truth (leaf_type t)
-  deltas_written (fixed n) s = fixed_length n (leaf_type t)
-  deltas_written p s = absurd (true≢false (sym s))
+  -- decimals of at most 18 digits are stored as numbers
+  decimal_deltas : (small middle : Bool) (p q n : ℕ) → base t ≡ t_decimal p q → leb p 9 ≡ small → leb p 18 ≡ middle → is_written_as (encoding_name (delta_of decimal (cond small int32 (cond middle int64 (fixed n))))) t (cond small int32 (cond middle int64 (fixed n))) ≡ true
+  decimal_deltas true middle p q n e a b = ap is_delta e ∙ le-leb p 18 (omega (arith, is_least p 9 a))
+  decimal_deltas false true p q n e a b = ap is_delta e ∙ b
+  decimal_deltas false false p q n e a b = refl
+
+  number_deltas : (p : Physical) → is_decimal (base t) ≡ false → is_served (base t) p ≡ true → is_written_as (encoding_name (delta_of (leaf_type t) p)) t p ≡ true
+  number_deltas int32 d s = narrow (leaf_type t) (first_holds (is_small (base t)) (is_decimal (base t)) d s)
+  number_deltas int64 d s = wide (leaf_type t) (first_holds (is_wide (base t)) (is_decimal (base t)) d s)
+  number_deltas byte_array d s = string (leaf_type t) s
+  number_deltas boolean d s = truth (leaf_type t)
+  number_deltas (fixed n) d s = fixed_length n (leaf_type t)
+  number_deltas p d s = absurd (true≢false (sym s))
+
+same_kind : (t : TypeTree) (a b : ℕ) → base t ≡ t_decimal a b → leaf_type t ≡ decimal
+same_kind (t_extension n t m) a b e = same_kind t a b e
+same_kind (t_decimal x y) a b e = refl
+same_kind t a b e = absurd cc
+
+deltas_written : (t : TypeTree) (p : Physical) → p ≡ (stored_as (base t)).physical → is_served (base t) p ≡ true → is_written_as (encoding_name (delta_of (leaf_type t) p)) t p ≡ true
+deltas_written t p own s = by (base t) refl
+  where
+    by : (k : TypeTree) → base t ≡ k → is_written_as (encoding_name (delta_of (leaf_type t) p)) t p ≡ true
+    by (t_decimal a b) e =
+        let kind : leaf_type t ≡ decimal = same_kind t a b e in
+        let physical : p ≡ decimal_physical a = own ∙ ap (λ (x : TypeTree). (stored_as x).physical) e in
+        subst (λ (x : Physical). is_written_as (encoding_name (delta_of (leaf_type t) x)) t x ≡ true) (sym physical)
+        (subst (λ (x : LeafType). is_written_as (encoding_name (delta_of x (decimal_physical a))) t (decimal_physical a) ≡ true) (sym kind) (decimal_deltas t (leb a 9) (leb a 18) a b (decimal_length a) e refl refl))
+    by k e = number_deltas t p (ap is_decimal e) s
 
 -- where deltas are chosen or not
-pub choice_written : (b : Bool) (t : TypeTree) (p : Physical) → is_served (base t) p ≡ true → is_written_as (encoding_name (cond b (delta_of (leaf_type t) p) plain)) t p ≡ true
-choice_written true t p s = deltas_written t p s
-choice_written false t p s = refl
+pub choice_written : (b : Bool) (t : TypeTree) (p : Physical) → p ≡ (stored_as (base t)).physical → is_served (base t) p ≡ true → is_written_as (encoding_name (cond b (delta_of (leaf_type t) p) plain)) t p ≡ true
+choice_written true t p own s = deltas_written t p own s
+choice_written false t p own s = refl
 
 -- ---- the array of a leaf type is its only leaf
 
@@ -154,9 +187,9 @@ only_leaf (struct_array t cs m) h e = absurd (no_parts (base t) cs e h.2 h.3)
 
 -- ---- the names of the encodings of a field's leaves
 
--- a leaf of the array is written in the encoding of this name
+-- a leaf of the array, stored as its type is, is written in the encoding of this name
 abbrev pub IsNamed : Leaf → ArrayTree → (Leaf → RustEncoding) → Type 0
-IsNamed l a named = is_served (base (type_of a)) l.physical ≡ true → is_written_as (named l) (type_of a) l.physical ≡ true
+IsNamed l a named = l.physical ≡ (stored_as (base (type_of a))).physical → is_served (base (type_of a)) l.physical ≡ true → is_written_as (named l) (type_of a) l.physical ≡ true
 
 abbrev pub AreNamed : List Leaf → List ArrayTree → (Leaf → RustEncoding) → Type 0
 AreNamed (l ∷ ls) (a ∷ arrays) named = IsNamed l a named × AreNamed ls arrays named
@@ -171,9 +204,9 @@ module _ (wanted : Bool) (t : TypeTree) where
   names l = encoding_name (field_encoding wanted t l)
 
   own_named : (l : Leaf) (a : ArrayTree) → type_of a ≡ t → IsNamed l a names
-  own_named l a e s =
+  own_named l a e o s =
       subst (λ (x : TypeTree). is_written_as (names l) x l.physical ≡ true) (sym e)
-      (choice_written (wanted && is_leaf (base t)) t l.physical (subst (λ (x : TypeTree). is_served (base x) l.physical ≡ true) e s))
+      (choice_written (wanted && is_leaf (base t)) t l.physical (subst (λ (x : TypeTree). l.physical ≡ (stored_as (base x)).physical) e o) (subst (λ (x : TypeTree). is_served (base x) l.physical ≡ true) e s))
 
   -- a field's own leaf
   alone : (ls : List Leaf) (a : ArrayTree) → type_of a ≡ t → AreNamed ls (a ∷ []) names
@@ -186,7 +219,7 @@ module _ (wanted : Bool) (t : TypeTree) where
   nested [] arrays e = tt
   nested (l ∷ ls) [] e = tt
   nested (l ∷ ls) (a ∷ arrays) e =
-      (λ s. ap (λ (x : Encoding). is_written_as (encoding_name x) (type_of a) l.physical) (choice_is_plain wanted (is_leaf (base t)) (delta_of (leaf_type t) l.physical) e), nested ls arrays e)
+      (λ o s. ap (λ (x : Encoding). is_written_as (encoding_name x) (type_of a) l.physical) (choice_is_plain wanted (is_leaf (base t)) (delta_of (leaf_type t) l.physical) e), nested ls arrays e)
 
 pub field_named : (wanted : Bool) (ls : List Leaf) (a : ArrayTree) → IsSound a → AreNamed ls (array_leaves a) (names wanted (type_of a))
 field_named wanted ls a h = by_type (is_leaf (base (type_of a))) refl

@@ -3,7 +3,8 @@ use Rattle.std.specs.Prelude.{◌≡◌, ◌⊎◌, Bool, true, All, List, lengt
 use Rattle.std.specs.Global.{Global}
 use Rattle.shredding.specs.Shape.{AreOf}
 use Rattle.columns_base.specs.declared.error.Error.{Error}
-use Rattle.columns_base.specs.declared.error.Error.TheVariants.{Memory, Overflow}
+use Rattle.columns_base.specs.declared.error.A.TheVariants.{A7}
+use Rattle.columns_base.specs.declared.error.Error.TheVariants.{InvalidArgumentError, Memory, Overflow}
 use Rattle.columns_base.specs.declared.error.V.TheVariants.{V3}
 use Rattle.columns_array.specs.Chunks.{AreEven}
 use Rattle.columns_core.specs.Shapes.{shapes_of}
@@ -14,7 +15,7 @@ use Rattle.pq_files.specs.Layout.{OutGroup}
 use Rattle.pq_headline.specs.Arrays.{rows_of, all_entries}
 use Rattle.pq_headline.specs.Columns.{schema_columns}
 use Rattle.pq_headline.specs.Openings.{CanBeWritten}
-use Rattle.pq_headline.specs.Output.{IsLaidGroup, PieceIsTooLarge, all_chosen}
+use Rattle.pq_headline.specs.Output.{HasWideDecimal, IsLaidGroup, PieceIsTooLarge, all_chosen}
 use Rattle.pq_headline.specs.Served.{are_served_fields}
 use Rattle.pq_tree.specs.Tree.{Trees, columns_of}
 use Rattle.pq_tree.specs.TreeViews.{trees_view}
@@ -52,16 +53,16 @@ pub record Suits (wants_deltas : Bool) (fs : FieldTrees) (o : WriteOptions) (chu
 abbrev pub IsSuiting : Bool → FieldTrees → RowGroupIter → Type 0
 IsSuiting wants_deltas fs g = Suits wants_deltas fs g.options g.chunk (trees_view g.fields.items) (map (λ es. es.items) g.encodings.items)
 
--- There are as many lists of encodings and as many trees as arrays, and nothing stands against the columns.
-pub record IsTaken (o : WriteOptions) (chunk : ArrayTrees) (encodings : List (Vec Encoding Global)) (trees : List ParquetType) : Type 0 where
+-- There are as many lists of encodings and as many trees as arrays, and nothing stands against the columns but a decimal that its column does not hold.
+pub record IsTaken (fs : FieldTrees) (o : WriteOptions) (chunk : ArrayTrees) (encodings : List (Vec Encoding Global)) (trees : List ParquetType) : Type 0 where
   pub counts : AreSoMany chunk (length encodings) (length trees)
-  pub none : (e : Error) → ¬ RefusesFields o chunk (trees_view trees) (map (λ es. es.items) encodings) e
+  pub wide : (e : Error) → RefusesFields o chunk (trees_view trees) (map (λ es. es.items) encodings) e → (e ≡ InvalidArgumentError A7) × HasWideDecimal fs (rows_of chunk)
 
--- A chunk that suits is refused for want of memory alone.
+-- A chunk that suits is refused for want of memory, or for a decimal that its column does not hold.
 abbrev pub SuitingChunksAreTaken : Type 0
 SuitingChunksAreTaken =
     (wants_deltas : Bool) (fs : FieldTrees) (o : WriteOptions) (chunk : ArrayTrees) (encodings : List (Vec Encoding Global)) (trees : List ParquetType)
-    → Suits wants_deltas fs o chunk (trees_view trees) (map (λ es. es.items) encodings) → IsTaken o chunk encodings trees
+    → Suits wants_deltas fs o chunk (trees_view trees) (map (λ es. es.items) encodings) → IsTaken fs o chunk encodings trees
 
 -- A page of it is refused for want of memory, or because its room passes the sizes of a header: then the rows of the chunk, cut by the row rule, have such a page.
 abbrev pub LargePagesAreLarge : Type 0

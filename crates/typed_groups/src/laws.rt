@@ -6,11 +6,13 @@ use nested_paths::paths_are_seen;
 use typed_arrays::{typed_columns_are_own, typed_slots_are_read};
 use write_groups::groups_are_laid;
 
-/// The columns of a chunk that suits are refused for want of memory alone.
+/// The columns of a chunk that suits are refused for want of memory, or for a decimal that its column does not hold.
 pub fn suiting_chunks_are_taken()
     ensures { SuitingChunksAreTaken }
 {
     paths_are_seen();
+    typed_columns_are_own();
+    typed_slots_are_read();
 }
 
 /// Where the room of a page passes the sizes of a header, the rows of the chunk have a page that is too large.

@@ -60,7 +60,7 @@ rows_are s fs (r ∷ rs) [] h = absurd h
 rows_are s fs (r ∷ rs) (o ∷ os) h = (h.0.are, rows_are s fs rs os h.1)
 
 -- ---- without dictionaries there are no entries
-no_entry : (b : Bool) (c : ArrowColumn) (l : Leaf) (got : Column) (d : Option (List (Option Value))) → b ≡ false → HasEntriesOf b c.data_type l.physical got.entries d → d ≡ None
+pub no_entry : (b : Bool) (c : ArrowColumn) (l : Leaf) (got : Column) (d : Option (List (Option Value))) → b ≡ false → HasEntriesOf b c.data_type l.physical got.entries d → d ≡ None
 no_entry true c l got d e h = absurd (true≢false e)
 no_entry false c l got None e h = refl
 no_entry false c l got (Some d) e h = absurd h
@@ -84,7 +84,7 @@ outs_are asked fs tree (p ∷ ps) [] n a h = absurd h
 outs_are asked fs tree (p ∷ ps) (o ∷ os) n a h = (
   record {
     are = a.0;
-    encodings = _;
+    deltas = asked.delta;
     entries = h.0.entries;
     none = All-from_recursion (λ d. d ≡ None) h.0.entries (no_entries (schema_columns fs) (columns_of tree) (map column_in p.source.chunks) h.0.entries (recursion_from_All (λ c. is_dictionary c.data_type ≡ false) (schema_columns fs) n) h.0.of_source);
     laid = h.0.laid;

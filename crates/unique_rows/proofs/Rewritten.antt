@@ -24,14 +24,14 @@ use Rattle.unique_rows.specs.Held.{AreRowsIn}
 use Rattle.unique_rows.specs.Rewritten.{FilesAreRewritten, HasNoDictionary, IsRewritten, all_cut}
 
 -- the schema's own key is the only one, and goes
-keys_left : (e : Key) (keys : List Key) → keys ≡ e ∷ [] → are_same e.key schema_key ≡ true → filter (λ k. not (are_same k.key schema_key)) keys ≡ []
+pub keys_left : (e : Key) (keys : List Key) → keys ≡ e ∷ [] → are_same e.key schema_key ≡ true → filter (λ k. not (are_same k.key schema_key)) keys ≡ []
 keys_left e keys q s = rw (q, s) refl
 
-own_key : are_same schema_key schema_key ≡ true
+pub own_key : are_same schema_key schema_key ≡ true
 own_key = refl
 
 -- the key tells the schema
-told : {A : Type 0} (x y : A) (o : Option A) → o ≡ Some x → o ≡ Some y → x ≡ y
+pub told : {A : Type 0} (x y : A) (o : Option A) → o ≡ Some x → o ≡ Some y → x ≡ y
 told {A = A} x y o a b = ap (some_or x) (sym a ∙ b)
   where
     some_or : A → Option A → A

@@ -19,13 +19,13 @@ use Rattle.pq_tree.specs.declared.version.Version.{Version}
 use Rattle.schema_to_tree.specs.Table.{schema_of}
 use Rattle.pq_headline.specs.Columns.{schema_columns}
 use Rattle.pq_headline.specs.Lists.{AllZip3}
-use Rattle.pq_headline.specs.Output.{Style}
+use Rattle.pq_headline.specs.Output.{Style, all_chosen}
 use Rattle.pq_headline.specs.Rewrites.{HasFooterAt}
 use Rattle.pq_headline.specs.Rows.{HoldsRows, IsColumnOf}
 use Rattle.unique_rows.proofs.Laid.{AllNone, same_columns}
 use Rattle.unique_rows.specs.Held.{AreRowsIn, HasWays, HoldAll, RowsAreUnique}
 
-all_none : (ds : List (Option (List (Option Value)))) → All (λ d. d ≡ None) ds → AllNone ds
+pub all_none : (ds : List (Option (List (Option Value)))) → All (λ d. d ≡ None) ds → AllNone ds
 all_none ds h = none ds (recursion_from_All (λ d. d ≡ None) ds h)
   where
     none : (ds : List (Option (List (Option Value)))) → AllByRecursion (λ d. d ≡ None) ds → AllNone ds
@@ -42,7 +42,7 @@ group_rows s fs rows others out bytes place m g w r e h =
     let columns : map column_out out.chunks ≡ map column_in g.chunks = ap (λ x. x.columns) e in
     let shred : AllZip3 (IsColumnOf (map fields others)) (schema_columns fs) (columns_of (schema_of fs)) (map column_out out.chunks) =
     subst (λ x. AllZip3 (IsColumnOf (map fields others)) (schema_columns fs) (columns_of (schema_of fs)) x) (sym columns) h.rows_are.shred in
-    let same = same_columns s rows others (schema_columns fs) (columns_of (schema_of fs)) r.encodings r.entries out.chunks (all_none r.entries r.none) r.laid.columns shred in
+    let same = same_columns s rows others (schema_columns fs) (columns_of (schema_of fs)) (all_chosen r.deltas (schema_columns fs) (columns_of (schema_of fs))) r.entries out.chunks (all_none r.entries r.none) r.laid.columns shred in
     schema_unique (shapes_of fs) others rows w.structs h.rows_are.are r.are (sym (by_ways fs others w) ∙ same ∙ by_ways fs rows w)
 
 -- ---- all groups

@@ -1,5 +1,5 @@
 -- The rows that a file holds which was written as rows are laid out.
-use Rattle.std.specs.Prelude.{◌≡◌, ℕ, List, All, map, Option, None, false}
+use Rattle.std.specs.Prelude.{◌≡◌, ℕ, List, All, map, Option, None, Bool, false}
 use Rattle.std.specs.List.{AllZip}
 use Rattle.shredding.specs.Shape.{AreOf, HasNoEmptyStruct, struct, ways}
 use Rattle.shredding.specs.Slot.{Slots, Value}
@@ -9,12 +9,11 @@ use Rattle.pq_metadata.specs.Footer.{Footer, Key}
 use Rattle.pq_files.specs.Carried.{GroupPages}
 use Rattle.pq_files.specs.Layout.{OutGroup}
 use Rattle.pq_files.specs.Packed.{Packed}
-use Rattle.pq_files.specs.Page.{Encoding}
 use Rattle.pq_tree.specs.Tree.{Schema, columns_of}
 use Rattle.pq_tree.specs.declared.version.Version.{Version}
 use Rattle.pq_headline.specs.Columns.{schema_columns}
 use Rattle.pq_headline.specs.Lists.{AllZip3}
-use Rattle.pq_headline.specs.Output.{IsLaidGroup, Style}
+use Rattle.pq_headline.specs.Output.{IsLaidGroup, Style, all_chosen}
 use Rattle.pq_headline.specs.Rewrites.{HasFooterAt}
 use Rattle.pq_headline.specs.Rows.{HoldsRows}
 use Rattle.schema_to_tree.specs.Table.{schema_of}
@@ -24,13 +23,13 @@ pub record HasWays (fs : FieldTrees) : Type 0 where
   pub ways_are : map (λ c. c.way) (schema_columns fs) ≡ ways (struct false (shapes_of fs))
   pub structs : HasNoEmptyStruct (struct false (shapes_of fs))
 
--- Rows of the schema, and a group in which they are laid out without dictionaries.
+-- Rows of the schema, and a group in which they are laid out without dictionaries, in the encodings that are chosen with deltas or without.
 pub record AreRowsIn (s : Style) (fs : FieldTrees) (rows : List Slots) (out : OutGroup) : Type 0 where
   pub are : All (AreOf (shapes_of fs)) rows
-  pub encodings : List Encoding
+  pub deltas : Bool
   pub entries : List (Option (List (Option Value)))
   pub none : All (λ d. d ≡ None) entries
-  pub laid : IsLaidGroup s rows (schema_columns fs) (columns_of (schema_of fs)) encodings entries out
+  pub laid : IsLaidGroup s rows (schema_columns fs) (columns_of (schema_of fs)) (all_chosen deltas (schema_columns fs) (columns_of (schema_of fs))) entries out
 
 -- what a footer's groups hold, by whatever tree
 abbrev pub HoldAll : FieldTrees → List ℕ → ℕ → Footer → List GroupPages → List (List Slots) → Type 0

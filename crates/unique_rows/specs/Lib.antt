@@ -1,2 +1,4 @@
 pub mod Held
 pub mod Rewritten
+pub mod Valid
+pub mod Worked

@@ -32,7 +32,7 @@ use Rattle.write_pages.specs.Fits.{is_flat_path}
 use Rattle.write_pages.proofs.PageTable.{fits_served}
 use Rattle.write_pages.proofs.StoredOnce.{stored_once}
 use Rattle.write_pages.specs.Columns.{AreColumns, IsColumn, LeafNode}
-use Rattle.write_pages.specs.Holds.{ToGive, rows_of}
+use Rattle.write_pages.specs.Holds.{HaveBytes, ToGive, rows_of}
 use Rattle.write_pages.specs.Rule.{page_limit}
 use Rattle.write_pages.specs.declared.options.WriteOptions.{WriteOptions}
 use Rattle.write_groups.proofs.Laid.{statistics_moved}
@@ -80,7 +80,8 @@ chunked o l node w slots parts a e g h n v s some =
     let pieces : flat_map (λ (x : List Slot). x) g.pieces ≡ rows = ap (flat_map (λ (x : List Slot). x)) p.pieces ∙ pieces_are_rows rows k (at_least (page_limit o.data_pagesize_limit) (plain_length (physical_view t.physical_type) (values_in p.stored)) (length rows)) in
     let stored : AreStored g.type g.physical (column g.way (flat_map (λ (x : List Slot). x) g.pieces)) p.stored = as_given g (leaf_type (type_of a)) (physical_view t.physical_type) (path_way parts) rows p.stored p.type p.physical p.way pieces p.are_stored in
     let each : Each (λ (x : List Slot). 0 < length x) g.pieces = subst (λ (ps : List (List Slot)). Each (λ x. 0 < length x) ps) (sym p.pieces) (each_some k rows (at_least (page_limit o.data_pagesize_limit) (plain_length (physical_view t.physical_type) (values_in p.stored)) (length rows))) in
-    let made = paged g g.pieces p.stored each stored in
+    let bytes : HaveBytes g.type p.stored = subst (λ (x : LeafType). HaveBytes x p.stored) (sym p.type) p.have_bytes in
+    let made = paged g g.pieces p.stored each bytes stored in
     let served = fits_served (is_flat_path parts) (base (type_of a)) (physical_view t.physical_type) h.written.values h.written.fits.physical in
     record {
       chunk = record { entries = None; pages = made.pages; statistics = p.statistics.out };
@@ -91,7 +92,9 @@ chunked o l node w slots parts a e g h n v s some =
           repeats = sym (ap (λ (x : ℕ × ℕ). x.1) v) ∙ ap max_repetition (sym p.way);
           defines = sym (ap (λ (x : ℕ × ℕ). x.0) v) ∙ ap max_definition (sym p.way);
         };
-        once = λ xs ys zs x y. stored_once (type_of a) (physical_view t.physical_type) xs ys zs served (as_column g (leaf_type (type_of a)) (physical_view t.physical_type) p.type p.physical xs ys x) (as_column g (leaf_type (type_of a)) (physical_view t.physical_type) p.type p.physical xs zs y);
+        once = λ xs ys zs b c x y.
+            stored_once (type_of a) (physical_view t.physical_type) xs ys zs served (subst (λ (k : LeafType). HaveBytes k ys) p.type b) (subst (λ (k : LeafType). HaveBytes k zs) p.type c)
+            (as_column g (leaf_type (type_of a)) (physical_view t.physical_type) p.type p.physical xs ys x) (as_column g (leaf_type (type_of a)) (physical_view t.physical_type) p.type p.physical xs zs y);
         entries = refl;
         statistics =
             statistics_moved o.write_statistics g.options.write_statistics (leaf_type (type_of a)) g.type (physical_view t.physical_type) g.physical p.statistics.out (column (path_way parts) rows) (column g.way g.rows) (sym (ap (λ (x : WriteOptions). x.write_statistics) p.options)) (sym p.type)

@@ -12,6 +12,7 @@ use Rattle.pq_files.specs.Page.{Encoding, plain, dictionary, delta, delta_length
 use Rattle.pq_files.specs.Reasons.{AnyOf}
 use Rattle.pq_files.specs.Stored.{AreStored, IsStored}
 use Rattle.page_statistics.proofs.Unique.{statistics_are_unique}
+use Rattle.page_statistics.specs.Spelled.{HasOwnBytes}
 use Rattle.pq_pages.specs.DataPages.{DataPageValue}
 use Rattle.pq_pages.specs.Denotes.{IsPageFor}
 use Rattle.pq_pages.specs.declared.page.Page.TheVariants.{Data}
@@ -19,7 +20,7 @@ use Rattle.pq_tree.specs.Physical.{Physical}
 use Rattle.pq_tree.specs.Tree.{Leaf}
 use Rattle.pq_tree.specs.declared.version.Version.{Version}
 use Rattle.write_file.specs.Pages.{GivesNext, IsGiven}
-use Rattle.write_pages.specs.Holds.{HoldsRows, PageState, ToGive, to_give, later}
+use Rattle.write_pages.specs.Holds.{HaveBytes, HoldsRows, PageState, ToGive, to_give, later}
 use Rattle.write_pages.specs.Refused.{Gives, IsPastRoom}
 use Rattle.write_values.specs.Deltas.{encoding_name}
 use Rattle.write_file.specs.Pages.{encoding_view}
@@ -38,15 +39,20 @@ abbrev first_or : Value → List Triple → Value
 first_or d [] = d
 first_or d (t ∷ ts) = given_or d t.value
 
+bytes_alone : (t : LeafType) (s : Value) → HasOwnBytes t s → HaveBytes t (single (Some s))
+bytes_alone t s h = All-from_recursion (HasOwnBytes t) (s ∷ []) (h, tt)
+
 -- where no column is stored in two ways, no value is
-one_once : (t : LeafType) (p : Physical) → ((xs ys zs : List Triple) → AreStored t p xs ys → AreStored t p xs zs → ys ≡ zs) → (v s r : Value) → IsStored t p v s → IsStored t p v r → s ≡ r
-one_once t p once v s r h k =
-    ap (first_or s) (once (single (Some v)) (single (Some s)) (single (Some r)) (record { repetition = refl; definition = refl; value = h }, tt) (record { repetition = refl; definition = refl; value = k }, tt))
+one_once :
+    (t : LeafType) (p : Physical) → ((xs ys zs : List Triple) → HaveBytes t ys → HaveBytes t zs → AreStored t p xs ys → AreStored t p xs zs → ys ≡ zs)
+    → (v s r : Value) → HasOwnBytes t s → HasOwnBytes t r → IsStored t p v s → IsStored t p v r → s ≡ r
+one_once t p once v s r a b h k =
+    ap (first_or s) (once (single (Some v)) (single (Some s)) (single (Some r)) (bytes_alone t s a) (bytes_alone t r b) (record { repetition = refl; definition = refl; value = h }, tt) (record { repetition = refl; definition = refl; value = k }, tt))
 
 -- the page holds the rows of the first piece, so it is the first page of the chunk
 is_given : (g : ToGive) (piece : List Slot) (o : OutPage) (page : DataPageValue) (version : Version) (l : Leaf) (c : OutChunk) → GivesChunk version l c g → IsPageOf g.options.write_statistics g.encoding g.type g.physical g.way piece o → HoldsRows g.options g.encoding g.type g.node g.physical g.way piece page → IsGiven version l o page
 is_given g piece o page version l c k h r =
-    let triples = k.once (column g.way piece) r.out.triples o.triples r.triples h.triples in
+    let triples = k.once (column g.way piece) r.out.triples o.triples r.have_bytes h.have_bytes r.triples h.triples in
     let encoding = r.encoding ∙ sym h.encoding in
     let statistics = statistics_are_unique g.options.write_statistics g.type g.physical (column g.way piece) r.out.statistics o.statistics (one_once g.type g.physical k.once) r.statistics r.exact h.statistics h.exact in
     let same : r.out ≡ o = λ i. record { triples = triples i; encoding = encoding i; statistics = statistics i } in

@@ -1,23 +1,25 @@
 -- A column in pages.
-use Rattle.std.proofs.Common.{◌≡◌, ℕ, zero, suc, ◌+◌, ◌<◌, List, [], ◌∷◌, ◌++◌, length, flat_map, drop, Some, refl, sym, ap, subst, ◌∙◌, arith, nat_eq, cond}
+use Rattle.std.proofs.Common.{◌≡◌, ℕ, zero, suc, ◌+◌, ◌<◌, List, [], ◌∷◌, ◌++◌, length, flat_map, drop, Some, refl, sym, ap, subst, ◌∙◌, All, arith, nat_eq, cond}
 use Rattle.std.specs.List.{AllZip, AllByRecursion as Each}
 use Rattle.std.proofs.lemmas.Grind.{flat_map-append}
 use Rattle.std.proofs.lemmas.List.{length-take}
+use Rattle.std.proofs.lemmas.List.Elements.{All-from_recursion, filter_map-append, recursion_from_All}
 use Rattle.std.proofs.lemmas.List.Sums.{count_by-le-length}
 use Rattle.shredding.proofs.Counts.{count_by-cons, counted as rows_are_counted}
 use Rattle.shredding.specs.Laws.{starts_row}
 use Rattle.shredding.specs.Cut.{cut, pieces}
 use Rattle.shredding.specs.Shape.{LeafType}
 use Rattle.shredding.specs.Shred.{Triple, column, shred}
-use Rattle.shredding.specs.Slot.{Slot}
+use Rattle.shredding.specs.Slot.{Slot, Value}
 use Rattle.pq_files.specs.Layout.{OutPage}
-use Rattle.pq_files.specs.Page.{rows_in}
+use Rattle.pq_files.specs.Page.{rows_in, values_in}
 use Rattle.pq_files.specs.Stored.{AreStored, IsStoredTriple}
 use Rattle.pq_tree.specs.Physical.{Physical}
 use Rattle.page_statistics.proofs.Exist.{statistics_exist}
+use Rattle.page_statistics.specs.Spelled.{HasOwnBytes}
 use Rattle.write_groups.proofs.Lists.{split_zip, zip_length}
 use Rattle.write_groups.specs.Given.{IsPageOf}
-use Rattle.write_pages.specs.Holds.{ToGive}
+use Rattle.write_pages.specs.Holds.{HaveBytes, ToGive}
 
 abbrev joined : {A : Type 0} → List (List A) → List A
 joined ps = flat_map (λ p. p) ps
@@ -58,16 +60,31 @@ page_some : (g : ToGive) (p : List Slot) (ts : List Triple) → 0 < length p →
 page_some g p ts some h =
     omega (arith, some, rows_are_counted g.way p, count_by-le-length starts_row (column g.way p), zip_length (IsStoredTriple g.type g.physical) (column g.way p) ts h)
 
-pub paged : (g : ToGive) (ps : List (List Slot)) (stored : List Triple) → Each (λ p. 0 < length p) ps → AreStored g.type g.physical (column g.way (joined ps)) stored → Paged g ps stored
-paged g [] [] e h = record { pages = []; are = tt; whole = refl }
-paged g [] (t ∷ ts) e h = absurd h
-paged g (p ∷ ps) stored e h =
+each_front : {A : Type 0} (P : A → Type 0) (vs ws : List A) → Each P (vs ++ ws) → Each P vs
+each_front P [] ws k = tt
+each_front P (v ∷ vs) ws k = (k.0, each_front P vs ws k.1)
+
+each_behind : {A : Type 0} (P : A → Type 0) (vs ws : List A) → Each P (vs ++ ws) → Each P ws
+each_behind P [] ws k = k
+each_behind P (v ∷ vs) ws k = each_behind P vs ws k.1
+
+-- what is stored in front has bytes, and what is stored behind
+halves_have : (t : LeafType) (xs ys : List Triple) → HaveBytes t (xs ++ ys) → HaveBytes t xs × HaveBytes t ys
+halves_have t xs ys h =
+    let both = recursion_from_All (HasOwnBytes t) (values_in xs ++ values_in ys) (subst (λ (vs : List Value). All (HasOwnBytes t) vs) (filter_map-append (λ (x : Triple). x.value) xs ys) h) in
+    (All-from_recursion (HasOwnBytes t) (values_in xs) (each_front (HasOwnBytes t) (values_in xs) (values_in ys) both), All-from_recursion (HasOwnBytes t) (values_in ys) (each_behind (HasOwnBytes t) (values_in xs) (values_in ys) both))
+
+pub paged : (g : ToGive) (ps : List (List Slot)) (stored : List Triple) → Each (λ p. 0 < length p) ps → HaveBytes g.type stored → AreStored g.type g.physical (column g.way (joined ps)) stored → Paged g ps stored
+paged g [] [] e b h = record { pages = []; are = tt; whole = refl }
+paged g [] (t ∷ ts) e b h = absurd h
+paged g (p ∷ ps) stored e b h =
     let parts = subst (λ (xs : List Triple). AllZip (IsStoredTriple g.type g.physical) xs stored) (flat_map-append (λ (s : Slot). shred g.way s 0 0 0) p (joined ps)) h in
     let two = split_zip (IsStoredTriple g.type g.physical) (column g.way p) (column g.way (joined ps)) stored parts in
-    let st = statistics_exist g.options.write_statistics g.type g.physical (column g.way p) two.0 two.3 in
-    let rest = paged g ps two.1 e.1 two.4 in
+    let bs = halves_have g.type two.0 two.1 (subst (λ (xs : List Triple). HaveBytes g.type xs) two.2 b) in
+    let st = statistics_exist g.options.write_statistics g.type g.physical (column g.way p) two.0 two.3 bs.0 in
+    let rest = paged g ps two.1 e.1 bs.1 two.4 in
     record {
       pages = record { triples = two.0; encoding = g.encoding; statistics = st.0 } ∷ rest.pages;
-      are = (record { triples = two.3; encoding = refl; statistics = st.1; exact = st.2; some = page_some g p two.0 e.0 two.3 }, rest.are);
+      are = (record { triples = two.3; have_bytes = bs.0; encoding = refl; statistics = st.1; exact = st.2; some = page_some g p two.0 e.0 two.3 }, rest.are);
       whole = ap (λ (xs : List Triple). two.0 ++ xs) rest.whole ∙ sym two.2;
     }

@@ -20,23 +20,24 @@ use Rattle.pq_files.specs.Written.{pairs_in, statistics_of}
 use Rattle.page_statistics.specs.Spelled.{IsExact}
 use Rattle.pq_pages.specs.Denotes.{IsLeafAs}
 use Rattle.write_groups.specs.declared.column.ChunkColumn.{ChunkColumn}
-use Rattle.write_pages.specs.Holds.{PageState, ToGive, to_give}
+use Rattle.write_pages.specs.Holds.{HaveBytes, PageState, ToGive, to_give}
 use Rattle.write_pages.specs.Refused.{IsPastRoom}
 
 -- the page of a piece of rows: their stored values, in the encoding, and their statistics exactly where they are wanted
 pub record IsPageOf (wanted : Bool) (e : Encoding) (t : LeafType) (p : Physical) (w : Way) (piece : List Slot) (o : OutPage) : Type 0 where
   pub triples : AreStored t p (column w piece) o.triples
+  pub have_bytes : HaveBytes t o.triples
   pub encoding : o.encoding ≡ e
   pub statistics : HasStatistics wanted t p o.statistics (column w piece) (values_in (column w piece))
   pub exact : IsExact t p (values_in (column w piece)) o.statistics
   pub some : 0 < length o.triples
 
--- The pages that are still to be given are those of this chunk of a leaf, whose statistics are those of the whole column: no column of the type is stored in two ways, and the leaf is one of its
+-- The pages that are still to be given are those of this chunk of a leaf, whose statistics are those of the whole column: no column of the type is stored in two ways, decimals as bytes, and the leaf is one of its
 -- physical type and greatest levels.
 pub record GivesChunk (version : Version) (l : Leaf) (c : OutChunk) (g : ToGive) : Type 0 where
   pub version_is : g.options.version ≡ version
   pub leaf : IsLeafAs l g.physical (max_repetition g.way) (max_definition g.way)
-  pub once : (xs ys zs : List Triple) → AreStored g.type g.physical xs ys → AreStored g.type g.physical xs zs → ys ≡ zs
+  pub once : (xs ys zs : List Triple) → HaveBytes g.type ys → HaveBytes g.type zs → AreStored g.type g.physical xs ys → AreStored g.type g.physical xs zs → ys ≡ zs
   pub entries : c.entries ≡ None
   pub statistics : HasStatistics g.options.write_statistics g.type g.physical c.statistics (column g.way g.rows) (values_in (column g.way g.rows))
   pub pages : AllZip (IsPageOf g.options.write_statistics g.encoding g.type g.physical g.way) g.pieces c.pages

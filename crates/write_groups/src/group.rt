@@ -110,7 +110,8 @@ fn are_so_many(chunk: &Chunk, encodings: &Vec<Vec<Encoding>>, fields: &Vec<Parqu
 ///   `array_to_columns` says), or its encodings are not as many as its leaves.
 /// - `NotYetImplemented(N7)`: a tree nests past 128.
 /// - `NotYetImplemented(N4)`: a flat column in another encoding than PLAIN and the deltas that its type may have.
-/// - `NotYetImplemented(N5)`: values of a leaf's type are not written.
+/// - `NotYetImplemented(N5)`: values of a leaf's type are not written in such a column.
+/// - `InvalidArgumentError(A7)`: a decimal is past what its physical type holds.
 /// - `Memory`: memory ran out.
 pub fn row_group_iter(
     alloc: Global,

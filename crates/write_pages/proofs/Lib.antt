@@ -7,4 +7,6 @@ pub mod PageTable
 pub mod PiecesLeft
 pub mod RowRule
 pub mod StoredOnce
+pub mod StoredBytes
+pub mod WidePieces
 pub mod WrittenForms

@@ -32,17 +32,18 @@ use Rattle.write_places.proofs.Values.{values_are_at_places}
 use Rattle.write_values.specs.declared.measured.Measured.{Measured}
 use Rattle.write_values.specs.Pages.{IsColumnPage, column_room, out_page, stored_column, value_column}
 use Rattle.write_values.specs.declared.page.PageForm.{PageForm}
+use Rattle.write_values.specs.Decimals.{HasWide}
 use Rattle.write_values.specs.Deltas.{page_encoding}
 use Rattle.write_values.specs.Rows.{Measures}
 use Rattle.write_values.specs.Served.{is_served}
 use Rattle.write_values.specs.Stored.{stored_at}
 use Rattle.write_values.proofs.ServedColumns.{column_stored, slots_are_values}
 use Rattle.write_pages.specs.declared.options.WriteOptions.{WriteOptions}
-use Rattle.write_pages.specs.Fits.{is_flat_path}
 use Rattle.write_pages.specs.Holds.{HoldsRows}
 use Rattle.write_pages.specs.Refused.{IsPastRoom}
 use Rattle.write_pages.specs.Sized.{AreMeasured}
-use Rattle.write_pages.proofs.StoredOnce.{stored_once}
+use Rattle.write_pages.proofs.StoredBytes.{column_bytes}
+use Rattle.write_pages.proofs.StoredOnce.{sizes_once}
 
 -- the form of the pages that are asked for
 abbrev pub form_of : WriteOptions → Bool → PageForm
@@ -68,6 +69,16 @@ module _ (a : ArrayTree) (p : Physical) (nested : List Nested) (s : IsSound a) (
   column_is : nested_column (value_at a) nested ≡ ts
   column_is = ap (λ (f : ℕ → Slot). column (path_way (parts_of nested)) (path_slots f (parts_of nested))) (λ k i. slots_are_values a p i s e k)
 
+  -- and so is what is held of it
+  pub rows_held : ¬ HasWide (leaf_type (type_of a)) p ts → ¬ HasWide (leaf_type (type_of a)) p (value_column a nested)
+  rows_held n = subst (λ (xs : List Triple). ¬ HasWide (leaf_type (type_of a)) p xs) (sym column_is) n
+
+  pub rows_wide : HasWide (leaf_type (type_of a)) p (value_column a nested) ↔ HasWide (leaf_type (type_of a)) p ts
+  rows_wide = (
+    λ h. subst (λ (xs : List Triple). HasWide (leaf_type (type_of a)) p xs) column_is h,
+    λ h. subst (λ (xs : List Triple). HasWide (leaf_type (type_of a)) p xs) (sym column_is) h,
+  )
+
   pub rows_stored : AreStored (leaf_type (type_of a)) p (value_column a nested) (stored_column a p nested) → AreStored (leaf_type (type_of a)) p ts (stored_column a p nested)
   rows_stored h = subst (λ (xs : List Triple). AreStored (leaf_type (type_of a)) p xs (stored_column a p nested)) column_is h
 
@@ -77,6 +88,7 @@ module _ (a : ArrayTree) (p : Physical) (nested : List Nested) (s : IsSound a) (
     out = out_page (page_encoding with_deltas (leaf_type (type_of a)) p) (stored_column a p nested) h.statistics;
     denotes = h.denotes;
     triples = rows_stored are;
+    have_bytes = column_bytes a p nested s e;
     encoding = refl;
     statistics = subst (λ (xs : List Triple). HasStatistics o.write_statistics (leaf_type (type_of a)) p h.statistics xs (values_in xs)) column_is h.has;
     exact = subst (λ (xs : List Triple). IsExact (leaf_type (type_of a)) p (values_in xs) h.statistics) column_is h.exact;
@@ -108,14 +120,14 @@ module _ (a : ArrayTree) (p : Physical) (nested : List Nested) (s : IsSound a) (
   pub is_past_room : AreStored (leaf_type (type_of a)) p (value_column a nested) (stored_column a p nested) → IsPastRoom (leaf_type (type_of a)) p ts → max_size < column_room p (stored_column a p nested)
   is_past_room are h =
       let all = rows_stored are in
-      let same : h.0 ≡ stored_column a p nested = stored_once (type_of a) p ts h.0 (stored_column a p nested) e h.1 all in
-      subst (λ (n : ℕ). max_size < room n (plain_length p (values_in (stored_column a p nested)))) (length_is (stored_column a p nested) all)
-      (subst (λ (xs : List Triple). max_size < room (length ts) (plain_length p (values_in xs))) same h.2)
+      let same : plain_length p (values_in h.0) ≡ plain_length p (values_in (stored_column a p nested)) = sizes_once (type_of a) p ts h.0 (stored_column a p nested) e h.1 all in
+      subst (λ (n : ℕ). max_size < room n (plain_length p (values_in (stored_column a p nested)))) (length_is (stored_column a p nested) all) (subst (λ (n : ℕ). max_size < room (length ts) n) same h.2)
 
   -- what is measured is the stored column's
-  pub are_measured : (m : Measured) → Measures p (tree_len a) (stored_at a p) (path_places (parts_of nested)) m → AreMeasured (leaf_type (type_of a)) p (path_way (parts_of nested)) (path_slots (leaf_slot a) (parts_of nested)) m.plain
-  are_measured m h = record {
+  pub are_measured : (m : Measured) → ¬ HasWide (leaf_type (type_of a)) p ts → Measures p (tree_len a) (stored_at a p) (path_places (parts_of nested)) m → AreMeasured (leaf_type (type_of a)) p (path_way (parts_of nested)) (path_slots (leaf_slot a) (parts_of nested)) m.plain
+  are_measured m n h = record {
     stored = stored_column a p nested;
-    are_stored = rows_stored (column_stored a p nested s e h.within);
+    are_stored = rows_stored (column_stored a p nested s e h.within (rows_held n));
+    have_bytes = column_bytes a p nested s e;
     bytes = h.plain ∙ ap (λ (vs : List Value). min (plain_length p vs) (2 ^ 128 - 1)) (sym (values_are_at_places (stored_at a p) nested));
   }

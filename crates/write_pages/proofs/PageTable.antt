@@ -1,11 +1,12 @@
 -- Values that are written, by the page table.
 use Rattle.std.proofs.Common.{◌≡◌, ℕ, Bool, true, false, ◌&&◌, List, true≢false, Option, Some, None, if◌then◌else◌, refl, sym, ap, ◌∙◌}
+use Rattle.std.specs.Prelude.{◌||◌}
 use Rattle.std.proofs.lemmas.Bool.{or_left}
 use Rattle.shredding.specs.Parts.{Part}
 use Rattle.columns_core.specs.Shapes.{base}
 use Rattle.columns_core.specs.declared.types.IntervalUnit.TheVariants.{YearMonth, DayTime}
 use Rattle.columns_core.specs.declared.types.TimeUnit.TheVariants.{Second, Millisecond, Microsecond, Nanosecond}
-use Rattle.columns_core.specs.Tree.{TypeTree, t_boolean, t_int8, t_int16, t_int32, t_int64, t_uint8, t_uint16, t_uint32, t_uint64, t_timestamp, t_date32, t_date64, t_time32, t_time64, t_duration, t_interval, t_binary, t_fixed_size_binary, t_large_binary, t_utf8, t_large_utf8}
+use Rattle.columns_core.specs.Tree.{TypeTree, t_boolean, t_int8, t_int16, t_int32, t_int64, t_uint8, t_uint16, t_uint32, t_uint64, t_timestamp, t_date32, t_date64, t_time32, t_time64, t_duration, t_interval, t_binary, t_fixed_size_binary, t_large_binary, t_utf8, t_large_utf8, t_decimal}
 use Rattle.columns_slots.specs.Slots.{type_of}
 use Rattle.columns_slots.specs.Tree.{ArrayTree}
 use Rattle.columns_slots.specs.Types.{is_boolean}
@@ -14,7 +15,7 @@ use Rattle.schema_fit.specs.declared.page_table.Row.{Row}
 use Rattle.schema_fit.specs.declared.page_table.Stored.{Stored}
 use Rattle.schema_fit.specs.declared.page_table.Stored.TheVariants as S
 use Rattle.schema_fit.specs.PageTable.{allows, only_flat}
-use Rattle.write_values.specs.Served.{is_fixed, is_small, is_wide, is_string, is_served}
+use Rattle.write_values.specs.Served.{is_decimal, is_fixed, is_small, is_wide, is_string, is_served}
 use Rattle.write_pages.specs.Fits.{row_at, is_flat_path, is_written, is_written_along, is_written_flat, is_written_in}
 
 -- a row that allows exactly the physical types that are written
@@ -23,7 +24,7 @@ pub record HasRow (t : TypeTree) : Type 0 where
   pub is : row_at t ≡ Some row
   pub allows_written : (p : Physical) → allows row.stored p ≡ is_served t p
 
-module _ (t : TypeTree) (stored : Stored) (a : allows stored int32 ≡ is_small t) (b : allows stored int64 ≡ is_wide t) (c : allows stored byte_array ≡ is_string t) (d : allows stored boolean ≡ is_boolean t) (e : allows stored int96 ≡ false) (f : allows stored float ≡ false) (g : allows stored double ≡ false) (h : (n : ℕ) → allows stored (fixed n) ≡ is_fixed n t) where
+module _ (t : TypeTree) (stored : Stored) (a : allows stored int32 ≡ (is_small t || is_decimal t)) (b : allows stored int64 ≡ (is_wide t || is_decimal t)) (c : allows stored byte_array ≡ is_string t) (d : allows stored boolean ≡ is_boolean t) (e : allows stored int96 ≡ false) (f : allows stored float ≡ false) (g : allows stored double ≡ false) (h : (n : ℕ) → allows stored (fixed n) ≡ is_fixed n t) where
   each : (p : Physical) → allows stored p ≡ is_served t p
   each int32 = a
   each int64 = b
@@ -34,13 +35,13 @@ module _ (t : TypeTree) (stored : Stored) (a : allows stored int32 ≡ is_small 
   each double = g
   each (fixed n) = h n
 
-small : (t : TypeTree) → is_boolean t ≡ false → is_small t ≡ true → is_wide t ≡ false → is_string t ≡ false → ((n : ℕ) → is_fixed n t ≡ false) → (p : Physical) → allows S.Int32 p ≡ is_served t p
+small : (t : TypeTree) → is_boolean t ≡ false → (is_small t || is_decimal t) ≡ true → (is_wide t || is_decimal t) ≡ false → is_string t ≡ false → ((n : ℕ) → is_fixed n t ≡ false) → (p : Physical) → allows S.Int32 p ≡ is_served t p
 small t d a b c f = each t S.Int32 (sym a) (sym b) (sym c) (sym d) refl refl refl (λ n. sym (f n))
 
-wide : (t : TypeTree) → is_boolean t ≡ false → is_small t ≡ false → is_wide t ≡ true → is_string t ≡ false → ((n : ℕ) → is_fixed n t ≡ false) → (p : Physical) → allows S.Int64 p ≡ is_served t p
+wide : (t : TypeTree) → is_boolean t ≡ false → (is_small t || is_decimal t) ≡ false → (is_wide t || is_decimal t) ≡ true → is_string t ≡ false → ((n : ℕ) → is_fixed n t ≡ false) → (p : Physical) → allows S.Int64 p ≡ is_served t p
 wide t d a b c f = each t S.Int64 (sym a) (sym b) (sym c) (sym d) refl refl refl (λ n. sym (f n))
 
-string : (t : TypeTree) → is_boolean t ≡ false → is_small t ≡ false → is_wide t ≡ false → is_string t ≡ true → ((n : ℕ) → is_fixed n t ≡ false) → (p : Physical) → allows S.ByteArray p ≡ is_served t p
+string : (t : TypeTree) → is_boolean t ≡ false → (is_small t || is_decimal t) ≡ false → (is_wide t || is_decimal t) ≡ false → is_string t ≡ true → ((n : ℕ) → is_fixed n t ≡ false) → (p : Physical) → allows S.ByteArray p ≡ is_served t p
 string t d a b c f = each t S.ByteArray (sym a) (sym b) (sym c) (sym d) refl refl refl (λ n. sym (f n))
 
 pub written_row : (b : Bool) (t : TypeTree) → is_written_in b t ≡ true → HasRow t
@@ -69,6 +70,11 @@ written_row true (t_fixed_size_binary n) w = record {
   row = record { stored = S.Fixed n; is_nested = false };
   is = ap (λ (c : Bool). if c then only_flat (S.Fixed n) else None) w;
   allows_written = each (t_fixed_size_binary n) (S.Fixed n) refl refl refl refl refl refl refl (λ m. refl);
+}
+written_row true (t_decimal q x) w = record {
+  row = record { stored = S.Decimal; is_nested = false };
+  is = refl;
+  allows_written = each (t_decimal q x) S.Decimal refl refl refl refl refl refl refl (λ m. refl);
 }
 written_row true (t_interval YearMonth) w = record {
   row = record { stored = S.Fixed 12; is_nested = false };

@@ -1,6 +1,8 @@
 -- Pieces of rows, one taken after another.
 use Rattle.std.proofs.Common.{◌≡◌, ◌⊎◌, ℕ, zero, suc, ◌+◌, ◌-◌, ◌<◌, ◌≤◌, min, Bool, true, false, true≢false, Some, Option, List, [], ◌∷◌, take, drop, length, ap, refl, sym, subst, ◌∙◌, arith, inl, inr}
 use Rattle.std.proofs.lemmas.Bool.{cases_lt}
+use Rattle.std.proofs.lemmas.List.Elements.{All-from_recursion}
+use Rattle.page_statistics.specs.Spelled.{HasOwnBytes}
 use Rattle.std.proofs.lemmas.List.{drop_all, drop-drop, length-drop, take_min}
 use Rattle.shredding.specs.Cut.{cut, pieces}
 use Rattle.shredding.specs.Slot.{Slot}
@@ -63,11 +65,12 @@ nothing_of (r ∷ rows) e = absurd (omega (arith, e))
 
 pub none_by_rule : (limit : Option ℕ) (t : LeafType) (p : Physical) (w : Way) (rows : List Slot) (n : ℕ) → length rows ≡ 0 → IsByRule limit t p w rows n
 none_by_rule limit t p w rows n e =
-    subst (λ (xs : List Slot). IsByRule limit t p w xs n) (sym (nothing_of rows e)) (record { stored = []; are_stored = tt; pieces = refl })
+    subst (λ (xs : List Slot). IsByRule limit t p w xs n) (sym (nothing_of rows e)) (record { stored = []; are_stored = tt; have_bytes = All-from_recursion (HasOwnBytes t) [] tt; pieces = refl })
 
 pub some_by_rule : (limit : Option ℕ) (t : LeafType) (p : Physical) (w : Way) (rows : List Slot) (plain n count : ℕ) → AreMeasured t p w rows plain → count ≡ length rows → ((size : ℕ) → plain ≡ min size 340282366920938463463374607431768211455 → n ≡ rows_per_page (page_limit limit) size count) → IsByRule limit t p w rows n
 some_by_rule limit t p w rows plain n count m e h = record {
   stored = m.stored;
   are_stored = m.are_stored;
+  have_bytes = m.have_bytes;
   pieces = ap (λ (k : ℕ). cut rows (Some k)) (h (plain_length p (values_in m.stored)) m.bytes ∙ ap (λ (k : ℕ). rows_per_page (page_limit limit) (plain_length p (values_in m.stored)) k) e);
 }

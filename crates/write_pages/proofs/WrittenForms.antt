@@ -1,10 +1,10 @@
 -- The encodings in which pages are written.
-use Rattle.std.proofs.Common.{◌≡◌, ◌≢◌, ℕ, Bool, true, false, true≢false, cond, Some, List, refl, sym, ap}
+use Rattle.std.proofs.Common.{◌≡◌, ◌≢◌, ℕ, Bool, true, false, true≢false, cond, Some, List, refl, sym, ap, inl, inr}
 use Rattle.std.specs.Prelude.{◌&&◌}
 use Rattle.shredding.specs.Parts.{Part}
 use Rattle.shredding.specs.Shape.{LeafType, nothing, truths, text, binary, signed, unsigned, fixed_bytes, decimal, months, days}
 use Rattle.columns_core.specs.Shapes.{base, leaf_type}
-use Rattle.columns_core.specs.Tree.{TypeTree, t_fixed_size_binary, t_interval, t_boolean, t_int8, t_int16, t_int32, t_int64, t_uint8, t_uint16, t_uint32, t_uint64, t_timestamp, t_date32, t_date64, t_time32, t_time64, t_duration, t_binary, t_large_binary, t_utf8, t_large_utf8, t_extension}
+use Rattle.columns_core.specs.Tree.{TypeTree, t_decimal, t_fixed_size_binary, t_interval, t_boolean, t_int8, t_int16, t_int32, t_int64, t_uint8, t_uint16, t_uint32, t_uint64, t_timestamp, t_date32, t_date64, t_time32, t_time64, t_duration, t_binary, t_large_binary, t_utf8, t_large_utf8, t_extension}
 use Rattle.columns_core.specs.declared.types.IntervalUnit.TheVariants.{YearMonth, DayTime}
 use Rattle.columns_slots.specs.Types.{is_boolean}
 use Rattle.pq_tree.specs.Physical.{Physical, boolean, int32, int64, byte_array, fixed}
@@ -14,7 +14,8 @@ use Rattle.pq_files.specs.Layout.{delta_of}
 use Rattle.pq_files.specs.Page.{Encoding, plain, delta, delta_length}
 use Rattle.schema_to_tree.specs.Encodes.{is_delta, is_strings}
 use Rattle.write_values.specs.Deltas.{page_encoding}
-use Rattle.write_values.specs.Served.{is_small, is_wide, is_string, is_fixed, is_served}
+use Rattle.write_values.specs.Served.{is_decimal, is_small, is_wide, is_string, is_fixed, is_served}
+use Rattle.write_values.proofs.ServedTypes.{either}
 use Rattle.write_pages.specs.Fits.{is_flat_path, is_written_as}
 use Rattle.write_pages.specs.Holds.{encoding_view, is_delta_encoding, wants_deltas, written_encoding}
 use Rattle.write_pages.specs.Refused.{IsUnwritten}
@@ -49,10 +50,15 @@ small_no_string t_uint16 e = refl
 small_no_string t_uint32 e = refl
 small_no_string t e = absurd (true≢false (sym e))
 
+decimal_no_string : (t : TypeTree) → is_decimal t ≡ true → is_strings t ≡ false
+decimal_no_string (t_decimal p s) e = refl
+decimal_no_string t e = absurd (true≢false (sym e))
+
 fixed_no_string : (n : ℕ) (t : TypeTree) → is_fixed n t ≡ true → is_strings t ≡ false
 fixed_no_string n (t_fixed_size_binary m) e = refl
 fixed_no_string n (t_interval YearMonth) e = refl
 fixed_no_string n (t_interval DayTime) e = refl
+fixed_no_string n (t_decimal p s) e = refl
 fixed_no_string n t e = absurd (true≢false (sym e))
 
 wide_no_string : (t : TypeTree) → is_wide t ≡ true → is_strings t ≡ false
@@ -136,8 +142,8 @@ module _ (l : LeafType) (n : l ≢ nothing) (t : TypeTree) where
   numbers p s h = absurd (true≢false (sym s))
 
   strings : (p : Physical) → is_served (base t) p ≡ true → ¬ (is_written_as E.DeltaLengthByteArray t p ≡ false) → IsAsked p E.DeltaLengthByteArray
-  strings int32 s h = absurd (h (small_no_string (base t) s))
-  strings int64 s h = absurd (h (wide_no_string (base t) s))
+  strings int32 s h = absurd (h (elim (either (is_small (base t)) (is_decimal (base t)) s) [ inl k ↦ small_no_string (base t) k | inr d ↦ decimal_no_string (base t) d ]))
+  strings int64 s h = absurd (h (elim (either (is_wide (base t)) (is_decimal (base t)) s) [ inl k ↦ wide_no_string (base t) k | inr d ↦ decimal_no_string (base t) d ]))
   strings byte_array s h = ap Some (sym (string_delta l n))
   strings boolean s h = absurd (h (truth_no_string (base t) s))
   strings (fixed k) s h = absurd (h (fixed_no_string k (base t) s))

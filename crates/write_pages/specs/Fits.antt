@@ -5,7 +5,7 @@ use Rattle.shredding.specs.Parts.{Part, path_way}
 use Rattle.shredding.specs.Slot.{Slot}
 use Rattle.columns_core.specs.declared.types.IntervalUnit.TheVariants.{YearMonth, DayTime}
 use Rattle.columns_core.specs.Shapes.{base}
-use Rattle.columns_core.specs.Tree.{TypeTree, t_dictionary, t_fixed_size_binary, t_interval}
+use Rattle.columns_core.specs.Tree.{TypeTree, t_decimal, t_dictionary, t_fixed_size_binary, t_interval}
 use Rattle.columns_slots.specs.Slots.{type_of}
 use Rattle.columns_slots.specs.Types.{is_boolean}
 use Rattle.columns_slots.specs.Tree.{ArrayTree}
@@ -48,15 +48,16 @@ abbrev pub is_written : TypeTree → Bool
 is_written t = is_boolean t || is_small t || is_wide t || is_string t
 
 -- Values of a type, without its extensions, are written in a column that is no more than its leaf: byte strings of a length from 1 to
--- 2^31 - 1, and intervals of months or of days.
+-- 2^31 - 1, decimals, and intervals of months or of days.
 abbrev pub is_written_flat : TypeTree → Bool
 is_written_flat (t_fixed_size_binary n) = is_stored_length n
+is_written_flat (t_decimal precision scale) = true
 is_written_flat (t_interval YearMonth) = true
 is_written_flat (t_interval DayTime) = true
 is_written_flat t = false
 
 -- Values of a type, without its extensions, are written in a column that is no more than its leaf, or in one that is. Not yet written are
--- decimals, nulls alone and dictionaries; other types are in no page.
+-- nulls alone and dictionaries; other types are in no page.
 abbrev pub is_written_in : Bool → TypeTree → Bool
 is_written_in is_flat t = is_written t || (is_flat && is_written_flat t)
 

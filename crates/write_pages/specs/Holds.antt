@@ -1,5 +1,5 @@
 -- What a page holds of an array's rows (Parquet format, "Data Pages", "Nested Encoding").
-use Rattle.std.specs.Prelude.{◌≡◌, ℕ, ◌≤◌, pos, Bool, true, false, Option, Some, None, List, [], length, drop, cond, ◌&&◌}
+use Rattle.std.specs.Prelude.{◌≡◌, ℕ, ◌≤◌, pos, Bool, true, false, Option, Some, None, List, [], length, drop, cond, ◌&&◌, All}
 use Rattle.shredding.specs.Cut.{cut}
 use Rattle.shredding.specs.Parts.{Part, path_way}
 use Rattle.shredding.specs.Shape.{LeafType, nothing, Way}
@@ -23,7 +23,7 @@ use Rattle.pq_files.specs.Page.{Encoding, plain, dictionary, delta, delta_length
 use Rattle.pq_files.specs.Room.{room, max_size}
 use Rattle.pq_files.specs.Statistics.{HasStatistics}
 use Rattle.pq_files.specs.Stored.{AreStored}
-use Rattle.page_statistics.specs.Spelled.{IsExact}
+use Rattle.page_statistics.specs.Spelled.{HasOwnBytes, IsExact}
 use Rattle.page_statistics.specs.Stated.{AreStated}
 use Rattle.pq_pages.specs.DataPages.{DataPageValue}
 use Rattle.pq_pages.specs.Denotes.{Denotes}
@@ -55,6 +55,10 @@ is_delta_encoding e = false
 abbrev pub wants_deltas : List Part → RustEncoding → Bool
 wants_deltas parts e = is_flat_path parts && is_delta_encoding e
 
+-- What is stored for decimals are bytes, where it is byte strings. So a column of them has one list of stored values.
+abbrev pub HaveBytes : LeafType → List Triple → Type 0
+HaveBytes t stored = All (HasOwnBytes t) (values_in stored)
+
 -- A page of some rows along a way, whose leaf is of the leaf type and of this node and physical type. It denotes the rows' column, with the
 -- stored value of each value, in the encoding, within its room, and with statistics exactly where they are asked for, whose
 -- texts are those of the stored values. Its descriptor is the node with the greatest levels of the way.
@@ -62,6 +66,7 @@ pub record HoldsRows (o : WriteOptions) (e : Encoding) (t : LeafType) (node : Tr
   pub out : OutPage
   pub denotes : Denotes o.version p (max_repetition w) (max_definition w) None out page
   pub triples : AreStored t p (column w rows) out.triples
+  pub have_bytes : HaveBytes t out.triples
   pub encoding : out.encoding ≡ e
   pub statistics : HasStatistics o.write_statistics t p out.statistics (column w rows) (values_in (column w rows))
   pub exact : IsExact t p (values_in (column w rows)) out.statistics
@@ -137,4 +142,5 @@ pub record IsPagesOf (o : WriteOptions) (type_ : PrimitiveType) (parts : List Pa
   pub statistics : AreStated o.write_statistics (leaf_type (type_of a)) (physical_view type_.physical_type) (column (path_way parts) (rows_of parts a)) g.statistics
   pub stored : List Triple
   pub are_stored : AreStored (leaf_type (type_of a)) (physical_view type_.physical_type) (column (path_way parts) (rows_of parts a)) stored
+  pub have_bytes : HaveBytes (leaf_type (type_of a)) stored
   pub pieces : g.pieces ≡ pieces_by_rule o.data_pagesize_limit (plain_length (physical_view type_.physical_type) (values_in stored)) (rows_of parts a)

@@ -1,14 +1,15 @@
 -- Why a page is refused.
 use Rattle.std.specs.Prelude.{◌≡◌, ◌⊎◌, ◌<◌, true, false, Option, Some, None, List, [], ◌∷◌, length, Result, Ok, Err}
-use Rattle.shredding.specs.Parts.{Part}
+use Rattle.shredding.specs.Parts.{Part, path_way}
 use Rattle.shredding.specs.Shape.{LeafType}
 use Rattle.shredding.specs.Shred.{Triple, column}
 use Rattle.shredding.specs.Slot.{Slot}
 use Rattle.columns_base.specs.declared.error.Error.{Error}
 use Rattle.columns_base.specs.declared.error.Error.TheVariants.{Memory, Overflow, InvalidArgumentError, NotYetImplemented}
-use Rattle.columns_base.specs.declared.error.A.TheVariants.{A8}
+use Rattle.columns_base.specs.declared.error.A.TheVariants.{A7, A8}
 use Rattle.columns_base.specs.declared.error.N.TheVariants.{N4, N5}
 use Rattle.columns_base.specs.declared.error.V.TheVariants.{V3}
+use Rattle.columns_core.specs.Shapes.{leaf_type}
 use Rattle.columns_core.specs.Tree.{TypeTree}
 use Rattle.columns_slots.specs.Slots.{type_of}
 use Rattle.columns_slots.specs.Tree.{ArrayTree}
@@ -24,6 +25,7 @@ use Rattle.pq_files.specs.Room.{room, max_size}
 use Rattle.pq_files.specs.Stored.{AreStored}
 use Rattle.pq_pages.specs.declared.page.Page.{Page}
 use Rattle.pq_pages.specs.declared.page.Page.TheVariants.{Data, Dict}
+pub use Rattle.write_values.specs.Decimals.{HasWide}
 use Rattle.write_pages.specs.declared.options.WriteOptions.{WriteOptions}
 use Rattle.write_pages.specs.Fits.{FitsColumn, is_flat_path, is_written_along, is_written_as}
 use Rattle.write_pages.specs.Holds.{HoldsRows, ToGive, later, rows_of}
@@ -45,6 +47,7 @@ RefusesPages o type_ parts a e error =
     ((error ≡ NotYetImplemented N4) × IsUnwritten parts (type_of a) (physical_view type_.physical_type) e)
     ⊎ ((error ≡ NotYetImplemented N5) × (¬ IsUnwritten parts (type_of a) (physical_view type_.physical_type) e) × (is_written_along parts a ≡ false))
     ⊎ ((error ≡ InvalidArgumentError A8) × (¬ IsUnwritten parts (type_of a) (physical_view type_.physical_type) e) × (is_written_along parts a ≡ true) × ¬ (IsInBounds parts × FitsColumn parts (rows_of parts a) (leaf_view type_) (physical_view type_.physical_type) a))
+    ⊎ ((error ≡ InvalidArgumentError A7) × AreWritten o type_ parts a e × HasWide (leaf_type (type_of a)) (physical_view type_.physical_type) (column (path_way parts) (rows_of parts a)))
 
 -- the room of a page of the column, with its stored values, passes the sizes of a header
 abbrev pub IsPastRoom : LeafType → Physical → List Triple → Type 0

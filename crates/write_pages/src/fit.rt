@@ -16,7 +16,7 @@ ghost use Rattle.pq_tree.specs.Views.{physical_view};
 ghost use Rattle.pq_tree.specs.Physical.{fixed};
 ghost use Rattle.schema_to_tree.specs.Encodes.{encodes};
 ghost use Rattle.write_values.specs.Served.{is_served};
-ghost use Rattle.write_pages.specs.Fits.{FitsColumn, is_flat_path, is_written_as, is_written_in, is_written_along, is_written_flat};
+ghost use Rattle.write_pages.specs.Fits.{FitsColumn, is_flat_path, is_written, is_written_as, is_written_in, is_written_along, is_written_flat};
 ghost use Rattle.write_pages.specs.Holds.{is_delta_encoding, rows_of, wants_deltas};
 ghost use Rattle.write_pages.specs.Refused.{IsUnwritten};
 
@@ -26,7 +26,7 @@ use levels::{Nested, is_in_bounds};
 use nested_paths::fits_leaf;
 use pq_tree::{Encoding, PhysicalType, PrimitiveType, Repetition};
 use schema_to_tree::can_encode;
-use write_values::is_served;
+use write_values::{is_decimal, is_served};
 
 const MISFIT: Error = Error::InvalidArgumentError(A::A8);
 
@@ -82,20 +82,30 @@ fn is_written_flat(data_type: &DataType) -> bool
 {
     match data_type.base() {
         DataType::FixedSizeBinary(size) => 1 <= *size && *size <= 2_147_483_647,
+        DataType::Decimal(_, _) => true,
         DataType::Interval(IntervalUnit::YearMonth | IntervalUnit::DayTime) => true,
         _ => false,
     }
+}
+
+// Whether values of the type are written in any column.
+fn is_written(data_type: &DataType) -> bool
+    ensures { result ≡ is_written (base (type_view data_type.now)) }
+{
+    if is_decimal(data_type) {
+        return false;
+    }
+    is_served(data_type, PhysicalType::Boolean)
+        || is_served(data_type, PhysicalType::Int32)
+        || is_served(data_type, PhysicalType::Int64)
+        || is_served(data_type, PhysicalType::ByteArray)
 }
 
 /// Whether values of the type are written, in a column that is no more than its leaf or in one that is.
 pub fn is_written_in(is_flat: bool, data_type: &DataType) -> bool
     ensures { result ≡ is_written_in is_flat (base (type_view data_type.now)) }
 {
-    is_served(data_type, PhysicalType::Boolean)
-        || is_served(data_type, PhysicalType::Int32)
-        || is_served(data_type, PhysicalType::Int64)
-        || is_served(data_type, PhysicalType::ByteArray)
-        || (is_flat && is_written_flat(data_type))
+    is_written(data_type) || (is_flat && is_written_flat(data_type))
 }
 
 /// That pages of the array are written so.

@@ -1,8 +1,9 @@
 //! One page of a path.
-ghost use Rattle.std.specs.Prelude.{◌≡◌, ◌⊎◌, ◌≤◌, true, false, length, IfOk, IfErr, Some};
+ghost use Rattle.std.specs.Prelude.{◌≡◌, ◌⊎◌, ◌≤◌, true, false, length, IfOk, OnOk, IfErr, Some};
 ghost use Rattle.shredding.specs.Parts.{IsPath, path_way, path_slots};
 ghost use Rattle.shredding.specs.Shred.{column};
-ghost use Rattle.columns_base.specs.declared.error.Error.TheVariants.{Memory, Overflow, NotYetImplemented};
+ghost use Rattle.columns_base.specs.declared.error.Error.TheVariants.{Memory, InvalidArgumentError, Overflow, NotYetImplemented};
+ghost use Rattle.columns_base.specs.declared.error.A.TheVariants.{A7};
 ghost use Rattle.columns_base.specs.declared.error.N.TheVariants.{N4, N5};
 ghost use Rattle.columns_base.specs.declared.error.V.TheVariants.{V3};
 ghost use Rattle.columns_array.specs.Boxed.{boxed};
@@ -21,17 +22,17 @@ ghost use Rattle.write_values.specs.Deltas.{page_encoding};
 ghost use Rattle.write_values.specs.Served.{is_served};
 ghost use Rattle.write_pages.specs.Fits.{FitsColumn, is_written_along};
 ghost use Rattle.write_pages.specs.Holds.{HoldsRows, written_encoding};
-ghost use Rattle.write_pages.specs.Refused.{IsPastRoom, IsUnwritten};
+ghost use Rattle.write_pages.specs.Refused.{HasWide, IsPastRoom, IsUnwritten};
 
 use crate::fit::{check_written, wants_deltas};
 use crate::options::WriteOptions;
 use columns_array::ArrayBox;
-use columns_core::Result;
+use columns_core::{A, Error, Result};
 use levels::Nested;
 use pq_pages::{DataPage, Page};
-use pq_tree::{Encoding, PrimitiveType};
+use pq_tree::{Encoding, PhysicalType, PrimitiveType};
 use std::alloc::Global;
-use write_values::{PageForm, data_page};
+use write_values::{PageForm, data_page, has_wide};
 
 // A page of a well-formed path over an array whose values are written, by deltas where it is wanted and the type has some.
 pub fn page_of_rows(
@@ -46,6 +47,7 @@ pub fn page_of_rows(
     requires parts { length nested.now ≤ 128 }
     requires leaf { tree_len (boxed array.now) ≡ leaf_count_or 0 (parts_of nested.now) }
     requires served { is_served (base (type_of (boxed array.now))) (physical_view type_.physical_type) ≡ true }
+    requires held { ¬ HasWide (leaf_type (type_of (boxed array.now))) (physical_view type_.physical_type) (column (path_way (parts_of nested.now)) (path_slots (leaf_slot (boxed array.now)) (parts_of nested.now))) }
     ensures ok { IfOk result (HoldsRows options (page_encoding with_deltas (leaf_type (type_of (boxed array.now))) (physical_view type_.physical_type)) (leaf_type (type_of (boxed array.now))) (leaf_view type_) (physical_view type_.physical_type) (path_way (parts_of nested.now)) (path_slots (leaf_slot (boxed array.now)) (parts_of nested.now))) }
     ensures too_large { ComesWhere (Overflow V3) (IsPastRoom (leaf_type (type_of (boxed array.now))) (physical_view type_.physical_type) (column (path_way (parts_of nested.now)) (path_slots (leaf_slot (boxed array.now)) (parts_of nested.now)))) result }
     ensures err { IfErr result (λ e. (e ≡ Memory) ⊎ (e ≡ Overflow V3)) }
@@ -59,6 +61,21 @@ pub fn page_of_rows(
     data_page(alloc, array, type_, nested, form)
 }
 
+// That no value of a well-formed path over an array is a decimal past what its physical type holds.
+pub fn check_held(array: &ArrayBox, physical_type: PhysicalType, nested: &[Nested]) -> Result<()>
+    requires well { IsPath (parts_of nested.now) }
+    requires leaf { tree_len (boxed array.now) ≡ leaf_count_or 0 (parts_of nested.now) }
+    requires served { is_served (base (type_of (boxed array.now))) (physical_view physical_type) ≡ true }
+    ensures ok { OnOk result (¬ HasWide (leaf_type (type_of (boxed array.now))) (physical_view physical_type) (column (path_way (parts_of nested.now)) (path_slots (leaf_slot (boxed array.now)) (parts_of nested.now)))) }
+    ensures err { IfErr result (λ e. (e ≡ InvalidArgumentError A7) × HasWide (leaf_type (type_of (boxed array.now))) (physical_view physical_type) (column (path_way (parts_of nested.now)) (path_slots (leaf_slot (boxed array.now)) (parts_of nested.now)))) }
+{
+    array.know();
+    if has_wide(array, physical_type, nested) {
+        return Err(Error::InvalidArgumentError(A::A7));
+    }
+    Ok(())
+}
+
 /// One page of a well-formed path over its leaf array: of a flat path in the encoding that is asked for, of every other one in PLAIN (Parquet
 /// format, "Data Pages", "Nested Encoding" and Encodings). It denotes the column of the rows that are read along the path, whatever lies
 /// beneath nulls, and has the statistics of its values exactly where they are asked for (parquet.thrift: `Statistics`). The path and the type fit the array.
@@ -68,8 +85,9 @@ pub fn page_of_rows(
 /// - `NotYetImplemented(N4)` exactly where the page is not written so: a flat path in another encoding than PLAIN and the deltas that the type may
 ///   have (`is_written_as`).
 /// - `NotYetImplemented(N5)` exactly where it is, and values of the array's type are not written in such a column (`is_written_in`): fixed byte
-///   strings and intervals are in flat ones alone.
-/// - `Overflow(V3)` exactly where neither is so, and the room of the page passes 2^31 - 1.
+///   strings, decimals and intervals are in flat ones alone.
+/// - `InvalidArgumentError(A7)` exactly where neither is so, and a decimal is past what its physical type holds.
+/// - `Overflow(V3)` exactly where nothing of this is so, and the room of the page passes 2^31 - 1.
 /// - `Memory`.
 pub fn array_to_page(
     alloc: Global,
@@ -85,10 +103,12 @@ pub fn array_to_page(
     ensures ok { IfOk result (λ p. (page : DataPageValue) × (p ≡ Data page) × (e : PageEncoding) × (written_encoding (leaf_type (type_of (boxed array.now))) (parts_of nested.now) encoding ≡ Some e) × HoldsRows options e (leaf_type (type_of (boxed array.now))) (leaf_view type_) (physical_view type_.physical_type) (path_way (parts_of nested.now)) (path_slots (leaf_slot (boxed array.now)) (parts_of nested.now)) page) }
     ensures form { ComesWhere (NotYetImplemented N4) (IsUnwritten (parts_of nested.now) (type_of (boxed array.now)) (physical_view type_.physical_type) encoding) result }
     ensures unserved { ComesWhere (NotYetImplemented N5) ((¬ IsUnwritten (parts_of nested.now) (type_of (boxed array.now)) (physical_view type_.physical_type) encoding) × (is_written_along (parts_of nested.now) (boxed array.now) ≡ false)) result }
-    ensures too_large { ComesWhere (Overflow V3) ((¬ IsUnwritten (parts_of nested.now) (type_of (boxed array.now)) (physical_view type_.physical_type) encoding) × (is_written_along (parts_of nested.now) (boxed array.now) ≡ true) × IsPastRoom (leaf_type (type_of (boxed array.now))) (physical_view type_.physical_type) (column (path_way (parts_of nested.now)) (path_slots (leaf_slot (boxed array.now)) (parts_of nested.now)))) result }
-    ensures err { IfErr result (λ e. (e ≡ Memory) ⊎ (e ≡ NotYetImplemented N4) ⊎ (e ≡ NotYetImplemented N5) ⊎ (e ≡ Overflow V3)) }
+    ensures too_wide { ComesWhere (InvalidArgumentError A7) ((¬ IsUnwritten (parts_of nested.now) (type_of (boxed array.now)) (physical_view type_.physical_type) encoding) × (is_written_along (parts_of nested.now) (boxed array.now) ≡ true) × HasWide (leaf_type (type_of (boxed array.now))) (physical_view type_.physical_type) (column (path_way (parts_of nested.now)) (path_slots (leaf_slot (boxed array.now)) (parts_of nested.now)))) result }
+    ensures too_large { ComesWhere (Overflow V3) ((¬ IsUnwritten (parts_of nested.now) (type_of (boxed array.now)) (physical_view type_.physical_type) encoding) × (is_written_along (parts_of nested.now) (boxed array.now) ≡ true) × (¬ HasWide (leaf_type (type_of (boxed array.now))) (physical_view type_.physical_type) (column (path_way (parts_of nested.now)) (path_slots (leaf_slot (boxed array.now)) (parts_of nested.now)))) × IsPastRoom (leaf_type (type_of (boxed array.now))) (physical_view type_.physical_type) (column (path_way (parts_of nested.now)) (path_slots (leaf_slot (boxed array.now)) (parts_of nested.now)))) result }
+    ensures err { IfErr result (λ e. (e ≡ Memory) ⊎ (e ≡ NotYetImplemented N4) ⊎ (e ≡ NotYetImplemented N5) ⊎ (e ≡ InvalidArgumentError A7) ⊎ (e ≡ Overflow V3)) }
 {
     check_written(array, type_.physical_type, nested, encoding)?;
+    check_held(array, type_.physical_type, nested)?;
     let with_deltas = wants_deltas(nested, encoding);
     let page = page_of_rows(alloc, array, type_, nested, options, with_deltas)?;
     Ok(Page::Data(page))

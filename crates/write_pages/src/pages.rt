@@ -1,8 +1,9 @@
 //! The pages of a column, one at a time.
-ghost use Rattle.std.specs.Prelude.{◌≡◌, ◌⊎◌, ◌+◌, ◌<◌, ◌≤◌, take, drop, true, length, option_map, IfOk, IfErr};
+ghost use Rattle.std.specs.Prelude.{◌≡◌, ◌⊎◌, ◌+◌, ◌<◌, ◌≤◌, take, drop, true, length, option_map, IfOk, OnOk, IfErr};
 ghost use Rattle.shredding.specs.Parts.{IsPath, path_way, path_slots, slot_count};
 ghost use Rattle.shredding.specs.Shred.{column};
-ghost use Rattle.columns_base.specs.declared.error.Error.TheVariants.{Memory, Overflow};
+ghost use Rattle.columns_base.specs.declared.error.Error.TheVariants.{Memory, InvalidArgumentError, Overflow};
+ghost use Rattle.columns_base.specs.declared.error.A.TheVariants.{A7};
 ghost use Rattle.columns_base.specs.declared.error.V.TheVariants.{V3};
 ghost use Rattle.columns_array.specs.Boxed.{boxed};
 ghost use Rattle.columns_core.specs.Shapes.{base, leaf_type};
@@ -17,13 +18,13 @@ ghost use Rattle.pq_tree.specs.Views.{physical_view, statistics_view};
 ghost use Rattle.write_values.specs.Deltas.{encoding_name, page_encoding};
 ghost use Rattle.write_values.specs.Served.{is_served};
 ghost use Rattle.write_pages.specs.Holds.{HoldsRows, IsPagesOf, rows_of, to_give};
-ghost use Rattle.write_pages.specs.Refused.{AreWritten, Gives, IsPastRoom, RefusesPages};
+ghost use Rattle.write_pages.specs.Refused.{AreWritten, Gives, HasWide, IsPastRoom, RefusesPages};
 ghost use Rattle.write_pages.specs.Sized.{AreMeasured, IsByRule};
 
 use crate::cut_column::{copy_path, cut_column};
 use crate::fit::{check_fit, check_written, wants_deltas};
 use crate::options::WriteOptions;
-use crate::page::page_of_rows;
+use crate::page::{check_held, page_of_rows};
 use crate::rule::rows_per_page;
 use columns_array::ArrayBox;
 use columns_core::Result;
@@ -84,6 +85,7 @@ fn page_at(
     requires parts { length nested.now ≤ 128 }
     requires leaf { tree_len (boxed array.now) ≡ leaf_count_or 0 (parts_of nested.now) }
     requires served { is_served (base (type_of (boxed array.now))) (physical_view type_.now.physical_type) ≡ true }
+    requires held { ¬ HasWide (leaf_type (type_of (boxed array.now))) (physical_view type_.now.physical_type) (column (path_way (parts_of nested.now)) (rows_of (parts_of nested.now) (boxed array.now))) }
     requires rows { first + count ≤ slot_count (parts_of nested.now) }
     ensures ok { IfOk result (HoldsRows options (page_encoding with_deltas (leaf_type (type_of (boxed array.now))) (physical_view type_.now.physical_type)) (leaf_type (type_of (boxed array.now))) (leaf_view type_.now) (physical_view type_.now.physical_type) (path_way (parts_of nested.now)) (take count (drop first (rows_of (parts_of nested.now) (boxed array.now))))) }
     ensures err { IfErr result (λ e. (e ≡ Memory) ⊎ ((e ≡ Overflow V3) × IsPastRoom (leaf_type (type_of (boxed array.now))) (physical_view type_.now.physical_type) (column (path_way (parts_of nested.now)) (take count (drop first (rows_of (parts_of nested.now) (boxed array.now))))))) }
@@ -157,11 +159,32 @@ impl PageIter {
     }
 }
 
+// That no value of the rows of a path in bounds is a decimal past what its physical type holds.
+fn check_all_held(
+    alloc: Global,
+    array: &ArrayBox,
+    physical_type: PhysicalType,
+    nested: &[Nested],
+) -> Result<()>
+    requires in_bounds { IsInBounds (parts_of nested.now) }
+    requires leaf { tree_len (boxed array.now) ≡ leaf_count_or 0 (parts_of nested.now) }
+    requires served { is_served (base (type_of (boxed array.now))) (physical_view physical_type) ≡ true }
+    ensures ok { OnOk result (¬ HasWide (leaf_type (type_of (boxed array.now))) (physical_view physical_type) (column (path_way (parts_of nested.now)) (rows_of (parts_of nested.now) (boxed array.now)))) }
+    ensures err { IfErr result (λ e. (e ≡ Memory) ⊎ ((e ≡ InvalidArgumentError A7) × HasWide (leaf_type (type_of (boxed array.now))) (physical_view physical_type) (column (path_way (parts_of nested.now)) (rows_of (parts_of nested.now) (boxed array.now))))) }
+{
+    let whole = cut_column(alloc, array, nested, 0, slot_count(nested))?;
+    match check_held(&whole.array, physical_type, &whole.nested) {
+        Ok(()) => Ok(()),
+        Err(error) => Err(error),
+    }
+}
+
 // The plain bytes of the values that a well-formed path reaches, up to the largest number.
 fn plain_bytes(array: &ArrayBox, physical_type: PhysicalType, nested: &[Nested]) -> u128
     requires well { IsPath (parts_of nested.now) }
     requires leaf { tree_len (boxed array.now) ≡ leaf_count_or 0 (parts_of nested.now) }
     requires served { is_served (base (type_of (boxed array.now))) (physical_view physical_type) ≡ true }
+    requires held { ¬ HasWide (leaf_type (type_of (boxed array.now))) (physical_view physical_type) (column (path_way (parts_of nested.now)) (path_slots (leaf_slot (boxed array.now)) (parts_of nested.now))) }
     ensures { AreMeasured (leaf_type (type_of (boxed array.now))) (physical_view physical_type) (path_way (parts_of nested.now)) (path_slots (leaf_slot (boxed array.now)) (parts_of nested.now)) result }
 {
     array.know();
@@ -182,6 +205,7 @@ fn all_bytes(
     requires in_bounds { IsInBounds (parts_of nested.now) }
     requires leaf { tree_len (boxed array.now) ≡ leaf_count_or 0 (parts_of nested.now) }
     requires served { is_served (base (type_of (boxed array.now))) (physical_view physical_type) ≡ true }
+    requires held { ¬ HasWide (leaf_type (type_of (boxed array.now))) (physical_view physical_type) (column (path_way (parts_of nested.now)) (rows_of (parts_of nested.now) (boxed array.now))) }
     requires rows { rows ≡ slot_count (parts_of nested.now) }
     ensures ok { IfOk result (AreMeasured (leaf_type (type_of (boxed array.now))) (physical_view physical_type) (path_way (parts_of nested.now)) (rows_of (parts_of nested.now) (boxed array.now))) }
     ensures err { IfErr result (λ e. e ≡ Memory) }
@@ -201,6 +225,7 @@ fn page_rows(
     requires in_bounds { IsInBounds (parts_of nested.now) }
     requires leaf { tree_len (boxed array.now) ≡ leaf_count_or 0 (parts_of nested.now) }
     requires served { is_served (base (type_of (boxed array.now))) (physical_view physical_type) ≡ true }
+    requires held { ¬ HasWide (leaf_type (type_of (boxed array.now))) (physical_view physical_type) (column (path_way (parts_of nested.now)) (rows_of (parts_of nested.now) (boxed array.now))) }
     ensures some { IfOk result (λ n. 0 < n) }
     ensures rule { IfOk result (IsByRule limit (leaf_type (type_of (boxed array.now))) (physical_view physical_type) (path_way (parts_of nested.now)) (rows_of (parts_of nested.now) (boxed array.now))) }
     ensures err { IfErr result (λ e. e ≡ Memory) }
@@ -224,6 +249,7 @@ fn row_statistics(
     requires well { IsPath (parts_of nested.now) }
     requires leaf { tree_len (boxed array.now) ≡ leaf_count_or 0 (parts_of nested.now) }
     requires served { is_served (base (type_of (boxed array.now))) (physical_view physical_type) ≡ true }
+    requires held { ¬ HasWide (leaf_type (type_of (boxed array.now))) (physical_view physical_type) (column (path_way (parts_of nested.now)) (path_slots (leaf_slot (boxed array.now)) (parts_of nested.now))) }
     ensures ok { IfOk result (λ s. AreStated is_wanted (leaf_type (type_of (boxed array.now))) (physical_view physical_type) (column (path_way (parts_of nested.now)) (path_slots (leaf_slot (boxed array.now)) (parts_of nested.now))) (option_map statistics_view s)) }
     ensures err { IfErr result (λ e. e ≡ Memory) }
 {
@@ -242,6 +268,7 @@ fn all_statistics(
     requires in_bounds { IsInBounds (parts_of nested.now) }
     requires leaf { tree_len (boxed array.now) ≡ leaf_count_or 0 (parts_of nested.now) }
     requires served { is_served (base (type_of (boxed array.now))) (physical_view physical_type) ≡ true }
+    requires held { ¬ HasWide (leaf_type (type_of (boxed array.now))) (physical_view physical_type) (column (path_way (parts_of nested.now)) (rows_of (parts_of nested.now) (boxed array.now))) }
     ensures ok { IfOk result (λ s. AreStated is_wanted (leaf_type (type_of (boxed array.now))) (physical_view physical_type) (column (path_way (parts_of nested.now)) (rows_of (parts_of nested.now) (boxed array.now))) (option_map statistics_view s)) }
     ensures err { IfErr result (λ e. e ≡ Memory) }
 {
@@ -260,9 +287,10 @@ fn all_statistics(
 /// The first condition that holds is told.
 ///
 /// - `NotYetImplemented(N4)`: a flat path in another encoding than PLAIN and the deltas that the type may have (`is_written_as`).
-/// - `NotYetImplemented(N5)`: values of the array's type are not written in such a column (`is_written_in`): fixed byte strings and intervals are in
-///   flat ones alone.
+/// - `NotYetImplemented(N5)`: values of the array's type are not written in such a column (`is_written_in`): fixed byte strings, decimals and
+///   intervals are in flat ones alone.
 /// - `InvalidArgumentError(A8)`: the path is not in bounds, or the path and the type do not fit the array (`FitsColumn`).
+/// - `InvalidArgumentError(A7)`: a decimal is past what its physical type holds.
 /// - `Memory`.
 pub fn array_to_pages(
     alloc: Global,
@@ -279,6 +307,7 @@ pub fn array_to_pages(
 {
     check_written(primitive_array, type_.physical_type, nested, encoding)?;
     check_fit(primitive_array, &type_, nested)?;
+    check_all_held(alloc, primitive_array, type_.physical_type, nested)?;
     let per_page = page_rows(
         alloc,
         primitive_array,

@@ -2,6 +2,8 @@
 #![tactic(auto)]
 
 #[cfg(test)]
+mod decimal_tests;
+#[cfg(test)]
 mod delta_tests;
 #[cfg(test)]
 mod file_tests;

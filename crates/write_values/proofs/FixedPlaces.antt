@@ -1,5 +1,5 @@
 -- Byte strings of one length by place, one behind the other.
-use Rattle.std.proofs.Common.{◌≡◌, ℕ, zero, suc, ◌+◌, ◌-◌, ◌*◌, ◌/◌, ◌<◌, ◌≤◌, false, List, [], ◌∷◌, ◌++◌, length, take, drop, map, get_or, zero-mul, refl, sym, ap, subst, ◌∙◌, append-nil, arith}
+use Rattle.std.proofs.Common.{◌≡◌, ◌≢◌, ℕ, zero, suc, ◌+◌, ◌-◌, ◌*◌, ◌/◌, ◌<◌, ◌≤◌, false, List, [], ◌∷◌, ◌++◌, length, take, drop, map, get_or, zero-mul, refl, sym, ap, subst, ◌∙◌, append-nil, arith}
 use Rattle.std.specs.Prelude.{sum_by}
 use Rattle.std.proofs.lemmas.List.{map-append, drop-drop, drop-map, take-map, length-map, length-take-le, length-drop, take-append-drop, get_or-map}
 use Rattle.std.proofs.lemmas.List.Sums.{sum_by-cons}
@@ -13,11 +13,12 @@ use Rattle.columns_leaf.specs.Fixed.{fixed_count}
 use Rattle.columns_slots.specs.Bytes.{chunks, chunks_values}
 use Rattle.columns_slots.proofs.Strings.{chunks_len, chunks_cut}
 use Rattle.columns_slots.specs.Tree.{Mask, leaf_array}
-use Rattle.pq_tree.specs.Physical.{Physical, fixed}
+use Rattle.pq_tree.specs.Physical.{Physical, boolean, fixed}
 use Rattle.pq_files.specs.Layout.{plain_length, plain_size}
 use Rattle.pq_files.specs.Plain.{InARow}
 use Rattle.write_places.specs.Places.{range}
 use Rattle.write_values.specs.Fixed.{strings_in, width_in}
+use Rattle.write_values.specs.Lengths.{plain_sum}
 use Rattle.write_values.specs.Numbers.{at_place}
 use Rattle.write_values.specs.Rows.{AppendsRow, row-none}
 use Rattle.write_values.specs.Stored.{stored_value, stored_at}
@@ -32,6 +33,18 @@ use Rattle.write_values.proofs.StringPlaces.{range_more}
 sum_alike : (n : ℕ) (vs : List Value) → sum_by (plain_size (fixed n)) vs ≡ length vs * n
 sum_alike n [] = omega (arith, zero-mul n)
 sum_alike n (v ∷ vs) = sum_by-cons (plain_size (fixed n)) v vs ∙ omega (arith, sum_alike n vs, add-mul 1 (length vs) n)
+
+-- values that have so many bytes each
+module _ (p : Physical) (n : ℕ) (row : p ≢ boolean) (sizes : (v : Value) → plain_size p v ≡ n) where
+  sum_each : (vs : List Value) → sum_by (plain_size p) vs ≡ length vs * n
+  sum_each [] = omega (arith, zero-mul n)
+  sum_each (v ∷ vs) = sum_by-cons (plain_size p) v vs ∙ omega (arith, sizes v, sum_each vs, add-mul 1 (length vs) n)
+
+  pub each_size : (stored : ℕ → Value) (places : List ℕ) → length places * n ≡ plain_length p (map stored places)
+  each_size stored places = sym (plain_sum p (map stored places) row ∙ (sum_each (map stored places) ∙ ap (λ (k : ℕ). k * n) (length-map places stored)))
+
+  pub stretch_size : (stored : ℕ → Value) (from count : ℕ) → count * n ≡ plain_length p (map stored (range from count))
+  stretch_size stored from count = ap (λ (k : ℕ). k * n) (sym (length-range from count)) ∙ each_size stored (range from count)
 
 pub strings_size : (n : ℕ) (stored : ℕ → Value) (places : List ℕ) → length places * n ≡ plain_length (fixed n) (map stored places)
 strings_size n stored places = sym (sum_alike n (map stored places) ∙ ap (λ (k : ℕ). k * n) (length-map places stored))

@@ -1,5 +1,10 @@
 pub mod Along
 pub mod Counted
+pub mod AlikeColumns
+pub mod DecimalBits
+pub mod DecimalBytes
+pub mod DecimalPlaces
+pub mod WideColumns
 pub mod FixedPlaces
 pub mod InRows
 pub mod IntervalPlaces

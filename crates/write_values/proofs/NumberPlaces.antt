@@ -8,7 +8,7 @@ use Rattle.shredding.specs.Slot.{Value, truth, number}
 use Rattle.columns_core.specs.Shapes.{base, leaf_type}
 use Rattle.columns_core.specs.Tree.{TypeTree}
 use Rattle.columns_slots.specs.Tree.{Mask, leaf_array}
-use Rattle.pq_tree.specs.Physical.{Physical, int32, int64}
+use Rattle.pq_tree.specs.Physical.{Physical, int32, int64, fixed}
 use Rattle.pq_files.specs.Layout.{plain_length, plain_size}
 use Rattle.pq_files.specs.Stored.{IsStored}
 use Rattle.write_places.specs.Places.{gather, range}
@@ -18,7 +18,7 @@ use Rattle.write_values.specs.Stored.{stored_value, stored_at}
 use Rattle.pq_files.specs.Plain.{InARow}
 use Rattle.write_values.specs.Rows.{AppendsRow}
 use Rattle.write_values.proofs.InRows.{length-range, row-more}
-use Rattle.write_values.proofs.ServedTypes.{leaf_base}
+use Rattle.write_values.proofs.ServedTypes.{leaf_base, wrapped_32, wrapped_64}
 
 -- a value has one stored number
 stored_is : (t : LeafType) (p : Physical) (v s : Value) → is_number p ≡ true → IsStored t p v s → s ≡ stored_value t p v
@@ -26,8 +26,8 @@ stored_is (signed w) int32 (number z) s n h = h.2
 stored_is (signed w) int64 (number z) s n h = h.2
 stored_is (unsigned w) int32 (number (pos k)) s n h = h.2
 stored_is (unsigned w) int64 (number (pos k)) s n h = h.2
-stored_is decimal int32 (number z) s n h = h.1
-stored_is decimal int64 (number z) s n h = h.1
+stored_is decimal int32 (number z) s n h = h.1 ∙ ap number (sym (wrapped_32 z h.0))
+stored_is decimal int64 (number z) s n h = h.1 ∙ ap number (sym (wrapped_64 z h.0))
 stored_is t int32 v s n h = absurd h
 stored_is t int64 v s n h = absurd h
 stored_is t p v s n h = absurd (true≢false (sym n))
@@ -35,6 +35,9 @@ stored_is t p v s n h = absurd (true≢false (sym n))
 truth_kept : (t : LeafType) (p : Physical) (b : Bool) → stored_value t p (truth b) ≡ truth b
 truth_kept (unsigned w) int32 b = refl
 truth_kept (unsigned w) int64 b = refl
+truth_kept decimal int32 b = refl
+truth_kept decimal int64 b = refl
+truth_kept decimal (fixed n) b = refl
 truth_kept t p b = refl
 
 mapped_at : {A : Type 0} (f g : A → Value) (h : Value → Value) (xs : List A) → ((x : A) → f x ≡ h (g x)) → truth false ≡ h (truth false) → (i : ℕ) → at_place (map f xs) i ≡ h (at_place (map g xs) i)

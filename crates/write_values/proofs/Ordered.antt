@@ -1,12 +1,12 @@
 -- The values of leaf arrays in order, and their texts as bounds.
-use Rattle.std.proofs.Common.{◌≡◌, ℕ, ◌<◌, ℤ, ◌≤ℤ◌, ◌<ℤ◌, Bool, true, false, true≢false, List, [], ◌∷◌, map, length, get_or, refl, sym, ap, subst, ◌∙◌, arith, cond, Some}
+use Rattle.std.proofs.Common.{◌≡◌, ℕ, ◌<◌, ℤ, ◌≤ℤ◌, ◌<ℤ◌, Bool, true, false, true≢false, List, [], ◌∷◌, map, length, get_or, refl, sym, ap, subst, ◌∙◌, arith, cond, Some, inl, inr}
 use Rattle.std.specs.Prelude.{All, IsUtf8}
 use Rattle.std.proofs.lemmas.List.{get_or-map}
 use Rattle.std.proofs.lemmas.Int.{by_lt_z, ints}
 use Rattle.shredding.specs.Shape.{LeafType, truths, text, binary, fixed_bytes}
 use Rattle.shredding.specs.Slot.{Value, truth, number, bytes}
 use Rattle.columns_core.specs.Shapes.{base, leaf_type}
-use Rattle.columns_core.specs.Tree.{TypeTree, t_boolean, t_int8, t_int16, t_int32, t_int64, t_uint8, t_uint16, t_uint32, t_uint64, t_date32, t_date64, t_time32, t_time64, t_timestamp, t_duration, t_utf8, t_large_utf8, t_binary, t_fixed_size_binary, t_large_binary}
+use Rattle.columns_core.specs.Tree.{TypeTree, t_boolean, t_int8, t_int16, t_int32, t_int64, t_uint8, t_uint16, t_uint32, t_uint64, t_date32, t_date64, t_time32, t_time64, t_timestamp, t_duration, t_utf8, t_large_utf8, t_binary, t_fixed_size_binary, t_large_binary, t_decimal}
 use Rattle.columns_slots.specs.Bytes.{pieces, pieces_values}
 use Rattle.columns_slots.specs.Types.{byte_width, is_binary, is_boolean, is_text}
 use Rattle.pq_tree.specs.Physical.{Physical, boolean, int32, int64, byte_array, fixed}
@@ -15,9 +15,9 @@ use Rattle.pq_files.specs.Stored.{IsStored}
 use Rattle.page_statistics.specs.Spelled.{IsSpelled, bound_text}
 use Rattle.write_values.specs.Fixed.{width_in}
 use Rattle.write_values.specs.Numbers.{at_place, is_number}
-use Rattle.write_values.specs.Served.{is_small, is_wide, is_string, is_served}
+use Rattle.write_values.specs.Served.{is_decimal, is_small, is_wide, is_string, is_served}
 use Rattle.write_values.proofs.Picked.{number_here}
-use Rattle.write_values.proofs.ServedTypes.{some_number}
+use Rattle.write_values.proofs.ServedTypes.{either, some_number}
 
 pub below_is_up_to : (a b : ℤ) → a <ℤ b → a ≤ℤ b
 below_is_up_to a b h = omega (arith, ints, h)
@@ -35,7 +35,7 @@ module _ {A : Type 0} (g : A → Value) (ordinal : A → ℤ) (is : (x : A) → 
 
 -- the text of the number at a place
 pub number_spelled : {A : Type 0} (t : LeafType) (p : Physical) (g : A → Value) (xs : List A) (i : ℕ) (x : A) (z : ℤ) (s : List ℕ) → i < length xs → x ≡ get_or xs i x → IsStored t p (g x) (number z) → s ≡ bound_text p (number z) → IsSpelled t p s (at_place (map g xs) i)
-number_spelled t p g xs i x z s l e h is = subst (λ (v : Value). IsSpelled t p s v) (number_here g xs i x l e) (record { stored = number z; is_stored = h; is = is })
+number_spelled t p g xs i x z s l e h is = subst (λ (v : Value). IsSpelled t p s v) (number_here g xs i x l e) (record { stored = number z; is_stored = h; has_bytes = λ d. tt; is = is })
 
 -- ---- the types that are written have an order
 
@@ -60,6 +60,10 @@ wide_ordered (t_timestamp u z) e = refl
 wide_ordered (t_duration u) e = refl
 wide_ordered t e = absurd (true≢false (sym e))
 
+decimal_ordered : (t : TypeTree) → is_decimal t ≡ true → has_order (leaf_type t) ≡ true
+decimal_ordered (t_decimal p s) e = refl
+decimal_ordered t e = absurd (true≢false (sym e))
+
 string_ordered : (t : TypeTree) → is_string t ≡ true → has_order (leaf_type t) ≡ true
 string_ordered t_utf8 e = refl
 string_ordered t_large_utf8 e = refl
@@ -73,8 +77,8 @@ truth_ordered t e = absurd (true≢false (sym e))
 
 -- but for intervals
 pub served_ordered : (t : TypeTree) (p : Physical) → is_number p ≡ true → is_served t p ≡ true → has_order (leaf_type t) ≡ true
-served_ordered t int32 n e = small_ordered t e
-served_ordered t int64 n e = wide_ordered t e
+served_ordered t int32 n e = elim (either (is_small t) (is_decimal t) e) [ inl s ↦ small_ordered t s | inr d ↦ decimal_ordered t d ]
+served_ordered t int64 n e = elim (either (is_wide t) (is_decimal t) e) [ inl s ↦ wide_ordered t s | inr d ↦ decimal_ordered t d ]
 served_ordered t p n e = absurd (true≢false (sym n))
 
 pub strings_ordered : (t : TypeTree) → is_served t byte_array ≡ true → has_order (leaf_type t) ≡ true
@@ -103,11 +107,11 @@ truth_type t e = absurd (true≢false (sym e))
 
 pub text_spelled : (large : Bool) (t : TypeTree) (s b : List ℕ) (v : Value) → is_text large t ≡ true → bytes b ≡ v → IsUtf8 b → s ≡ b → IsSpelled (leaf_type t) byte_array s v
 text_spelled large t s b v e i u h =
-    subst (λ (w : Value). IsSpelled (leaf_type t) byte_array s w) i (subst (λ (l : LeafType). IsSpelled l byte_array s (bytes b)) (sym (text_type large t e)) (record { stored = bytes b; is_stored = (u, refl); is = h }))
+    subst (λ (w : Value). IsSpelled (leaf_type t) byte_array s w) i (subst (λ (l : LeafType). IsSpelled l byte_array s (bytes b)) (sym (text_type large t e)) (record { stored = bytes b; is_stored = (u, refl); has_bytes = λ d. absurd cc; is = h }))
 
 pub string_spelled : (large : Bool) (t : TypeTree) (s b : List ℕ) (v : Value) → is_binary large t ≡ true → bytes b ≡ v → s ≡ b → IsSpelled (leaf_type t) byte_array s v
 string_spelled large t s b v e i h =
-    subst (λ (w : Value). IsSpelled (leaf_type t) byte_array s w) i (subst (λ (l : LeafType). IsSpelled l byte_array s (bytes b)) (sym (binary_type large t e)) (record { stored = bytes b; is_stored = refl; is = h }))
+    subst (λ (w : Value). IsSpelled (leaf_type t) byte_array s w) i (subst (λ (l : LeafType). IsSpelled l byte_array s (bytes b)) (sym (binary_type large t e)) (record { stored = bytes b; is_stored = refl; has_bytes = λ d. absurd cc; is = h }))
 
 -- the texts of an array are texts at each place
 pub text_at : (os bs b : List ℕ) (i : ℕ) → All IsUtf8 (pieces os bs) → i < length (pieces os bs) → bytes b ≡ at_place (pieces_values os bs) i → IsUtf8 b
@@ -122,7 +126,7 @@ text_at os bs b i all l e =
 pub truth_spelled : (t : TypeTree) (bits : List Bool) (i : ℕ) (b : Bool) (s : List ℕ) → is_boolean t ≡ true → i < length bits → b ≡ get_or bits i false → s ≡ cond b 1 0 ∷ [] → IsSpelled (leaf_type t) boolean s (at_place (map truth bits) i)
 truth_spelled t bits i b s e l h k =
     let here : truth b ≡ at_place (map truth bits) i = ap truth h ∙ sym (get_or-map truth bits i false (truth false) l) in
-    subst (λ (w : Value). IsSpelled (leaf_type t) boolean s w) here (subst (λ (y : LeafType). IsSpelled y boolean s (truth b)) (sym (truth_type t e)) (record { stored = truth b; is_stored = refl; is = k ∙ text b }))
+    subst (λ (w : Value). IsSpelled (leaf_type t) boolean s w) here (subst (λ (y : LeafType). IsSpelled y boolean s (truth b)) (sym (truth_type t e)) (record { stored = truth b; is_stored = refl; has_bytes = λ d. tt; is = k ∙ text b }))
   where
     text : (b : Bool) → cond b 1 0 ∷ [] ≡ bound_text boolean (truth b)
     text true = refl
@@ -149,4 +153,4 @@ pub fixed_spelled : (t : TypeTree) (s b : List ℕ) (v : Value) → byte_width (
 fixed_spelled t s b v e i l h =
     let p = fixed (width_in t) in
     subst (λ (w : Value). IsSpelled (leaf_type (base t)) p s w) i
-    (subst (λ (k : LeafType). IsSpelled k p s (bytes b)) (sym (fixed_type (base t) (width_in t) e)) (record { stored = bytes b; is_stored = (refl, l, refl); is = h }))
+    (subst (λ (k : LeafType). IsSpelled k p s (bytes b)) (sym (fixed_type (base t) (width_in t) e)) (record { stored = bytes b; is_stored = (refl, l, refl); has_bytes = λ d. absurd cc; is = h }))

@@ -1,8 +1,8 @@
 -- Which columns have deltas.
-use Rattle.std.proofs.Common.{◌≡◌, ◌≢◌, ℕ, Bool, true, false, true≢false, pos, Option, Some, None, refl, sym, ap, subst, ◌∙◌}
+use Rattle.std.proofs.Common.{◌≡◌, ◌≢◌, ℕ, Bool, true, false, true≢false, pos, Option, Some, None, refl, sym, ap, subst, ◌∙◌, inl, inr}
 use Rattle.shredding.specs.Shape.{LeafType, nothing}
 use Rattle.columns_core.specs.Shapes.{base, leaf_type}
-use Rattle.columns_core.specs.Tree.{TypeTree, t_null, t_boolean, t_int8, t_int16, t_int32, t_int64, t_uint8, t_uint16, t_uint32, t_uint64, t_date32, t_date64, t_time32, t_time64, t_timestamp, t_duration, t_utf8, t_large_utf8, t_binary, t_large_binary, t_fixed_size_binary, t_interval}
+use Rattle.columns_core.specs.Tree.{TypeTree, t_null, t_boolean, t_int8, t_int16, t_int32, t_int64, t_uint8, t_uint16, t_uint32, t_uint64, t_date32, t_date64, t_time32, t_time64, t_timestamp, t_duration, t_utf8, t_large_utf8, t_binary, t_large_binary, t_fixed_size_binary, t_interval, t_decimal}
 use Rattle.columns_core.specs.declared.types.IntervalUnit.TheVariants.{YearMonth, DayTime}
 use Rattle.columns_slots.specs.Types.{is_boolean, is_null_type}
 use Rattle.pq_tree.specs.Physical.{Physical, boolean, int32, int64, byte_array, fixed}
@@ -12,8 +12,8 @@ use Rattle.pq_files.specs.Page.{plain}
 use Rattle.pq_files.specs.Written.{number_of_encoding}
 use Rattle.pq_pages.specs.DataPages.{is_named}
 use Rattle.write_values.specs.Deltas.{HasDeltas, IsLeafType, IsSpelling, encoding_in, page_encoding}
-use Rattle.write_values.specs.Served.{is_small, is_wide, is_string, is_fixed, is_served}
-use Rattle.write_values.proofs.ServedTypes.{leaf_base}
+use Rattle.write_values.specs.Served.{is_decimal, is_small, is_wide, is_string, is_fixed, is_served}
+use Rattle.write_values.proofs.ServedTypes.{either, leaf_base}
 
 truths_have : (t : TypeTree) → is_boolean t ≡ true → leaf_type t ≢ nothing
 truths_have t_boolean e = λ h. cc
@@ -40,6 +40,10 @@ wide_have t_uint32 e = λ h. cc
 wide_have t_uint64 e = λ h. cc
 wide_have t e = absurd (true≢false (sym e))
 
+decimals_have : (t : TypeTree) → is_decimal t ≡ true → leaf_type t ≢ nothing
+decimals_have (t_decimal p s) e = λ h. cc
+decimals_have t e = absurd (true≢false (sym e))
+
 strings_have : (t : TypeTree) → is_string t ≡ true → leaf_type t ≢ nothing
 strings_have t_utf8 e = λ h. cc
 strings_have t_large_utf8 e = λ h. cc
@@ -51,13 +55,14 @@ fixed_have : (n : ℕ) (t : TypeTree) → is_fixed n t ≡ true → leaf_type t 
 fixed_have n (t_fixed_size_binary m) e = λ h. cc
 fixed_have n (t_interval YearMonth) e = λ h. cc
 fixed_have n (t_interval DayTime) e = λ h. cc
+fixed_have n (t_decimal p s) e = λ h. cc
 fixed_have n t e = absurd (true≢false (sym e))
 
 -- what is written has values
 have_values : (t : TypeTree) (p : Physical) → is_served t p ≡ true → leaf_type t ≢ nothing
 have_values t boolean e = truths_have t e
-have_values t int32 e = small_have t e
-have_values t int64 e = wide_have t e
+have_values t int32 e = elim (either (is_small t) (is_decimal t) e) [ inl s ↦ small_have t s | inr d ↦ decimals_have t d ]
+have_values t int64 e = elim (either (is_wide t) (is_decimal t) e) [ inl s ↦ wide_have t s | inr d ↦ decimals_have t d ]
 have_values t byte_array e = strings_have t e
 have_values t (fixed n) e = fixed_have n t e
 have_values t p e = absurd (true≢false (sym e))

@@ -1,22 +1,27 @@
 -- Which types the arrays have whose values are written.
-use Rattle.std.proofs.Common.{◌≡◌, ◌<◌, ℕ, Bool, true, false, true≢false, Option, Some, None, List, refl, ap, ◌∙◌, sym, arith, lit≤, inl, inr, pos}
+use Rattle.std.proofs.Common.{◌≡◌, ◌⊎◌, ◌<◌, ℕ, ℤ, negsuc, SFits, Bool, true, false, true≢false, Option, Some, None, List, refl, ap, ◌∙◌, sym, subst, arith, lit≤, inl, inr, pos}
+use Rattle.std.specs.Prelude.{◌||◌}
+use Rattle.std.specs.Int.{w32, w64, w128, cast_unsigned, int_wrap}
 use Rattle.std.proofs.lemmas.Bool.{eqb-true}
-use Rattle.shredding.specs.Shape.{LeafType, unsigned, IsInRange}
+use Rattle.std.proofs.lemmas.Int.{int_wrap_fits}
+use Rattle.shredding.specs.Shape.{LeafType, unsigned, decimal, Fits, IsInRange}
 use Rattle.shredding.specs.Slot.{Value, truth, number, bytes}
 use Rattle.columns_core.specs.declared.types.IntervalUnit.TheVariants.{YearMonth, DayTime}
 use Rattle.columns_core.specs.Shapes.{base, leaf_type}
-use Rattle.columns_core.specs.Tree.{TypeTree, t_null, t_boolean, t_int8, t_int16, t_int32, t_int64, t_uint8, t_uint16, t_uint32, t_uint64, t_date32, t_date64, t_time32, t_time64, t_timestamp, t_duration, t_interval, t_utf8, t_large_utf8, t_binary, t_fixed_size_binary, t_large_binary, t_extension, t_list, t_large_list, t_map, t_fixed_size_list, t_struct, t_dictionary}
+use Rattle.columns_core.specs.Tree.{TypeTree, t_null, t_boolean, t_int8, t_int16, t_int32, t_int64, t_uint8, t_uint16, t_uint32, t_uint64, t_date32, t_date64, t_time32, t_time64, t_timestamp, t_duration, t_interval, t_utf8, t_large_utf8, t_binary, t_fixed_size_binary, t_large_binary, t_extension, t_list, t_large_list, t_map, t_fixed_size_list, t_struct, t_dictionary, t_decimal}
 use Rattle.columns_slots.specs.Tree.{ArrayTree, null_array, leaf_array, list_array, fixed_list_array, struct_array, dictionary_array, ArrayTrees, no_arrays, more_arrays}
 use Rattle.columns_slots.specs.Slots.{IsSound, AreTyped, count_arrays, type_of}
 use Rattle.columns_slots.specs.Types.{is_null_type, is_boolean, byte_width, list_item, fixed_item, entry_type, part_types}
 use Rattle.pq_tree.specs.Physical.{Physical, boolean, int32, int64, int96, float, double, byte_array, fixed}
-use Rattle.pq_files.specs.Stored.{IsStored}
-use Rattle.write_values.specs.Served.{is_fixed, is_small, is_wide, is_string, is_served}
+use Rattle.pq_files.specs.Stored.{IsStored, HoldsDecimal}
+use Rattle.write_values.specs.Decimals.{stored_decimal}
+use Rattle.write_values.specs.Served.{is_decimal, is_fixed, is_small, is_wide, is_string, is_served}
 use Rattle.write_values.specs.Stored.{stored_value}
+use Rattle.write_values.proofs.DecimalBytes.{long, decimal_spelled}
 
 -- ---- values that are not written
 
-no_row : (t : TypeTree) → is_boolean t ≡ false → is_small t ≡ false → is_wide t ≡ false → is_string t ≡ false → ((n : ℕ) → is_fixed n t ≡ false) → (p : Physical) → is_served t p ≡ false
+pub no_row : (t : TypeTree) → is_boolean t ≡ false → (is_small t || is_decimal t) ≡ false → (is_wide t || is_decimal t) ≡ false → is_string t ≡ false → ((n : ℕ) → is_fixed n t ≡ false) → (p : Physical) → is_served t p ≡ false
 no_row t d a b c f boolean = d
 no_row t d a b c f int32 = a
 no_row t d a b c f int64 = b
@@ -70,6 +75,37 @@ pub some_number : (m n : ℕ) → Some m ≡ Some n → m ≡ n
 some_number m n e = ap (number_or m) e
 
 -- ---- what is written
+
+-- one of two
+pub either : (a b : Bool) → (a || b) ≡ true → (a ≡ true) ⊎ (b ≡ true)
+either true b e = inl refl
+either false b e = inr e
+
+-- a decimal is held
+abbrev pub IsHeld : LeafType → Physical → Value → Type 0
+IsHeld decimal p (number z) = HoldsDecimal p z
+IsHeld t p v = Unit {0}
+
+pub signed_32 : (z : ℤ) → Fits 32 z → SFits w32 z
+signed_32 (pos n) h = omega (arith, h)
+signed_32 (negsuc n) h = omega (arith, h)
+
+pub signed_64 : (z : ℤ) → Fits 64 z → SFits w64 z
+signed_64 (pos n) h = omega (arith, h)
+signed_64 (negsuc n) h = omega (arith, h)
+
+-- a number of so many bits is what they hold
+pub wrapped_32 : (z : ℤ) → Fits 32 z → int_wrap w32 z ≡ z
+wrapped_32 z h = int_wrap_fits w32 z (signed_32 z h)
+
+pub wrapped_64 : (z : ℤ) → Fits 64 z → int_wrap w64 z ≡ z
+wrapped_64 z h = int_wrap_fits w64 z (signed_64 z h)
+
+pub decimal_stored : (p : Physical) (z : ℤ) → HoldsDecimal p z → IsStored decimal p (number z) (stored_decimal p z)
+decimal_stored int32 z h = (h, ap number (wrapped_32 z h))
+decimal_stored int64 z h = (h, ap number (wrapped_64 z h))
+decimal_stored (fixed n) z h = (h.0, h.1, long n (cast_unsigned w128 z), decimal_spelled n z h.0 h.1 h.2)
+decimal_stored p z h = absurd h
 
 small_stored : (t : TypeTree) (v : Value) → is_small t ≡ true → IsInRange (leaf_type t) v → IsStored (leaf_type t) int32 v (stored_value (leaf_type t) int32 v)
 small_stored t_int8 (number z) e h = (lit≤ tt, h, refl)
@@ -127,16 +163,21 @@ truth_stored t v e h = absurd (true≢false (sym e))
 pub string_kept : (t : LeafType) (p : Physical) (s : List ℕ) → stored_value t p (bytes s) ≡ bytes s
 string_kept (unsigned w) int32 s = refl
 string_kept (unsigned w) int64 s = refl
+string_kept decimal int32 s = refl
+string_kept decimal int64 s = refl
+string_kept decimal (fixed n) s = refl
 string_kept t p s = refl
 
-fixed_stored : (t : TypeTree) (n : ℕ) (v : Value) → is_fixed n t ≡ true → IsInRange (leaf_type t) v → IsStored (leaf_type t) (fixed n) v (stored_value (leaf_type t) (fixed n) v)
-fixed_stored (t_fixed_size_binary m) n (bytes s) e h = (eqb-true m n e, h, refl)
-fixed_stored (t_fixed_size_binary m) n v e h = absurd h
-fixed_stored (t_interval YearMonth) n (bytes s) e h = (sym (eqb-true 12 n e), h.0, h.1, refl)
-fixed_stored (t_interval DayTime) n (bytes s) e h = (sym (eqb-true 12 n e), h.0, h.1, refl)
-fixed_stored (t_interval YearMonth) n v e h = absurd h
-fixed_stored (t_interval DayTime) n v e h = absurd h
-fixed_stored t n v e h = absurd (true≢false (sym e))
+fixed_stored : (t : TypeTree) (n : ℕ) (v : Value) → is_fixed n t ≡ true → IsInRange (leaf_type t) v → IsHeld (leaf_type t) (fixed n) v → IsStored (leaf_type t) (fixed n) v (stored_value (leaf_type t) (fixed n) v)
+fixed_stored (t_fixed_size_binary m) n (bytes s) e h k = (eqb-true m n e, h, refl)
+fixed_stored (t_fixed_size_binary m) n v e h k = absurd h
+fixed_stored (t_interval YearMonth) n (bytes s) e h k = (sym (eqb-true 12 n e), h.0, h.1, refl)
+fixed_stored (t_interval DayTime) n (bytes s) e h k = (sym (eqb-true 12 n e), h.0, h.1, refl)
+fixed_stored (t_interval YearMonth) n v e h k = absurd h
+fixed_stored (t_interval DayTime) n v e h k = absurd h
+fixed_stored (t_decimal q x) n (number z) e h k = decimal_stored (fixed n) z k
+fixed_stored (t_decimal q x) n v e h k = absurd h
+fixed_stored t n v e h k = absurd (true≢false (sym e))
 
 -- the length of the array's strings is that of its column
 pub width_served : (t : TypeTree) (w : ℕ) (p : Physical) → byte_width t ≡ Some w → is_served t p ≡ true → fixed w ≡ p
@@ -150,14 +191,26 @@ width_served (t_fixed_size_binary m) w double e h = absurd (true≢false (sym h)
 width_served (t_fixed_size_binary m) w byte_array e h = absurd (true≢false (sym h))
 width_served t w p e h = absurd cc
 
+-- what is stored for a decimal
+pub decimal_is : (p : Physical) (z : ℤ) → stored_value decimal p (number z) ≡ stored_decimal p z
+decimal_is int32 z = refl
+decimal_is int64 z = refl
+decimal_is (fixed n) z = refl
+decimal_is p z = refl
+
+decimals_stored : (t : TypeTree) (p : Physical) (v : Value) → is_decimal t ≡ true → IsInRange (leaf_type t) v → IsHeld (leaf_type t) p v → IsStored (leaf_type t) p v (stored_value (leaf_type t) p v)
+decimals_stored (t_decimal q x) p (number z) e h k = subst (IsStored decimal p (number z)) (sym (decimal_is p z)) (decimal_stored p z k)
+decimals_stored (t_decimal q x) p v e h k = absurd h
+decimals_stored t p v e h k = absurd (true≢false (sym e))
+
 -- by the page table
-pub served_stored : (t : TypeTree) (p : Physical) (v : Value) → is_served t p ≡ true → IsInRange (leaf_type t) v → IsStored (leaf_type t) p v (stored_value (leaf_type t) p v)
-served_stored t boolean v e h = truth_stored t v e h
-served_stored t int32 v e h = small_stored t v e h
-served_stored t int64 v e h = wide_stored t v e h
-served_stored t byte_array v e h = string_stored t v e h
-served_stored t (fixed n) v e h = fixed_stored t n v e h
-served_stored t p v e h = absurd (true≢false (sym e))
+pub served_stored : (t : TypeTree) (p : Physical) (v : Value) → is_served t p ≡ true → IsInRange (leaf_type t) v → IsHeld (leaf_type t) p v → IsStored (leaf_type t) p v (stored_value (leaf_type t) p v)
+served_stored t boolean v e h k = truth_stored t v e h
+served_stored t int32 v e h k = elim (either (is_small t) (is_decimal t) e) [ inl s ↦ small_stored t v s h | inr d ↦ decimals_stored t int32 v d h k ]
+served_stored t int64 v e h k = elim (either (is_wide t) (is_decimal t) e) [ inl s ↦ wide_stored t v s h | inr d ↦ decimals_stored t int64 v d h k ]
+served_stored t byte_array v e h k = string_stored t v e h
+served_stored t (fixed n) v e h k = fixed_stored t n v e h k
+served_stored t p v e h k = absurd (true≢false (sym e))
 
 pub leaf_base : (t : TypeTree) → leaf_type (base t) ≡ leaf_type t
 leaf_base (t_extension n t m) = leaf_base t

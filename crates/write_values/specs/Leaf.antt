@@ -1,14 +1,15 @@
 -- The leaf arrays whose values are written, by what they stand for.
 use Rattle.std.specs.Prelude.{◌≡◌, true, map}
 use Rattle.shredding.specs.Slot.{truth}
-use Rattle.columns_core.specs.Natives.{value_days, value_i8, value_i16, value_i32, value_i64, value_u8, value_u16, value_u32, value_u64}
+use Rattle.columns_core.specs.Natives.{value_days, value_i8, value_i16, value_i32, value_i64, value_i128, value_u8, value_u16, value_u32, value_u64}
 use Rattle.columns_core.specs.Shapes.{base}
 use Rattle.columns_slots.specs.Bytes.{pieces_values}
 use Rattle.columns_slots.specs.Slots.{type_of}
 use Rattle.columns_slots.specs.Tree.{ArrayTree, leaf_array}
 use Rattle.pq_tree.specs.Physical.{Physical, boolean, int32, int64, byte_array, fixed}
 use Rattle.write_values.specs.declared.leaf.Leaf.{Leaf}
-use Rattle.write_values.specs.declared.leaf.Leaf.TheVariants.{Boolean, Int8, Int16, Int32, UInt8, UInt16, UInt32, WideUInt32, Int64, UInt64, Utf8, LargeUtf8, Binary, LargeBinary, FixedSizeBinary, Months, Days}
+use Rattle.write_values.specs.declared.leaf.Leaf.TheVariants.{Boolean, Int8, Int16, Int32, UInt8, UInt16, UInt32, WideUInt32, Int64, UInt64, Utf8, LargeUtf8, Binary, LargeBinary, FixedSizeBinary, Months, Days, Decimal}
+use Rattle.write_values.specs.Decimals.{form_physical}
 use Rattle.write_values.specs.Fixed.{strings_in, width_in}
 use Rattle.write_values.specs.Served.{is_served}
 
@@ -31,6 +32,7 @@ leaf_tree (LargeBinary a) = leaf_array a.now.0 (pieces_values a.now.1.0 a.now.1.
 leaf_tree (FixedSizeBinary a) = leaf_array a.now.0 (strings_in a.now.0 a.now.1.0) a.now.1.1
 leaf_tree (Months a) = leaf_array a.now.0 (map (value_i32 (base a.now.0)) a.now.1.0) a.now.1.1
 leaf_tree (Days a) = leaf_array a.now.0 (map (value_days (base a.now.0)) a.now.1.0) a.now.1.1
+leaf_tree (Decimal a form) = leaf_array a.now.0 (map (value_i128 (base a.now.0)) a.now.1.0) a.now.1.1
 
 -- the physical type of its column
 abbrev pub leaf_physical : Leaf → Physical
@@ -51,6 +53,7 @@ leaf_physical (LargeBinary a) = byte_array
 leaf_physical (FixedSizeBinary a) = fixed (width_in a.now.0)
 leaf_physical (Months a) = fixed 12
 leaf_physical (Days a) = fixed 12
+leaf_physical (Decimal a form) = form_physical form
 
 -- The leaf is this array, whose values are written under this physical type.
 pub record IsLeafOf (a : ArrayTree) (p : Physical) (leaf : Leaf) : Type 0 where

@@ -1,3 +1,4 @@
+pub mod Decimals
 pub mod Deltas
 pub mod Fixed
 pub mod Leaf
@@ -8,3 +9,4 @@ pub mod Rows
 pub mod Served
 pub mod Stored
 pub mod Truths
+pub mod Wide

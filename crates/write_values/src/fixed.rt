@@ -13,18 +13,22 @@ use crate::row::LeafValues;
 use columns_core::{DataType, Result};
 use columns_leaf::FixedSizeBinaryArray;
 
-/// The values of a leaf array by place, as a column stores them: byte strings of one length.
+/// The values of a leaf array by place, as a column stores them, all in so many bytes: byte strings of one length, and decimals.
 pub trait FixedValues: Drop {
-    ghost use Rattle.std.specs.Prelude.{◌≡◌, ◌<◌, ◌∷◌, [], ℕ, OnOk, IfErr};
+    ghost use Rattle.std.specs.Prelude.{◌≡◌, ◌≢◌, ◌<◌, ◌∷◌, [], ℕ, OnOk, IfErr};
     ghost use Rattle.shredding.specs.Slot.{Value};
     ghost use Rattle.columns_base.specs.declared.error.Error.TheVariants.{Memory};
-    ghost use Rattle.pq_tree.specs.Physical.{fixed};
+    ghost use Rattle.pq_tree.specs.Physical.{Physical, boolean};
+    ghost use Rattle.pq_files.specs.Layout.{plain_size};
     ghost use Rattle.write_values.specs.Rows.{AppendsRow};
 
     // the number of places
     ghost places: { Self → ℕ };
 
-    // the length of each string
+    // the physical type of the column
+    ghost physical: { Self → Physical };
+
+    // the bytes of each value
     ghost size: { Self → ℕ };
 
     // the stored value at each place
@@ -34,22 +38,26 @@ pub trait FixedValues: Drop {
     fn len(&self) -> usize
         ensures { result ≡ places self.now };
 
-    /// The length of each string.
+    /// The bytes of each value.
     fn width(&self) -> usize
         ensures { result ≡ size self.now };
 
-    /// Appends the string at a place.
+    /// Appends the value at a place.
     ///
     /// # Errors
     ///
     /// `Memory`.
     fn push_one(&self, out: &mut Vec<u8>, i: usize) -> Result<()>
         requires { i < places self.now }
-        ensures ok { OnOk result (AppendsRow (fixed (size self.now)) out.old.items out.new.items (at self.now i ∷ [])) }
+        ensures ok { OnOk result (AppendsRow (physical self.now) out.old.items out.new.items (at self.now i ∷ [])) }
         ensures err { IfErr result (λ e. e ≡ Memory) };
+
+    ghost sizes: { (s : Self) (v : Value) → plain_size (physical s) v ≡ size s };
+
+    ghost in_rows: { (s : Self) → physical s ≢ boolean };
 }
 
-// Appends the strings at picked places.
+// Appends the values at picked places.
 fn push_picked<V: FixedValues>(
     values: &V,
     out: &mut Vec<u8>,
@@ -60,7 +68,7 @@ fn push_picked<V: FixedValues>(
     requires few { count ≤ 64 }
     requires low { bits < 2 ^ count }
     requires within { from + count ≤ V.places values.now }
-    ensures ok { OnOk result (AppendsRow (fixed (V.size values.now)) out.old.items out.new.items (map (V.at values.now) (picked bits from count))) }
+    ensures ok { OnOk result (AppendsRow (V.physical values.now) out.old.items out.new.items (map (V.at values.now) (picked bits from count))) }
     ensures err { IfErr result (λ e. e ≡ Memory) }
 {
     let _places = values.len();
@@ -73,11 +81,11 @@ fn push_picked<V: FixedValues>(
     Ok(())
 }
 
-// Appends the strings of a stretch, each by itself.
+// Appends the values of a stretch, each by itself.
 fn push_each<V: FixedValues>(values: &V, out: &mut Vec<u8>, from: usize, to: usize) -> Result<()>
     requires ordered { from ≤ to }
     requires within { to ≤ V.places values.now }
-    ensures ok { OnOk result (AppendsRow (fixed (V.size values.now)) out.old.items out.new.items (map (V.at values.now) (range from (to - from)))) }
+    ensures ok { OnOk result (AppendsRow (V.physical values.now) out.old.items out.new.items (map (V.at values.now) (range from (to - from)))) }
     ensures err { IfErr result (λ e. e ≡ Memory) }
 {
     for i in from..to {
@@ -102,16 +110,13 @@ impl<V: FixedValues> InFixed<V> {
 }
 
 impl<V: FixedValues> LeafValues for InFixed<V> {
-    ghost use Rattle.pq_tree.specs.Physical.{fixed};
-    ghost use Rattle.write_values.specs.Numbers.{fixed_in_a_row};
-
     ghost count = { λ s. V.places s.values };
 
-    ghost physical = { λ s. fixed (V.size s.values) };
+    ghost physical = { λ s. V.physical s.values };
 
     ghost stored = { λ s. V.at s.values };
 
-    ghost in_a_row = { λ s. fixed_in_a_row (V.size s.values) };
+    ghost in_a_row = { λ s. V.in_rows s.values };
 
     fn plain_size(&self, from: usize, to: usize) -> u128 {
         (to - from) as u128 * self.values.width() as u128
@@ -194,17 +199,25 @@ impl<'a> FixedStrings<'a> {
 }
 
 impl<'a> FixedValues for FixedStrings<'a> {
+    ghost use Rattle.std.specs.Prelude.{refl};
     ghost use Rattle.columns_slots.specs.Tree.{leaf_array};
     ghost use Rattle.columns_slots.specs.Slots.{tree_len};
     ghost use Rattle.pq_tree.specs.Physical.{fixed};
     ghost use Rattle.write_values.specs.Fixed.{strings_in, width_in};
+    ghost use Rattle.write_values.specs.Numbers.{fixed_in_a_row};
     ghost use Rattle.write_values.specs.Stored.{stored_at};
 
     ghost places = { λ s. tree_len (leaf_array s.array.now.0 (strings_in s.array.now.0 s.array.now.1.0) s.array.now.1.1) };
 
+    ghost physical = { λ s. fixed (width_in s.array.now.0) };
+
     ghost size = { λ s. width_in s.array.now.0 };
 
     ghost at = { λ s. stored_at (leaf_array s.array.now.0 (strings_in s.array.now.0 s.array.now.1.0) s.array.now.1.1) (fixed (width_in s.array.now.0)) };
+
+    ghost sizes = { λ s v. refl };
+
+    ghost in_rows = { λ s. fixed_in_a_row (width_in s.array.now.0) };
 
     fn len(&self) -> usize {
         self.array.len()

@@ -58,19 +58,26 @@ impl<'a> Months<'a> {
 }
 
 impl<'a> FixedValues for Months<'a> {
-    ghost use Rattle.std.specs.Prelude.{map};
+    ghost use Rattle.std.specs.Prelude.{map, refl};
     ghost use Rattle.columns_core.specs.Natives.{value_i32};
     ghost use Rattle.columns_core.specs.Shapes.{base};
     ghost use Rattle.columns_slots.specs.Tree.{leaf_array};
     ghost use Rattle.columns_slots.specs.Slots.{tree_len};
     ghost use Rattle.pq_tree.specs.Physical.{fixed};
+    ghost use Rattle.write_values.specs.Numbers.{fixed_in_a_row};
     ghost use Rattle.write_values.specs.Stored.{stored_at};
 
     ghost places = { λ s. tree_len (leaf_array s.array.now.0 (map (value_i32 (base s.array.now.0)) s.array.now.1.0) s.array.now.1.1) };
 
+    ghost physical = { λ s. fixed 12 };
+
     ghost size = { λ s. 12 };
 
     ghost at = { λ s. stored_at (leaf_array s.array.now.0 (map (value_i32 (base s.array.now.0)) s.array.now.1.0) s.array.now.1.1) (fixed 12) };
+
+    ghost sizes = { λ s v. refl };
+
+    ghost in_rows = { λ s. fixed_in_a_row 12 };
 
     fn len(&self) -> usize {
         self.array.len()
@@ -93,19 +100,26 @@ pub struct Days<'a> {
 }
 
 impl<'a> FixedValues for Days<'a> {
-    ghost use Rattle.std.specs.Prelude.{map};
+    ghost use Rattle.std.specs.Prelude.{map, refl};
     ghost use Rattle.columns_core.specs.Natives.{value_days};
     ghost use Rattle.columns_core.specs.Shapes.{base};
     ghost use Rattle.columns_slots.specs.Tree.{leaf_array};
     ghost use Rattle.columns_slots.specs.Slots.{tree_len};
     ghost use Rattle.pq_tree.specs.Physical.{fixed};
+    ghost use Rattle.write_values.specs.Numbers.{fixed_in_a_row};
     ghost use Rattle.write_values.specs.Stored.{stored_at};
 
     ghost places = { λ s. tree_len (leaf_array s.array.now.0 (map (value_days (base s.array.now.0)) s.array.now.1.0) s.array.now.1.1) };
 
+    ghost physical = { λ s. fixed 12 };
+
     ghost size = { λ s. 12 };
 
     ghost at = { λ s. stored_at (leaf_array s.array.now.0 (map (value_days (base s.array.now.0)) s.array.now.1.0) s.array.now.1.1) (fixed 12) };
+
+    ghost sizes = { λ s v. refl };
+
+    ghost in_rows = { λ s. fixed_in_a_row 12 };
 
     fn len(&self) -> usize {
         self.array.len()

@@ -1,16 +1,17 @@
 //! The leaf arrays whose values are written.
-ghost use Rattle.std.specs.Prelude.{◌≡◌, false, map, MatchOption};
+ghost use Rattle.std.specs.Prelude.{◌≡◌, true, false, map, MatchOption};
 ghost use Rattle.columns_core.specs.Shapes.{base};
 ghost use Rattle.columns_core.specs.View.{type_view};
-ghost use Rattle.columns_core.specs.Natives.{value_i32, value_u32};
+ghost use Rattle.columns_core.specs.Natives.{value_i128, value_i32, value_u32};
 ghost use Rattle.columns_slots.specs.Tree.{leaf_array};
 ghost use Rattle.columns_slots.specs.Slots.{type_of};
 ghost use Rattle.columns_slots.specs.Types.{is_boolean};
 ghost use Rattle.columns_array.specs.Boxed.{boxed};
 ghost use Rattle.pq_tree.specs.Views.{physical_view};
-ghost use Rattle.write_values.specs.Served.{is_fixed, is_small, is_wide, is_string, is_served};
+ghost use Rattle.write_values.specs.Served.{is_decimal, is_fixed, is_small, is_wide, is_string, is_served};
 ghost use Rattle.write_values.specs.Leaf.{IsLeafOf};
 
+use crate::decimals::DecimalForm;
 use columns_array::ArrayBox;
 use columns_base::PhysicalType;
 use columns_core::{DataType, DaysMs, IntervalUnit, TimeUnit};
@@ -42,6 +43,8 @@ pub enum Leaf<'a> {
     // as the 12 bytes of intervals
     Months(&'a PrimitiveArray<i32>),
     Days(&'a PrimitiveArray<DaysMs>),
+    // as decimals
+    Decimal(&'a PrimitiveArray<i128>, DecimalForm),
 }
 
 fn is_truth(data_type: &DataType) -> bool
@@ -85,12 +88,23 @@ fn is_string(data_type: &DataType) -> bool
     }
 }
 
+/// Whether values of the type are decimals.
+pub fn is_decimal(data_type: &DataType) -> bool
+    ensures { result ≡ is_decimal (base (type_view data_type.now)) }
+{
+    match data_type.base() {
+        DataType::Decimal(_, _) => true,
+        _ => false,
+    }
+}
+
 fn is_fixed(data_type: &DataType, length: usize) -> bool
     ensures { result ≡ is_fixed length (base (type_view data_type.now)) }
 {
     match data_type.base() {
         DataType::FixedSizeBinary(width) => *width == length,
         DataType::Interval(IntervalUnit::YearMonth | IntervalUnit::DayTime) => 12 == length,
+        DataType::Decimal(_, _) => 1 <= length && length <= 16,
         _ => false,
     }
 }
@@ -101,8 +115,8 @@ pub fn is_served(data_type: &DataType, physical_type: PhysicalType) -> bool
 {
     match physical_type {
         PhysicalType::Boolean => is_truth(data_type),
-        PhysicalType::Int32 => is_small(data_type),
-        PhysicalType::Int64 => is_wide(data_type),
+        PhysicalType::Int32 => is_small(data_type) || is_decimal(data_type),
+        PhysicalType::Int64 => is_wide(data_type) || is_decimal(data_type),
         PhysicalType::ByteArray => is_string(data_type),
         PhysicalType::FixedLenByteArray(length) => is_fixed(data_type, length),
         _ => false,
@@ -135,6 +149,25 @@ fn uint32_leaf(array: &PrimitiveArray<u32>, physical_type: PhysicalType) -> Opti
         PhysicalType::Boolean | PhysicalType::Int96 => None,
         PhysicalType::Float | PhysicalType::Double => None,
         PhysicalType::FixedLenByteArray(_) => None,
+    }
+}
+
+// An array of decimals.
+fn decimal_leaf(array: &PrimitiveArray<i128>, physical_type: PhysicalType) -> Option<Leaf<'_>>
+    requires { is_served (base array.now.0) (physical_view physical_type) ≡ true }
+    ensures { MatchOption result (is_served (base array.now.0) (physical_view physical_type) ≡ false) (IsLeafOf (leaf_array array.now.0 (map (value_i128 (base array.now.0)) array.now.1.0) array.now.1.1) (physical_view physical_type)) }
+{
+    array.know();
+    match physical_type {
+        PhysicalType::Int32 => Some(Leaf::Decimal(array, DecimalForm::Int32)),
+        PhysicalType::Int64 => Some(Leaf::Decimal(array, DecimalForm::Int64)),
+        PhysicalType::FixedLenByteArray(size) => Some(Leaf::Decimal(
+            array,
+            DecimalForm::Fixed(size),
+        )),
+        PhysicalType::ByteArray => None,
+        PhysicalType::Boolean | PhysicalType::Int96 => None,
+        PhysicalType::Float | PhysicalType::Double => None,
     }
 }
 
@@ -200,11 +233,8 @@ pub fn leaf_of(array: &ArrayBox, physical_type: PhysicalType) -> Option<Leaf<'_>
         }
         ArrayBox::Int32(a) => int32_leaf(a, physical_type),
         ArrayBox::UInt32(a) => uint32_leaf(a, physical_type),
+        ArrayBox::Int128(a) => decimal_leaf(a, physical_type),
         ArrayBox::Null(a) => {
-            a.know();
-            None
-        }
-        ArrayBox::Int128(a) => {
             a.know();
             None
         }

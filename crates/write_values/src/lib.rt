@@ -2,6 +2,7 @@
 //! "Data Pages", "Nested Encoding", "Types" and LogicalTypes; Encodings, "Plain", "Delta Encoding" and "Delta-length byte array").
 #![tactic(auto)]
 
+mod decimals;
 mod deltas;
 mod fixed;
 mod intervals;
@@ -21,10 +22,12 @@ mod statistics;
 mod strings;
 mod truths;
 mod values;
+mod wide;
 
-pub use leaf::is_served;
+pub use leaf::{is_decimal, is_served};
 pub use measured::Measured;
 pub use page::{PageForm, data_page};
 pub use spelling::page_encoding;
 pub use statistics::column_statistics;
 pub use values::measure_values;
+pub use wide::has_wide;

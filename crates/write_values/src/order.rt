@@ -1,8 +1,11 @@
 //! The values of leaf arrays in order (Parquet format, `ColumnOrder`).
 ghost use Rattle.std.specs.Prelude.{◌≡◌, IsTrue, false};
+ghost use Rattle.columns_core.specs.Natives.{within_signed};
 ghost use Rattle.shredding.specs.Slot.{bytes};
 ghost use Rattle.pq_files.specs.Statistics.{IsUpTo};
+ghost use Rattle.write_values.specs.Decimals.{IsForm, form_physical, held_decimal};
 
+use crate::decimals::{DecimalForm, Decimals, push_decimal};
 use crate::fixed::FixedStrings;
 use crate::numbers::{AlwaysStored, Numbers, StoredNumber};
 use crate::strings::{Strings, Texts, string_at};
@@ -202,6 +205,50 @@ impl<'a> OrderedLeaf for FixedStrings<'a> {
     fn bound(&self, alloc: Global, i: usize) -> Result<Vec<u8>> {
         self.array.know();
         let text = Vec::from_slice(alloc, self.string(i))?;
+        Ok(text)
+    }
+}
+
+// The number where a column holds it, else 0.
+fn held_decimal(form: DecimalForm, number: &i128) -> i128
+    requires { IsForm form }
+    ensures is { result ≡ held_decimal (form_physical form) (within_signed 128 number.now) }
+    ensures within { within_signed 128 result ≡ held_decimal (form_physical form) (within_signed 128 number.now) }
+{
+    if form.holds(number) { *number } else { 0 }
+}
+
+// The decimals that a column holds, and 0 in the place of those that it does not.
+impl<'a> OrderedLeaf for Decimals<'a> {
+    ghost use Rattle.std.specs.Prelude.{map};
+    ghost use Rattle.columns_core.specs.Shapes.{base, leaf_type};
+    ghost use Rattle.write_values.specs.Decimals.{form_physical, held_value};
+    ghost use Rattle.write_values.specs.Numbers.{at_place};
+    ghost use Rattle.write_values.specs.Wide.{numbers_in};
+
+    ghost count = { λ s. numbers_in s };
+
+    ghost kind = { λ s. leaf_type (base s.array.now.0) };
+
+    ghost physical = { λ s. form_physical s.form };
+
+    ghost value = { λ s. at_place (map (held_value (form_physical s.form)) s.array.now.1.0) };
+
+    fn len(&self) -> usize {
+        self.array.len()
+    }
+
+    fn is_less(&self, i: usize, j: usize) -> bool {
+        self.array.know();
+        let values = self.array.values();
+        held_decimal(self.form, &values[i]) < held_decimal(self.form, &values[j])
+    }
+
+    fn bound(&self, alloc: Global, i: usize) -> Result<Vec<u8>> {
+        self.array.know();
+        let number = held_decimal(self.form, &self.array.values()[i]);
+        let mut text = Vec::new(alloc);
+        push_decimal(&mut text, &number, self.form)?;
         Ok(text)
     }
 }

@@ -16,6 +16,7 @@ ghost use Rattle.write_values.specs.Rows.{AppendsPlain, Measures};
 ghost use Rattle.write_values.specs.Served.{is_served};
 ghost use Rattle.write_values.specs.Stored.{stored_at};
 
+use crate::decimals::Decimals;
 use crate::fixed::{FixedStrings, InFixed};
 use crate::intervals::{Days, Months};
 use crate::leaf::{Leaf, leaf_of};
@@ -59,6 +60,10 @@ pub fn measure(leaf: Leaf<'_>, nested: &[Nested]) -> Measured
             measure_row(&InFixed::new(Months::new(a)), nested)
         }
         Leaf::Days(array) => measure_row(&InFixed::new(Days { array }), nested),
+        Leaf::Decimal(a, form) => {
+            a.know();
+            measure_row(&InFixed::new(Decimals::new(a, form)), nested)
+        }
     }
 }
 
@@ -97,6 +102,10 @@ pub fn push_values(
             push_row(&InFixed::new(Months::new(a)), nested, out)
         }
         Leaf::Days(array) => push_row(&InFixed::new(Days { array }), nested, out),
+        Leaf::Decimal(a, form) => {
+            a.know();
+            push_row(&InFixed::new(Decimals::new(a, form)), nested, out)
+        }
     }
 }
 

@@ -29,4 +29,10 @@ returns c =
       no_number = refl;
       empty = refl;
       blank = refl;
+      ten_rows = refl;
+      most_rows = refl;
+      no_rows = refl;
+      too_many_rows = refl;
+      no_count = refl;
+      with_options = refl;
     }

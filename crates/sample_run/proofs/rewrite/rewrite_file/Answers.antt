@@ -1,7 +1,7 @@
 use Rattle.std.proofs.Common.{Some, Err, refl, ap}
 use Rattle.pq_io.specs.PlainSinks.{plain_taken}
 use Rattle.pq_io.specs.PlainSources.{plain_left}
-use Rattle.pq_rewrite.specs.Answer.{ends}
+use Rattle.rewrite_whole.specs.Answer.{ends}
 use Rattle.sample_run.proofs.Refusing.{not_rewritten, some_rows}
 use Rattle.sample_run.proofs.rewrite.rewrite_file.Goals as goal
 

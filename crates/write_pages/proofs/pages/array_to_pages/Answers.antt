@@ -29,5 +29,6 @@ returns-clause-ok c =
       statistics = search rules;
       stored = c.in_ok-per_page.ensures.rule.stored;
       are_stored = c.in_ok-per_page.ensures.rule.are_stored;
+      have_bytes = c.in_ok-per_page.ensures.rule.have_bytes;
       pieces = search rules;
     }

@@ -1,5 +1,4 @@
 use Rattle.std.proofs.Common.{map, arith, refl}
-use Rattle.pq_tree.specs.Physical.{fixed}
 use Rattle.write_places.specs.Places.{picked}
 use Rattle.write_places.proofs.Picked.{next_picked}
 use Rattle.write_values.proofs.Picked.{partly_none, partly_more, partly_all, one_less}
@@ -8,7 +7,7 @@ use Rattle.write_values.proofs.fixed.push_picked.Goals as goal
 pub loop-left-init : goal.loop-left-init
 loop-left-init g c = record {
   low = c.requires.low;
-  row = partly_none (fixed (g.V.FixedValues.size c.args.values.now)) _ (map (g.V.FixedValues.at c.args.values.now) (picked c.args.bits c.args.from c.args.count));
+  row = partly_none (g.V.FixedValues.physical c.args.values.now) _ (map (g.V.FixedValues.at c.args.values.now) (picked c.args.bits c.args.from c.args.count));
 }
 
 pub overflow_add-from : goal.overflow_add-from
@@ -29,7 +28,7 @@ loop-left-smaller g c =
 pub loop-left-preserved : goal.loop-left-preserved
 loop-left-preserved g c =
     let i = c.loop-left.invariant in
-    let p = fixed (g.V.FixedValues.size c.args.values.now) in
+    let p = g.V.FixedValues.physical c.args.values.now in
     let f = g.V.FixedValues.at c.args.values.now in
     let n = next_picked c.loop-left.left c.args.from c.args.count (omega (arith, c.loop-left-test.true)) c.requires.few i.low in
     record {
@@ -39,6 +38,6 @@ loop-left-preserved g c =
 
 pub returns-clause-ok : goal.returns-clause-ok
 returns-clause-ok g c =
-    let p = fixed (g.V.FixedValues.size c.args.values.now) in
+    let p = g.V.FixedValues.physical c.args.values.now in
     let f = g.V.FixedValues.at c.args.values.now in
     partly_all p c.args.out.now.items c.loop-left.out.items (map f (picked c.args.bits c.args.from c.args.count)) f c.loop-left.left c.args.from c.args.count c.loop-left.invariant.row c.loop-left-test.false

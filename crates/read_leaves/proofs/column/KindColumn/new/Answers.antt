@@ -1,4 +1,4 @@
-use Rattle.read_leaves.proofs.column.KindColumn.new.Goals.{in-Boolean+in_ok-read-in-Boolean, in-Null+in_ok-read-in-Null, in-Int8+in_ok-read-in-Int8, in-Int16+in_ok-read-in-Int16, in-Int32+in_ok-read-in-Int32, in-UInt8+in_ok-read-in-UInt8, in-UInt16+in_ok-read-in-UInt16, in-UInt32+in_ok-read-in-UInt32, in-Int64+in_ok-read-in-Int64, in-Decimal+in_ok-read-in-Decimal, in-WideDecimal+in_ok-read-in-WideDecimal, in-WideUInt32+in_ok-read-in-WideUInt32, in-UInt64+in_ok-read-in-UInt64, in-Utf8+in_ok-read-in-Utf8, in-LargeUtf8+in_ok-read-in-LargeUtf8, in-Binary+in_ok-read-in-Binary, in-LargeBinary+in_ok-read-in-LargeBinary, in-FixedDecimal+in_ok-read-in-FixedDecimal, in-Months+in_ok-read-in-Months, in-Days+in_ok-read-in-Days}
+use Rattle.read_leaves.proofs.column.KindColumn.new.Goals.{in-Boolean+in_ok-read-in-Boolean, in-Null+in_ok-read-in-Null, in-Int8+in_ok-read-in-Int8, in-Int16+in_ok-read-in-Int16, in-Int32+in_ok-read-in-Int32, in-UInt8+in_ok-read-in-UInt8, in-UInt16+in_ok-read-in-UInt16, in-UInt32+in_ok-read-in-UInt32, in-Int64+in_ok-read-in-Int64, in-Decimal+in_ok-read-in-Decimal, in-WideDecimal+in_ok-read-in-WideDecimal, in-WideUInt32+in_ok-read-in-WideUInt32, in-UInt64+in_ok-read-in-UInt64, in-Utf8+in_ok-read-in-Utf8, in-LargeUtf8+in_ok-read-in-LargeUtf8, in-Binary+in_ok-read-in-Binary, in-LargeBinary+in_ok-read-in-LargeBinary, in-FixedDecimal+in_ok-read-in-FixedDecimal, in-Months+in_ok-read-in-Months, in-Days+in_ok-read-in-Days, in-FixedSizeBinary+in_ok-read-in-FixedSizeBinary}
 use Rattle.read_leaves.proofs.column.KindColumn.new.Goals as goal
 
 pub returns-clause-reads : goal.returns-clause-reads
@@ -23,4 +23,5 @@ returns-clause-reads g c o readable physical outcomes way rows size = elim c.mat
   | in-FixedDecimal+in_ok-read-in-FixedDecimal w ↦ rw (w.in-FixedDecimal.is, w.result-is) (w.in_ok-read-in-FixedDecimal.ensures.reads o _ _ (rw w.in-FixedDecimal.is at readable) physical outcomes way rows size)
   | in-Months+in_ok-read-in-Months w ↦ rw (w.in-Months.is, w.result-is) (w.in_ok-read-in-Months.ensures.reads o _ _ (rw w.in-Months.is at readable) physical outcomes way rows size)
   | in-Days+in_ok-read-in-Days w ↦ rw (w.in-Days.is, w.result-is) (w.in_ok-read-in-Days.ensures.reads o _ _ (rw w.in-Days.is at readable) physical outcomes way rows size)
+  | in-FixedSizeBinary+in_ok-read-in-FixedSizeBinary w ↦ rw (w.in-FixedSizeBinary.is, w.result-is) (w.in_ok-read-in-FixedSizeBinary.ensures.reads o _ _ (rw w.in-FixedSizeBinary.is at readable) physical outcomes way rows size)
 ]

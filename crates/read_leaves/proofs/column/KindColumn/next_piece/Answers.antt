@@ -59,3 +59,6 @@ returns-in-Days-clause-gives g c o pieces r = rw c.in-Days.is (c.next_fixed-in-D
 
 pub returns-in-FixedDecimal-clause-gives : goal.returns-in-FixedDecimal-clause-gives
 returns-in-FixedDecimal-clause-gives g c o pieces r = rw c.in-FixedDecimal.is (c.next_fixed.ensures o pieces (rw c.in-FixedDecimal.is at r))
+
+pub returns-in-FixedSizeBinary-clause-gives : goal.returns-in-FixedSizeBinary-clause-gives
+returns-in-FixedSizeBinary-clause-gives g c o pieces r = rw c.in-FixedSizeBinary.is (c.next_chunks.ensures o pieces (rw c.in-FixedSizeBinary.is at r))

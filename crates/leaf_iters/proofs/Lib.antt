@@ -1,0 +1,4 @@
+pub mod Values
+pub mod Flat
+pub mod Arrays
+pub mod Sections

@@ -1,0 +1,3 @@
+pub mod Iters
+pub mod Nulls
+pub mod Indices

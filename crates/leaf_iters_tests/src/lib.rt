@@ -1,0 +1,9 @@
+//! Tests of the iterators over leaves, in a crate of their own so that these are not proved twice.
+#![tactic(auto)]
+
+#[cfg(test)]
+mod flat_tests;
+#[cfg(test)]
+mod nested_tests;
+#[cfg(test)]
+mod pages;

@@ -1,7 +1,0 @@
-use Rattle.std.proofs.Common.{◌≡◌, ◌+◌, map, take, sum_by}
-use Rattle.pq_tree.specs.Views.{group_view}
-use Rattle.pq_rewrite.specs.Claims.{group_claims}
-use Rattle.pq_rewrite.proofs.checks.check_pairs.Given as goal
-
-abbrev pub invariant-loop-group : goal.invariant-loop-group
-invariant-loop-group l = l.rest + sum_by group_claims (take l.group-index (map group_view l.metadata.row_groups.items)) ≡ l.pair_limit

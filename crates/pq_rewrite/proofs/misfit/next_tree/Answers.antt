@@ -1,6 +1,0 @@
-use Rattle.std.proofs.Common.{refl, arith}
-use Rattle.pq_rewrite.proofs.Misfitting.{nest_drop}
-use Rattle.pq_rewrite.proofs.misfit.next_tree.Goals as goal
-
-pub loop-i-init : goal.loop-i-init
-loop-i-init c = record { left = refl; shallow = omega (arith, nest_drop c.args.from c.args.trees.now, c.requires.nesting) }

@@ -1,0 +1,155 @@
+//! Byte strings of one size.
+ghost use Rattle.std.specs.Prelude.{◌≡◌, ◌⊎◌, ℕ, List, [], Some, true, false, length, OnOk, IfOk, IfErr};
+ghost use Rattle.columns_base.specs.declared.error.Error.TheVariants.{Memory, OutOfSpec};
+ghost use Rattle.columns_base.specs.declared.error.S.TheVariants.{S6, S7};
+ghost use Rattle.columns_core.specs.Shapes.{base};
+ghost use Rattle.columns_core.specs.View.{type_view};
+ghost use Rattle.columns_leaf.specs.Fixed.{AreWhole, fixed_count};
+ghost use Rattle.columns_array.specs.Boxed.{boxed};
+ghost use Rattle.read_laws.specs.State.{leaf_count, StateFits};
+ghost use Rattle.read_leaf.specs.Fixed.{stored_fixed};
+ghost use Rattle.read_leaf.specs.FixedBytes.{chunk_slots, loaded_bytes};
+ghost use Rattle.read_pieces.specs.Leaves.{AreEights, BeginsOutside, BeginsWithValue, in_bytes};
+ghost use Rattle.read_walk.specs.Walk.{Extends, Refuses};
+ghost use Rattle.read_types.specs.Arrays.{IsLeafArray, makes_chunks};
+
+use crate::array::LeafArray;
+use columns_array::ArrayBox;
+use columns_base::{Error, Result, S};
+use columns_core::{Bitmap, DataType};
+use columns_leaf::FixedSizeBinaryArray;
+use read_leaf::{FixedBytesDecoder, FixedBytesValues, PlainStrings};
+use read_pieces::{LeafReader, PlainBytes};
+use read_state::NestedState;
+use read_walk::{NestedPage, extend_levels};
+use std::alloc::Global;
+
+/// Reads byte strings of so many bytes each, which are stored as they are (Parquet format, Encodings, "Plain", FIXED_LEN_BYTE_ARRAY).
+#[derive(Drop)]
+pub struct FixedBytes {
+    pub size: usize,
+}
+
+// How many bytes the first string has, where each has so many.
+fn chunk_size(bytes: &[u8], size: usize) -> Result<usize>
+    ensures ok { IfOk result (λ n. BeginsWithValue (stored_fixed loaded_bytes size) n bytes.now) }
+    ensures err { IfErr result (λ e. (e ≡ OutOfSpec S6) × (stored_fixed loaded_bytes size bytes.now ≡ [])) }
+{
+    if size == 0 {
+        return Err(Error::OutOfSpec(S::S6));
+    }
+    if bytes.len() < size {
+        return Err(Error::OutOfSpec(S::S6));
+    }
+    Ok(size)
+}
+
+// Each string stands in bytes of its own.
+#[tactic(auto, using(crate::proofs::FixedSizes::fixed_own))]
+fn has_own_bytes(size: usize) -> bool
+    ensures is { result ≡ true }
+    ensures own { in_bytes (stored_fixed loaded_bytes size) ≡ true }
+{
+    let _size = size;
+    true
+}
+
+impl LeafReader for FixedBytes {
+    ghost use Rattle.read_leaf.specs.Fixed.{stored_fixed};
+    ghost use Rattle.read_leaf.specs.FixedBytes.{chunk_slots, loaded_bytes};
+
+    type Values = FixedBytesValues;
+
+    ghost stored = { λ r text bit. stored_fixed loaded_bytes r.size text };
+
+    ghost slots = { λ d. chunk_slots d.0 d.1.0 d.1.1 };
+
+    ghost byte_limit = { 0 };
+
+    fn begin(alloc: Global) -> Result<FixedBytesValues>
+        ensures ok { IfOk result (λ v. chunk_slots v.0 v.1.0 v.1.1 ≡ []) }
+        ensures err { IfErr result (λ e. e ≡ Memory) }
+    {
+        Ok(FixedBytesValues::new(alloc))
+    }
+
+    fn stands_in_bytes(&self) -> bool
+        ensures value { result ≡ in_bytes (λ text. stored_fixed loaded_bytes self.now.size text) }
+        ensures bits { result ≡ false → (text : List ℕ) → AreEights (λ text. stored_fixed loaded_bytes self.now.size text) text }
+    {
+        has_own_bytes(self.size)
+    }
+
+    fn value_size(&self, bytes: &[u8]) -> Result<usize>
+        ensures ok { in_bytes (λ text. stored_fixed loaded_bytes self.now.size text) ≡ true → IfOk result (λ n. BeginsWithValue (λ text. stored_fixed loaded_bytes self.now.size text) n bytes.now) }
+        ensures err { IfErr result (λ e. ((e ≡ OutOfSpec S6) × (stored_fixed loaded_bytes self.now.size bytes.now ≡ [])) ⊎ ((e ≡ OutOfSpec S7) × BeginsOutside (λ text. stored_fixed loaded_bytes self.now.size text) bytes.now)) }
+    {
+        chunk_size(bytes, self.size)
+    }
+
+    fn extend<'a, 'b>(
+        &self,
+        page: &mut NestedPage<'a>,
+        bytes: &mut PlainBytes<'b>,
+        nested: &mut NestedState,
+        values: &mut FixedBytesValues,
+        additional: usize,
+    ) -> Result<()>
+        requires fits { StateFits nested.old }
+        requires decoded { length (chunk_slots values.old.0 values.old.1.0 values.old.1.1) ≡ leaf_count nested.old }
+        ensures ok { OnOk result (Extends additional page.old page.new (stored_fixed loaded_bytes self.now.size bytes.old.values.now) (stored_fixed loaded_bytes self.now.size bytes.new.values.now) nested.old nested.new (chunk_slots values.old.0 values.old.1.0 values.old.1.1) (chunk_slots values.new.0 values.new.1.0 values.new.1.1)) }
+        ensures err { IfErr result (Refuses 0 additional page.old (stored_fixed loaded_bytes self.now.size bytes.old.values.now) nested.old (chunk_slots values.old.0 values.old.1.0 values.old.1.1)) }
+    {
+        let mut left = PlainStrings {
+            values: bytes.values,
+        };
+        let decoder = FixedBytesDecoder { size: self.size };
+        let result = extend_levels(page, &mut left, nested, values, &decoder, additional);
+        bytes.values = left.values;
+        result
+    }
+}
+
+// Byte strings and which of them are there, as an array. Where they have another size than the type says, which no reader of the type gives, there is
+// no room for them.
+fn chunk_array(
+    alloc: Global,
+    data_type: DataType,
+    content: Vec<u8>,
+    validity: Bitmap,
+) -> Result<FixedSizeBinaryArray>
+    ensures ok { IfOk result (λ a. a ≡ (type_view data_type, (content.items, Some validity))) }
+    ensures whole { IfOk result (λ a. AreWhole (base (type_view data_type)) content.items) }
+    ensures mask { IfOk result (λ a. length validity ≡ fixed_count (base (type_view data_type)) content.items) }
+    ensures err { IfErr result (λ e. e ≡ Memory) }
+{
+    match FixedSizeBinaryArray::try_new(alloc, data_type, content, Some(validity)) {
+        Ok(array) => {
+            array.know();
+            Ok(array)
+        }
+        Err(_) => Err(Error::Memory),
+    }
+}
+
+impl LeafArray for FixedBytes {
+    ghost use Rattle.read_types.specs.Arrays.{makes_chunks};
+
+    ghost makes = { makes_chunks };
+
+    fn into_array(alloc: Global, values: FixedBytesValues, data_type: DataType) -> Result<ArrayBox>
+        requires { makes_chunks (base (type_view data_type)) ≡ true }
+        ensures ok { IfOk result (λ a. IsLeafArray (type_view data_type) (chunk_slots values.0 values.1.0 values.1.1) (boxed a)) }
+        ensures err { IfErr result (λ e. e ≡ Memory) }
+    {
+        let (content, validity) = values.into_parts();
+        let validity = match validity.into_bitmap() {
+            Ok(validity) => validity,
+            Err(error) => return Err(error),
+        };
+        match chunk_array(alloc, data_type, content, validity) {
+            Ok(array) => Ok(ArrayBox::FixedSizeBinary(array)),
+            Err(error) => Err(error),
+        }
+    }
+}

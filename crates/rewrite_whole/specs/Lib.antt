@@ -1,0 +1,13 @@
+pub mod Answer
+pub mod Asks
+pub mod Claims
+pub mod Groups
+pub mod Keys
+pub mod Opening
+pub mod Places
+pub mod Plans
+pub mod Ready
+pub mod Views
+pub use Rattle.pq_io.specs.Causes
+pub use Rattle.pq_io.specs.Ends
+pub use Rattle.pq_io.specs.Reading

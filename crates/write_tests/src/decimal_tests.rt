@@ -1,0 +1,144 @@
+//! Pages of decimals by hand: their bytes, their bounds, and what is refused (Parquet format, LogicalTypes, "DECIMAL"; Encodings, "Plain").
+use columns_array::ArrayBox;
+use columns_base::{A, Error, PhysicalType, Result};
+use columns_core::{Bitmap, DataType};
+use columns_leaf::PrimitiveArray;
+use levels::Nested;
+use pq_pages::Page;
+use pq_tree::{
+    CompressionOptions, Encoding, FieldInfo, PrimitiveType, Repetition, Statistics, Version,
+};
+use std::alloc::Global;
+use write_pages::{PageIter, WriteOptions, array_to_pages};
+
+// 2^71, one more than nine bytes hold, and the least number that they hold.
+const PAST: i128 = 2_361_183_241_434_822_606_848;
+
+const LEAST: i128 = -2_361_183_241_434_822_606_848;
+
+const OPTIONS: WriteOptions = WriteOptions {
+    write_statistics: true,
+    version: Version::V2,
+    compression: CompressionOptions::Uncompressed,
+    data_pagesize_limit: None,
+};
+
+fn decimals(
+    alloc: Global,
+    precision: usize,
+    scale: usize,
+    values: &[i128],
+    there: &[bool],
+) -> Result<ArrayBox> {
+    let values = values.to_vec(alloc)?;
+    let mask = Bitmap::from_slice(alloc, there)?;
+    let data_type = DataType::Decimal(precision, scale);
+    Ok(ArrayBox::Int128(PrimitiveArray::try_new(alloc, data_type, values, Some(mask))?))
+}
+
+// The pages of an optional column of decimals.
+fn pages(
+    alloc: Global,
+    array: &ArrayBox,
+    there: &[bool],
+    physical_type: PhysicalType,
+) -> Result<PageIter> {
+    let mask = Bitmap::from_slice(alloc, there)?;
+    let mut path = Vec::new(alloc);
+    path.push(Nested::Primitive(Some(mask), true, there.len()))?;
+    // a path of a schema is no deeper
+    if path.len() > 128 {
+        return Err(Error::InvalidArgumentError(A::A8));
+    }
+    let type_ = PrimitiveType {
+        field_info: FieldInfo {
+            name: String::from_str(alloc, "x")?,
+            repetition: Repetition::Optional,
+            id: None,
+        },
+        logical_type: None,
+        converted_type: None,
+        physical_type,
+    };
+    array_to_pages(alloc, array, type_, &path, OPTIONS, Encoding::Plain)
+}
+
+// Whether so many nulls are stated, and these bounds.
+fn are_stated(stated: &Option<Statistics>, nulls: i64, least: &[u8], greatest: &[u8]) -> bool {
+    match stated {
+        Some(stated) => {
+            stated.null_count == Some(nulls)
+                && is_text(&stated.min_value, least)
+                && is_text(&stated.max_value, greatest)
+        }
+        None => false,
+    }
+}
+
+fn is_text(text: &Option<Vec<u8>>, wanted: &[u8]) -> bool {
+    match text {
+        Some(text) => text.as_slice() == wanted,
+        None => false,
+    }
+}
+
+// Whether the only page has this body, and the column these statistics.
+fn are(
+    mut pages: PageIter,
+    body: &[u8],
+    nulls: i64,
+    least: &[u8],
+    greatest: &[u8],
+) -> Result<bool> {
+    let column = are_stated(pages.statistics(), nulls, least, greatest);
+    match pages.next_page() {
+        Some(Ok(Page::Data(page))) => {
+            Ok(column && page.buffer() == body && pages.next_page().is_none())
+        }
+        Some(Err(error)) => Err(error),
+        _ => Ok(false),
+    }
+}
+
+// 123.45 and -3.00, the lowest byte first, and between them a null whose number does not count.
+#[test]
+fn decimals_as_numbers(rt: HostRuntime) -> Result<()> {
+    let alloc = rt.alloc();
+    let there = [true, false, true];
+    let values = [12345, PAST, -300];
+    let array = decimals(alloc, 9, 2, &values, &there)?;
+    let pages = pages(alloc, &array, &there, PhysicalType::Int32)?;
+    let body = b"\x03\x05\x39\x30\x00\x00\xd4\xfe\xff\xff";
+    assert!(rt; are(pages, body, 1, b"\xd4\xfe\xff\xff", b"\x39\x30\x00\x00")?);
+    Ok(())
+}
+
+// The greatest and the least number of nine bytes, the highest byte first, and -2. The order is that of numbers with a sign.
+#[test]
+fn decimals_as_byte_strings(rt: HostRuntime) -> Result<()> {
+    let alloc = rt.alloc();
+    let there = [true, true, true];
+    let values = [PAST - 1, LEAST, -2];
+    let array = decimals(alloc, 19, 0, &values, &there)?;
+    let pages = pages(alloc, &array, &there, PhysicalType::FixedLenByteArray(9))?;
+    let body =
+        b"\x03\x07\x7f\xff\xff\xff\xff\xff\xff\xff\xff\x80\x00\x00\x00\x00\x00\x00\x00\x00\xff\xff\xff\xff\xff\xff\xff\xff\xfe";
+    let least = b"\x80\x00\x00\x00\x00\x00\x00\x00\x00";
+    let greatest = b"\x7f\xff\xff\xff\xff\xff\xff\xff\xff";
+    assert!(rt; are(pages, body, 0, least, greatest)?);
+    Ok(())
+}
+
+#[test]
+fn decimals_past_their_bytes_are_refused(rt: HostRuntime) -> Result<()> {
+    let alloc = rt.alloc();
+    let there = [true];
+    let values = [PAST];
+    let array = decimals(alloc, 19, 0, &values, &there)?;
+    let refused = matches!(
+        pages(alloc, &array, &there, PhysicalType::FixedLenByteArray(9)),
+        Err(Error::InvalidArgumentError(A::A7))
+    );
+    assert!(rt; refused);
+    Ok(())
+}
