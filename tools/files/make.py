@@ -180,7 +180,7 @@ def complaints(case, output, again):
 
 def compare(folder, program):
     os.makedirs(folder, exist_ok=True)
-    wrong, outputs = 0, {}
+    wrong, unknown, outputs = 0, 0, {}
     for case in cases.CASES:
         if case.status:
             continue
@@ -189,7 +189,11 @@ def compare(folder, program):
         outputs[case.name] = output
         with open(os.path.join(folder, file_name(case)), "wb") as file:
             file.write(output)
-        told = complaints(case, output, run(program_, output)) if status == 0 else [f"{status} {line}"]
+        try:
+            told = complaints(case, output, run(program_, output)) if status == 0 else [f"{status} {line}"]
+        except reader.Unknown:
+            unknown += 1
+            continue
         wrong += bool(told)
         for text in told:
             print(f"{case.table}: {case.name}: {text}")
@@ -197,7 +201,7 @@ def compare(folder, program):
         if outputs[one] != outputs[other]:
             wrong += 1
             print(f"{other}: not the bytes of: {one}")
-    print(f"{len(outputs)} outputs, {wrong} complaints")
+    print(f"{len(outputs)} outputs, {wrong} complaints; {unknown} are of types or encodings that the reader does not know")
     return wrong == 0
 
 

@@ -8,6 +8,10 @@ import arrow
 MAKER = b"Arrow2 - Native Rust implementation of Arrow"
 
 
+class Unknown(Exception):
+    """What is not read here: decimals as numbers, whatever is stored as byte strings of one length, and delta pages."""
+
+
 class Bytes:
     """Bytes that are taken from the front."""
 
@@ -134,7 +138,8 @@ class Parsed:
             assert header[1] in (0, 3), "page"
             head = header[5] if header[1] == 0 else header[8]
             encoding = head[2 if header[1] == 0 else 4]
-            assert encoding == 0 or (encoding in (2, 8) and entries is not None), "encoding"
+            if not (encoding == 0 or (encoding in (2, 8) and entries is not None)):
+                raise Unknown("encoding")
             body, count, exact = Bytes(source.take(header[3])), head[1], True
             both = []
             for greatest, place in ((greatest_r, 6), (greatest_d, 5)):
@@ -170,6 +175,8 @@ class Parsed:
             return [bool(bits >> i & 1) for i in range(count)]
         if node.physical == 6:
             return [body.take(int.from_bytes(body.take(4), "little")) for _ in range(count)]
+        if node.physical == 7:
+            raise Unknown(node.name)
         return [int.from_bytes(body.take({1: 4, 2: 8}[node.physical]), "little", signed=True) for _ in range(count)]
 
     def rows(self):
@@ -260,6 +267,8 @@ for unit in (1, 2, 3):
 
 def leaf_type(node):
     logical, converted = node.logical, node.converted
+    if node.physical == 7 or (node.physical != 6 and (5 in logical or converted == 5)):
+        raise Unknown(node.name)
     if node.physical == 0:
         return "Boolean"
     if node.physical == 6:
@@ -365,7 +374,7 @@ def bounds(node, triples):
     width = 4 * node.physical
     unsigned = node.physical != 6 and leaf_type(node).startswith("UInt")
     order = (lambda v: v % (1 << 8 * width)) if unsigned else (lambda v: v)
-    spelled = (lambda v: v) if node.physical == 6 else (lambda v: v.to_bytes(width, "little", signed=True))
+    spelled = bytes if node.physical == 6 else (lambda v: v.to_bytes(max(width, 1), "little", signed=width > 0))
     ends = {5: spelled(max(values, key=order)), 6: spelled(min(values, key=order))} if values else {}
     return {3: len(triples) - len(values), **ends}
 
