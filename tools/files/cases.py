@@ -745,6 +745,13 @@ def keyed():
     milli = [leaf("t", r, INT64, TIMESTAMP_MILLIS)]
     bad(t, "a key of another unit", rows(milli, 5, keys=key(arrow.field("t", False, arrow.TIMESTAMP, (2,)))), "S8")
     good(t, "a key of the same unit and a zone", rows(milli, 5, keys=key(arrow.field("t", False, arrow.TIMESTAMP, (1, b"UTC")))), 1, 1, 1)
+    nothing = arrow.field("n", True, arrow.NULL)
+    good(t, "nulls alone", rows([leaf("n", o, INT32, None, UNKNOWN_L)], None, None, None, keys=key(nothing)), 1, 3, 1)
+    good(t, "nulls alone in lists", rows(FIRST, [None, None], None, [], [None], keys=key(arrow.field("a", True, arrow.LIST, (), [arrow.field("element", True, arrow.NULL)]))), 1, 4, 1)
+    beside = arrow.field("s", True, arrow.STRUCT, (), [arrow.field("x", True, arrow.NULL), arrow.int32("y")])
+    good(t, "nulls alone in structs", rows([group("s", o, number("x", o), number("y"))], (None, 5), None, keys=key(beside)), 1, 2, 2)
+    bad(t, "a value among nulls alone", rows([number("n", o)], None, 5, keys=key(nothing)), "S7")
+    bad(t, "a required column of nulls alone", flat(keys=key(arrow.field("n", False, arrow.NULL))), "N5")
     index = arrow.Table(0, arrow.Table(32, 1), 0)
     bad(t, "a key of a dictionary", rows(TEXT, b"ab", keys=key(arrow.field("s", False, arrow.UTF8, dictionary=index))), "N5")
 

@@ -24,6 +24,17 @@ first_error (gives_page p levels ∷ os) = first_error os
 first_error (gives_dictionary n body ∷ os) = first_error os
 first_error (fails e ∷ os) = Some e
 
+-- the values of one outcome
+abbrev pub values_of : Outcome → ℕ
+values_of (gives_page p levels) = count_in p.header
+values_of (gives_dictionary n body) = 0
+values_of (fails e) = 0
+
+-- Outcomes were taken off the front, each only while fewer values were seen than are wanted; then so many are seen.
+abbrev pub TakenWhile : ℕ → ℕ → List Outcome → ℕ → List Outcome → Type 0
+TakenWhile wanted before [] now left = (left ≡ []) × (now ≡ before)
+TakenWhile wanted before (o ∷ os) now left = ((left ≡ o ∷ os) × (now ≡ before)) ⊎ ((before < wanted) × TakenWhile wanted (before + values_of o) os now left)
+
 -- the type of the arrays, what the source gives, at most how many nulls there are, and how many go into an array
 pub record NullOpening : Type 0 where
   pub data_type : TypeTree
@@ -84,6 +95,13 @@ pub record TakesValues (before after : List Outcome) (n : ℕ) : Type 0 where
   pub values : values_in before ≡ n + values_in after
   pub error : first_error before ≡ first_error after
   pub less : length after < length before
+  pub outcome : Outcome
+  pub first : before ≡ outcome ∷ after
+  pub count : values_of outcome ≡ n
+
+-- A call took outcomes only while fewer rows were there than go into an array: those that were seen before, and the values of the outcomes that it took.
+abbrev pub TakesFew : NullReading → NullReading → Type 0
+TakesFew old new = (now : ℕ) × TakenWhile (piece_size old.chunk_size old.left) (old.left - old.unseen) old.outcomes now new.outcomes
 
 -- Pages were taken, so that of the rows that are left so many are still unseen.
 pub record IsSeen (left unseen : ℕ) (before after : List Outcome) (now : ℕ) : Type 0 where

@@ -1,5 +1,5 @@
 //! Arrays of nulls alone, by the number of values in a column's pages.
-ghost use Rattle.std.specs.Prelude.{◌≡◌, ◌≢◌, ◌↔◌, ◌⊎◌, ℕ, ◌<◌, ◌≤◌, ◌+◌, ◌-◌, [], min, length, replicate, None, Some, true, IfErr, IfOk, IsErrOf, MatchOption};
+ghost use Rattle.std.specs.Prelude.{◌≡◌, ◌≢◌, ◌↔◌, ◌⊎◌, ℕ, ◌<◌, ◌≤◌, ◌+◌, ◌-◌, ◌∷◌, [], min, length, replicate, None, Some, true, IfErr, IfOk, IsErrOf, MatchOption};
 ghost use Rattle.columns_array.specs.Boxed.{boxed};
 ghost use Rattle.columns_base.specs.declared.error.Error.TheVariants.{InvalidArgumentError, Memory};
 ghost use Rattle.columns_base.specs.declared.error.A.TheVariants.{A1};
@@ -7,9 +7,10 @@ ghost use Rattle.columns_core.specs.Shapes.{base};
 ghost use Rattle.columns_core.specs.View.{type_view};
 ghost use Rattle.columns_slots.specs.Types.{is_null_type};
 ghost use Rattle.pq_headline.specs.Openings.{piece_size};
+ghost use Rattle.pq_pages.specs.Outcomes.{fails};
 ghost use Rattle.read_types.specs.Arrays.{IsLeafArray};
 ghost use Rattle.shredding.specs.Slot.{null as null_slot};
-ghost use Rattle.leaf_iters.specs.Nulls.{first_error, GivesNulls, HasNoneLeft, IsGivingNulls, IsSeen, null_opening, NullOpening, TakesValues, values_in};
+ghost use Rattle.leaf_iters.specs.Nulls.{first_error, GivesNulls, HasNoneLeft, IsGivingNulls, IsSeen, null_opening, NullOpening, TakenWhile, TakesFew, TakesValues, values_in};
 
 use columns_array::ArrayBox;
 use columns_base::{A, Error, Result};
@@ -54,7 +55,7 @@ impl<I: Pages> Model for NullIter<I> {
 // Takes the next page. Answers how many values it has, a dictionary page none; None at the end.
 fn take_values<I: Pages>(pages: &mut I) -> Result<Option<usize>>
     ensures ok { IfOk result (λ values. MatchOption values ((I.outcomes pages.old ≡ []) × (I.outcomes pages.new ≡ [])) (TakesValues (I.outcomes pages.old) (I.outcomes pages.new))) }
-    ensures err { IfErr result (λ e. (e ≡ Memory) ⊎ ((values_in (I.outcomes pages.old) ≡ 0) × (first_error (I.outcomes pages.old) ≡ Some e))) }
+    ensures err { IfErr result (λ e. ((e ≡ Memory) × (I.outcomes pages.new ≡ I.outcomes pages.old)) ⊎ ((values_in (I.outcomes pages.old) ≡ 0) × (first_error (I.outcomes pages.old) ≡ Some e) × (I.outcomes pages.old ≡ fails e ∷ I.outcomes pages.new))) }
 {
     match pages.advance() {
         Ok(()) => {}
@@ -74,6 +75,7 @@ fn see_values<I: Pages>(pages: &mut I, left: usize, unseen: usize, wanted: usize
     ensures ok { IfOk result (λ now. IsSeen left unseen (I.outcomes pages.old) (I.outcomes pages.new) now × ((wanted ≤ left - now) ⊎ (I.outcomes pages.new ≡ []))) }
     ensures err { IfErr result (λ e. (e ≡ Memory) ⊎ ((first_error (I.outcomes pages.old) ≡ Some e) × ((left - unseen) + min unseen (values_in (I.outcomes pages.old)) < wanted))) }
     ensures some { IfErr result (λ e. 0 < wanted) }
+    ensures taken { (now : ℕ) × TakenWhile wanted (left - unseen) (I.outcomes pages.old) now (I.outcomes pages.new) }
 {
     let mut hidden = unseen;
     'pages: while left - hidden < wanted {
@@ -152,6 +154,7 @@ impl<I: Pages> NullIter<I> {
     pub fn next(&mut self) -> Option<Result<ArrayBox>>
         ensures gives { (o : NullOpening) (before : ℕ) → IsGivingNulls o before self.old → GivesNulls o before result self.new }
         ensures ends { HasNoneLeft result self.new }
+        ensures taken { TakesFew self.old self.new }
         ensures ended { self.old.left ≡ 0 → (result ≡ None) × (self.new.left ≡ 0) }
     {
         let wanted = rows_wanted(self.chunk_size, self.left);

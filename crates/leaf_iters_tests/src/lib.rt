@@ -1,6 +1,8 @@
-//! Tests of the iterators over leaves, in a crate of their own so that these are not proved twice.
+//! Tests of the iterators over leaves and over fields, in a crate of their own so that these are not proved twice.
 #![tactic(auto)]
 
+#[cfg(test)]
+mod field_tests;
 #[cfg(test)]
 mod flat_tests;
 #[cfg(test)]

@@ -1,11 +1,10 @@
--- The types of fields that are served, which are both read and written: of the types that pages may have, nulls alone and dictionaries are not
+-- The types of fields that are served, which are both read and written: of the types that pages may have, dictionaries alone are not
 -- served yet. Of a type that no page has (the page table has no row for it) nothing is said here.
 use Rattle.std.specs.Prelude.{Bool, true, false, ◌&&◌}
-use Rattle.columns_core.specs.Tree.{TypeTree, t_null, t_list, t_fixed_size_list, t_large_list, t_struct, t_union, t_map, t_dictionary, t_extension, FieldTree, field, FieldTrees, no_fields, more_fields}
+use Rattle.columns_core.specs.Tree.{TypeTree, t_list, t_fixed_size_list, t_large_list, t_struct, t_union, t_map, t_dictionary, t_extension, FieldTree, field, FieldTrees, no_fields, more_fields}
 
 abbrev mutual
   pub is_served_type : TypeTree → Bool
-  is_served_type t_null = false
   is_served_type (t_list item) = is_served_field item
   is_served_type (t_large_list item) = is_served_field item
   is_served_type (t_fixed_size_list item n) = false

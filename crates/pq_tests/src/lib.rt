@@ -2,6 +2,8 @@
 #![tactic(auto)]
 
 #[cfg(test)]
+mod bitmap_tests;
+#[cfg(test)]
 mod delta_read_tests;
 #[cfg(test)]
 mod delta_tests;

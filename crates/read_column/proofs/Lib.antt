@@ -20,3 +20,4 @@ pub mod Refusals
 pub mod Refused
 pub mod Readings
 pub mod Entered
+pub mod Futures

@@ -7,3 +7,4 @@ pub mod Taken
 pub mod Dictionary
 pub mod Entries
 pub mod Laid
+pub mod Foreseen

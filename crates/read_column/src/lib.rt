@@ -11,4 +11,5 @@ mod queue;
 mod reader;
 mod take;
 
+pub use entries::{Entries, read_entries};
 pub use reader::ColumnReader;

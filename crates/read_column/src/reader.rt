@@ -10,6 +10,8 @@ ghost use Rattle.read_state.specs.Initial.{IsWay};
 ghost use Rattle.pq_tree.specs.Views.{physical_view};
 ghost use Rattle.read_walk.specs.Values.{Stored};
 ghost use Rattle.read_column.specs.Dictionary.{CannotHold, HoldsEntries, Texts, means};
+ghost use Rattle.pq_pages.specs.Outcomes.{Outcome};
+ghost use Rattle.read_column.specs.Foreseen.{FollowsGiven, GivesForeseen, SourceFails, foreseeing, foreseen};
 ghost use Rattle.read_column.specs.Reading.{IsFilled, IsReading, Steps, reading};
 
 use crate::deltas::{Deltas, deltas_of};
@@ -101,9 +103,10 @@ fn take_next<I: Pages, L: LeafReader>(
     began: &mut bool,
     queue: Queue<L>,
 ) -> Result<(Queue<L>, bool)>
-    ensures ok { (o : ColumnOpening) (pieces : List (List Triple)) → IsReading (λ text. L.stored leaf.now text 0) L.byte_limit o pieces (reading (I.outcomes pages.old) (means entries.old deltas) queue began.old) → IfOk result (λ x. Steps (λ text. L.stored leaf.now text 0) L.byte_limit o pieces x.1 x.0 (I.outcomes pages.new) (means entries.new deltas) began.new) }
+    ensures ok { (o : ColumnOpening) (pieces : List (List Triple)) (others : List Outcome) → IsReading (λ text. L.stored leaf.now text 0) L.byte_limit o pieces (reading (foreseen (I.outcomes pages.old) others) (means entries.old deltas) queue began.old) → IfOk result (λ x. Steps (λ text. L.stored leaf.now text 0) L.byte_limit o pieces x.1 x.0 (foreseen (I.outcomes pages.new) others) (means entries.new deltas) began.new) }
     ensures less { IfOk result (λ x. IsTrue x.1 → length (I.outcomes pages.new) < length (I.outcomes pages.old)) }
-    ensures err { (o : ColumnOpening) (pieces : List (List Triple)) → IsReading (λ text. L.stored leaf.now text 0) L.byte_limit o pieces (reading (I.outcomes pages.old) (means entries.old deltas) queue began.old) → IfErr result (RefusesPiece o) }
+    ensures behind { IfOk result (λ x. FollowsGiven (I.outcomes pages.old) (I.outcomes pages.new)) }
+    ensures err { (o : ColumnOpening) (pieces : List (List Triple)) (others : List Outcome) → IsReading (λ text. L.stored leaf.now text 0) L.byte_limit o pieces (reading (foreseen (I.outcomes pages.old) others) (means entries.old deltas) queue began.old) → IfErr result (λ e. SourceFails e (I.outcomes pages.old) ⊎ RefusesPiece o e) }
 {
     items_are_counted();
     match pages.advance() {
@@ -138,8 +141,9 @@ fn fill<I: Pages, L: LeafReader>(
     began: &mut bool,
     queue: Queue<L>,
 ) -> Result<Queue<L>>
-    ensures ok { (o : ColumnOpening) (pieces : List (List Triple)) → IsReading (λ text. L.stored leaf.now text 0) L.byte_limit o pieces (reading (I.outcomes pages.old) (means entries.old deltas) queue began.old) → IfOk result (λ q. IsFilled (λ text. L.stored leaf.now text 0) L.byte_limit o pieces q (I.outcomes pages.new) (means entries.new deltas) began.new) }
-    ensures err { (o : ColumnOpening) (pieces : List (List Triple)) → IsReading (λ text. L.stored leaf.now text 0) L.byte_limit o pieces (reading (I.outcomes pages.old) (means entries.old deltas) queue began.old) → IfErr result (RefusesPiece o) }
+    ensures ok { (o : ColumnOpening) (pieces : List (List Triple)) (others : List Outcome) → IsReading (λ text. L.stored leaf.now text 0) L.byte_limit o pieces (reading (foreseen (I.outcomes pages.old) others) (means entries.old deltas) queue began.old) → IfOk result (λ q. IsFilled (λ text. L.stored leaf.now text 0) L.byte_limit o pieces q (foreseen (I.outcomes pages.new) others) (means entries.new deltas) began.new) }
+    ensures behind { IfOk result (λ q. FollowsGiven (I.outcomes pages.old) (I.outcomes pages.new)) }
+    ensures err { (o : ColumnOpening) (pieces : List (List Triple)) (others : List Outcome) → IsReading (λ text. L.stored leaf.now text 0) L.byte_limit o pieces (reading (foreseen (I.outcomes pages.old) others) (means entries.old deltas) queue began.old) → IfErr result (λ e. SourceFails e (I.outcomes pages.old) ⊎ RefusesPiece o e) }
 {
     let mut queue = queue;
     'pages: while !queue.has_whole() {
@@ -171,6 +175,7 @@ impl<I: Pages, L: LeafReader> ColumnReader<I, L> {
         num_rows: usize,
     ) -> Result<Self>
         ensures ok { (o : ColumnOpening) (stored : List ℕ → List Stored) (limit : ℕ) → IsReadable o stored limit → o.leaf.physical ≡ physical_view physical_type → o.outcomes ≡ I.outcomes pages → IsWay nested.items (thin o.column.way) → o.rows ≡ num_rows → o.chunk_size ≡ chunk_size → IfOk result (λ r. IsReading stored limit o [] r) }
+        ensures foreseen { (o : ColumnOpening) (stored : List ℕ → List Stored) (limit : ℕ) (others : List Outcome) → IsReadable o stored limit → o.leaf.physical ≡ physical_view physical_type → o.outcomes ≡ foreseen (I.outcomes pages) others → IsWay nested.items (thin o.column.way) → o.rows ≡ num_rows → o.chunk_size ≡ chunk_size → IfOk result (λ r. IsReading stored limit o [] (foreseeing others r)) }
         ensures err { IfErr result (λ e. e ≡ Memory) }
     {
         let deltas = deltas_of(physical_type, is_flat(&nested));
@@ -195,7 +200,8 @@ impl<I: Pages, L: LeafReader> ColumnReader<I, L> {
     /// page's levels or values, or a dictionary's entries, used or not, are not those of rows; S9 where the pages have more or fewer rows than the group, or one
     /// of version 2 than its header states; V1 where a piece passes the offsets of its array; `Memory`.
     pub fn next_piece(&mut self, leaf: &L) -> Option<Result<(NestedState, L::Values)>>
-        ensures { (o : ColumnOpening) (pieces : List (List Triple)) → IsReading (λ text. L.stored leaf.now text 0) L.byte_limit o pieces self.old → GivesPiece (IsReading (λ text. L.stored leaf.now text 0) L.byte_limit) (λ v ts. IsPiece o.column.way ts v.0 (L.slots v.1)) o pieces result self.new }
+        ensures gives { (o : ColumnOpening) (pieces : List (List Triple)) → IsReading (λ text. L.stored leaf.now text 0) L.byte_limit o pieces self.old → GivesPiece (IsReading (λ text. L.stored leaf.now text 0) L.byte_limit) (λ v ts. IsPiece o.column.way ts v.0 (L.slots v.1)) o pieces result self.new }
+        ensures foreseen { (o : ColumnOpening) (pieces : List (List Triple)) (others : List Outcome) → IsReading (λ text. L.stored leaf.now text 0) L.byte_limit o pieces (foreseeing others self.old) → GivesForeseen (λ o ps r. IsReading (λ text. L.stored leaf.now text 0) L.byte_limit o ps (foreseeing others r)) (λ v ts. IsPiece o.column.way ts v.0 (L.slots v.1)) o pieces self.old.outcomes result self.new }
     {
         let Some(queue) = self.queue.take() else {
             return None;

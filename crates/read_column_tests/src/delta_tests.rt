@@ -173,8 +173,9 @@ fn refuses_numbers(alloc: Global, form: Form, body: &[u8], want: Error) -> Resul
 fn required_numbers_are_read(rt: HostRuntime) -> Result<()> {
     let alloc = rt.alloc();
     assert!(rt; reads_numbers(alloc, &[7, 5, 3, 1, 2, 3, 4, 5, 1, 2, 3, 4])?);
-    // the last byte is cut, and an encoding of strings
+    // the last byte is cut, four bytes for each number but one byte, and an encoding of strings
     assert!(rt; refuses_numbers(alloc, Form::Deltas, &NUMBERS[..11], Error::OutOfSpec(S::S6))?);
+    assert!(rt; refuses_numbers(alloc, Form::Plain, &[0; 31], Error::OutOfSpec(S::S6))?);
     assert!(rt;
         refuses_numbers(
             alloc,

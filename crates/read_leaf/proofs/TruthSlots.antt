@@ -78,8 +78,8 @@ length-stored bytes bit =
     let ds : List ℕ = drop bit (unpacked 1 n bytes) in
     length-map (plain_truths bytes bit) (λ b. Some (truth b)) ∙ (length-map ds (λ (d : ℕ). d == 1) ∙ (length-drop bit (unpacked 1 n bytes) ∙ ap (λ (k : ℕ). k - bit) (length-digits (2 ^ 1) n (number_of bytes))))
 
-pub too-few : (bytes : List ℕ) (bit count end : ℕ) → 0 < count → end ≡ bit + count → ¬ (end ≤ 8 * length bytes) → length (stored_truths bytes bit) < count
-too-few bytes bit count end some is n = omega (arith, length-stored bytes bit, some, is, n)
+pub too-few : (bytes : List ℕ) (bit count : ℕ) → 0 < count → ¬ (bit + count ≤ 8 * length bytes) → length (stored_truths bytes bit) < count
+too-few bytes bit count some n = omega (arith, length-stored bytes bit, some, n)
 
 -- a call that is not refused
 pub not_refused : {A E : Type 0} (r : Result A E) (P : Type 0) → IsOk r → OnOk r P → P

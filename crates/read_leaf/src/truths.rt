@@ -72,11 +72,11 @@ impl TruthValues {
 #[derive(Drop)]
 pub struct TruthDecoder;
 
-// Whether so many bits stand in the bytes.
-fn are_there(bytes: &[u8], end: usize) -> bool
-    ensures { IsTrue result ↔ (end ≤ 8 * list_length bytes.now) }
+// Whether so many bits stand in the bytes behind so many first ones.
+fn are_there(bytes: &[u8], bit: usize, count: usize) -> bool
+    ensures { IsTrue result ↔ (bit + count ≤ 8 * list_length bytes.now) }
 {
-    end as u128 <= 8 * bytes.len() as u128
+    bit as u128 + count as u128 <= 8 * bytes.len() as u128
 }
 
 // Appends the next truth values, and gives the bytes from the one on that has the first bit behind them.
@@ -176,12 +176,13 @@ impl<'a> NestedDecoder<'a> for TruthDecoder {
         if count == 0 {
             return Ok(());
         }
+        if !are_there(state.values, state.bit, count) {
+            return Err(Error::OutOfSpec(S::S6));
+        }
+        // No memory holds that many truth values.
         let Some(end) = state.bit.checked_add(count) else {
             return Err(Error::Memory);
         };
-        if !are_there(state.values, end) {
-            return Err(Error::OutOfSpec(S::S6));
-        }
         decoded.validity.reserve(count)?;
         match append_truths(&mut decoded.values, state.values, state.bit, count) {
             Ok(rest) => state.values = rest,
@@ -221,12 +222,13 @@ impl<'a> NestedDecoder<'a> for TruthDecoder {
         if wanted == 0 {
             return self.push_null(decoded, count);
         }
+        if !are_there(state.values, state.bit, wanted) {
+            return Err(Error::OutOfSpec(S::S6));
+        }
+        // No memory holds that many truth values.
         let Some(end) = state.bit.checked_add(wanted) else {
             return Err(Error::Memory);
         };
-        if !are_there(state.values, end) {
-            return Err(Error::OutOfSpec(S::S6));
-        }
         decode_among(state, decoded, valid, count, end)
     }
 }

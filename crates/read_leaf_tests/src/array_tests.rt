@@ -161,20 +161,6 @@ fn strings_are_made(rt: HostRuntime) -> Result<()> {
     Ok(())
 }
 
-// 256 is no number of eight bits.
-fn refuses_numbers(alloc: Global) -> bool {
-    let bytes = &[0, 1, 0, 0, 7, 0, 0, 0];
-    match three(&Numbers::<u8, i32>::new(), alloc, bytes, DataType::UInt8) {
-        Ok(_) => false,
-        Err(error) => error == Error::OutOfSpec(S::S7),
-    }
-}
-
-#[test]
-fn numbers_outside_the_type_are_refused(rt: HostRuntime) {
-    assert!(rt; refuses_numbers(rt.alloc()));
-}
-
 fn has_kind(data_type: &DataType, physical_type: PhysicalType, want: Option<LeafKind>) -> bool {
     LeafKind::of(data_type, physical_type) == want
 }

@@ -7,3 +7,5 @@ mod array_tests;
 mod fixed_bytes_tests;
 #[cfg(test)]
 mod fixed_tests;
+#[cfg(test)]
+mod range_tests;

@@ -2,6 +2,10 @@
 #![tactic(auto)]
 
 #[cfg(test)]
+mod binary_tests;
+#[cfg(test)]
+mod level_tests;
+#[cfg(test)]
 mod number_tests;
 #[cfg(test)]
 mod page_tests;

@@ -133,7 +133,8 @@ leaf_read true (t_interval DayTime) p r s e a = by_stored (S.Fixed 12) (t_interv
 leaf_read false (t_interval DayTime) p r s e a = by_stored (S.Fixed 12) (t_interval DayTime) p r (stored_in _ r e) (of_fixed 12 (Reads (t_interval DayTime)) (λ m h. and_from (m == 12) (reads_interval (t_interval DayTime)) (other_way m 12 h) refl)) a
 leaf_read true (t_fixed_size_binary n) p r s e a = let k = row_if (is_stored_length n) n r e in by_stored (S.Fixed n) (t_fixed_size_binary n) p r k.1 (of_fixed n (Reads (t_fixed_size_binary n)) (of_length n k.0)) a
 leaf_read false (t_fixed_size_binary n) p r s e a = let k = row_if (is_stored_length n) n r e in by_stored (S.Fixed n) (t_fixed_size_binary n) p r k.1 (of_fixed n (Reads (t_fixed_size_binary n)) (of_length n k.0)) a
-leaf_read b t_null p r s e a = absurd (true≢false (sym s))
+leaf_read true t_null p r s e a = by_stored S.Int32 t_null p r (stored_in _ r e) (of_32 (Reads t_null) refl) a
+leaf_read false t_null p r s e a = absurd (no_row r e)
 leaf_read b (t_dictionary k t z) p r s e a = absurd (true≢false (sym s))
 leaf_read true t_float16 p r s e a = absurd (no_row r e)
 leaf_read false t_float16 p r s e a = absurd (no_row r e)

@@ -18,7 +18,7 @@ fn is_type_served(data_type: &DataType) -> bool
         DataType::Struct(fields) => are_fields_served(fields),
         DataType::Extension(_, inner, _) => is_type_served(inner),
         DataType::FixedSizeList(_, _) | DataType::Union(_, _, _) => false,
-        DataType::Null | DataType::Dictionary(_, _, _) => false,
+        DataType::Dictionary(_, _, _) => false,
         _ => true,
     }
 }

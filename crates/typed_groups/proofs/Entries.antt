@@ -6,7 +6,7 @@ use Rattle.columns_core.specs.Shapes.{base}
 use Rattle.columns_core.specs.Tree.{TypeTree, t_list, t_fixed_size_list, t_large_list, t_struct, t_map, t_extension, field, FieldTrees, no_fields, more_fields}
 use Rattle.columns_slots.specs.Slots.{IsSound, AreSound, AreTyped, type_of, first_len}
 use Rattle.columns_slots.specs.Tree.{ArrayTree, null_array, leaf_array, list_array, fixed_list_array, struct_array, dictionary_array, ArrayTrees, no_arrays, more_arrays}
-use Rattle.columns_slots.specs.Types.{is_leaf, part_types}
+use Rattle.columns_slots.specs.Types.{part_types}
 use Rattle.pq_headline.specs.Arrays.{rows_of, entries_in, all_entries}
 use Rattle.pq_headline.specs.Columns.{ArrowColumn, beneath_list, beneath_struct, type_columns, columns_from, schema_columns}
 use Rattle.pq_headline.specs.Output.{IsLaidGroup, all_chosen}
@@ -14,7 +14,7 @@ use Rattle.pq_headline.specs.Served.{is_served_type, are_served_fields}
 use Rattle.pq_tree.specs.Tree.{Trees, columns_of}
 use Rattle.schema_to_tree.specs.Table.{schema_of}
 use Rattle.typed_groups.proofs.Leaves.{served_first, served_rest}
-use Rattle.typed_groups.proofs.Nodes.{list_is, item_served, struct_is, parts_served, null_unserved, fixed_unserved, keys_unserved}
+use Rattle.typed_groups.proofs.Nodes.{list_is, item_served, struct_is, parts_served, has_leaves, values_leaves, nulls_leaves, fixed_unserved, keys_unserved}
 use Rattle.typed_groups.specs.Suiting.{AreAllSound, GroupsAreWritten}
 use Rattle.write_groups.specs.Laid.{AreChosen, GroupsAreLaid, style_of}
 
@@ -29,7 +29,7 @@ none_map : (f : ArrowColumn → ArrowColumn) (cs : List ArrowColumn) → none_ea
 none_map f [] = refl
 none_map f (c ∷ cs) = ap (λ (es : List Entries). None ∷ es) (none_map f cs)
 
-one_none : (b : Bool) (t : TypeTree) → is_leaf (base t) ≡ true → none_each (type_columns b t) ≡ None ∷ []
+one_none : (b : Bool) (t : TypeTree) → has_leaves (base t) ≡ true → none_each (type_columns b t) ≡ None ∷ []
 one_none b (t_extension n t m) e = one_none b t e
 one_none b (t_list f) e = absurd (true≢false (sym e))
 one_none b (t_large_list f) e = absurd (true≢false (sym e))
@@ -44,8 +44,8 @@ each_sound n (more_arrays c cs) h = (h.0, each_sound n cs h.2)
 
 mutual
   no_entries : (a : ArrayTree) (b : Bool) → IsSound a → is_served_type (type_of a) ≡ true → entries_in a ≡ none_each (type_columns b (type_of a))
-  no_entries (null_array t n) b h s = absurd (null_unserved t h s)
-  no_entries (leaf_array t vs m) b h s = sym (one_none b t h.1)
+  no_entries (null_array t n) b h s = sym (one_none b t (nulls_leaves (base t) h))
+  no_entries (leaf_array t vs m) b h s = sym (one_none b t (values_leaves (base t) h.1))
   no_entries (dictionary_array t ks c m) b h s = absurd (keys_unserved t (type_of c) h.2 s)
   no_entries (fixed_list_array t w n c m) b h s = absurd (fixed_unserved t (type_of c) h.3 s)
   no_entries (list_array t os c m) b h s =

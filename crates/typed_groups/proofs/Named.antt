@@ -26,6 +26,7 @@ use Rattle.write_groups.specs.Laid.{field_encoding}
 -- ---- types that are served have the deltas of their physical type
 
 small_delta : (t : TypeTree) → is_small t ≡ true → is_delta t ≡ true
+small_delta t_null e = refl
 small_delta t_int8 e = refl
 small_delta t_int16 e = refl
 small_delta t_int32 e = refl

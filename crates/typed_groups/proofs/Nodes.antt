@@ -8,7 +8,7 @@ use Rattle.columns_core.specs.declared.types.TimeUnit.TheVariants.{Second, Milli
 use Rattle.columns_slots.specs.Slots.{AreTyped, count_arrays}
 use Rattle.columns_slots.specs.Tree.{ArrayTrees, no_arrays, more_arrays}
 use Rattle.columns_slots.specs.Types.{is_leaf, is_null_type, list_item, fixed_item, entry_type, part_types}
-use Rattle.nested_paths.specs.Nodes.{item_node, field_nodes, is_leaf_node}
+use Rattle.nested_paths.specs.Nodes.{item_node, field_nodes, is_leaf_node, is_optional}
 use Rattle.pq_headline.specs.Columns.{beneath_list, type_columns, columns_from, small_limit, large_limit}
 use Rattle.pq_headline.specs.Served.{is_served_type, is_served_field, are_served_fields}
 use Rattle.pq_tree.specs.Physical.{Physical, int32, int64, fixed}
@@ -24,11 +24,6 @@ use Rattle.write_values.specs.Served.{is_served}
 
 -- ---- what is not served
 
-pub null_unserved : (t : TypeTree) → is_null_type (base t) ≡ true → is_served_type t ≡ true → ⊥
-null_unserved (t_extension n t m) e s = null_unserved t e s
-null_unserved t_null e s = true≢false (sym s)
-null_unserved t e s = true≢false (sym e)
-
 pub fixed_unserved : (t u : TypeTree) → fixed_item (base t) ≡ Some u → is_served_type t ≡ true → ⊥
 fixed_unserved (t_extension n t m) u e s = fixed_unserved t u e s
 fixed_unserved (t_fixed_size_list f n) u e s = true≢false (sym s)
@@ -42,21 +37,19 @@ keys_unserved t u e s = absurd cc
 -- ---- what is in its place is served
 
 mutual
-  pub placed_served : (flat : Bool) (t : TypeTree) → is_placed flat t ≡ true → is_served_type t ≡ true
-  placed_served true t_null p = absurd (true≢false (sym p))
-  placed_served false t_null p = absurd (true≢false (sym p))
-  placed_served flat (t_list f) p = field_served f p
-  placed_served flat (t_large_list f) p = field_served f p
-  placed_served flat (t_fixed_size_list f n) p = absurd (true≢false (sym p))
-  placed_served flat (t_map f z) p = field_served f p
-  placed_served flat (t_struct fs) p = all_served fs p
-  placed_served flat (t_union fs ids z) p = absurd (true≢false (sym p))
-  placed_served flat (t_dictionary k t z) p = absurd (true≢false (sym p))
-  placed_served flat (t_extension n t m) p = placed_served flat t p
-  placed_served flat t p = refl
+  pub placed_served : (flat b : Bool) (t : TypeTree) → is_placed flat b t ≡ true → is_served_type t ≡ true
+  placed_served flat b (t_list f) p = field_served f p
+  placed_served flat b (t_large_list f) p = field_served f p
+  placed_served flat b (t_fixed_size_list f n) p = absurd (true≢false (sym p))
+  placed_served flat b (t_map f z) p = field_served f p
+  placed_served flat b (t_struct fs) p = all_served fs p
+  placed_served flat b (t_union fs ids z) p = absurd (true≢false (sym p))
+  placed_served flat b (t_dictionary k t z) p = absurd (true≢false (sym p))
+  placed_served flat b (t_extension n t m) p = placed_served flat b t p
+  placed_served flat b t p = refl
 
   field_served : (f : FieldTree) → is_placed_field f ≡ true → is_served_field f ≡ true
-  field_served (field n t b m) p = placed_served false t p
+  field_served (field n t b m) p = placed_served false b t p
 
   pub all_served : (fs : FieldTrees) → are_placed fs ≡ true → are_served_fields fs ≡ true
   all_served no_fields p = refl
@@ -64,7 +57,26 @@ mutual
       let ps = and_parts (is_placed_field f) (are_placed fs) p in
       and_from (is_served_field f) (are_served_fields fs) (field_served f ps.0) (all_served fs ps.1)
 
+-- nulls alone may be null
+pub placed_nullable : (flat b : Bool) (t : TypeTree) → is_null_type (base t) ≡ true → is_placed flat b t ≡ true → b ≡ true
+placed_nullable flat b (t_extension n t m) e p = placed_nullable flat b t e p
+placed_nullable flat b t_null e p = p
+placed_nullable flat b t e p = absurd (true≢false (sym e))
+
 -- ---- a leaf
+
+-- a type whose arrays are leaves, of values or of nulls alone
+abbrev pub has_leaves : TypeTree → Bool
+has_leaves t_null = true
+has_leaves t = is_leaf t
+
+pub values_leaves : (t : TypeTree) → is_leaf t ≡ true → has_leaves t ≡ true
+values_leaves t_null e = refl
+values_leaves t e = e
+
+pub nulls_leaves : (t : TypeTree) → is_null_type t ≡ true → has_leaves t ≡ true
+nulls_leaves t_null e = refl
+nulls_leaves t e = absurd (true≢false (sym e))
 
 -- decimals are stored in 1 to 16 bytes, or as numbers
 length_within : (p k n : ℕ) → (n ≤ first_length p k n) × (first_length p k n ≤ n + k)
@@ -87,6 +99,7 @@ decimal_served false false p q n least most = and_from _ _ (le-leb 1 n least) (l
 
 -- what a type that is written is stored as, is served
 stored_served : (flat : Bool) (t : TypeTree) → is_written_in flat t ≡ true → is_served t (stored_as t).physical ≡ true
+stored_served flat t_null w = refl
 stored_served flat t_boolean w = refl
 stored_served flat t_int8 w = refl
 stored_served flat t_int16 w = refl
@@ -126,7 +139,7 @@ pub record LeafNode (flat : Bool) (name : List ℕ) (b : Bool) (t : TypeTree) : 
   pub written : is_written_in flat (base t) ≡ true
   pub served : is_served (base t) physical ≡ true
 
-pub leaf_is : (flat : Bool) (name : List ℕ) (b : Bool) (t : TypeTree) → is_leaf (base t) ≡ true → is_placed flat t ≡ true → LeafNode flat name b t
+pub leaf_is : (flat : Bool) (name : List ℕ) (b : Bool) (t : TypeTree) → has_leaves (base t) ≡ true → is_placed flat b t ≡ true → LeafNode flat name b t
 leaf_is flat name b (t_extension n t m) e s =
     let r = leaf_is flat name b t e s in record { info = r.info; physical = r.physical; is = r.is; own = r.own; written = r.written; served = r.served }
 leaf_is flat name b (t_list f) e s = absurd (true≢false (sym e))
@@ -136,6 +149,14 @@ leaf_is flat name b (t_map f z) e s = absurd (true≢false (sym e))
 leaf_is flat name b (t_struct fs) e s = absurd (true≢false (sym e))
 leaf_is flat name b (t_union fs ids z) e s = absurd (true≢false (sym e))
 leaf_is flat name b (t_dictionary k t z) e s = absurd (true≢false (sym e))
+leaf_is flat name b t_null e s = record {
+  info = marked (named name (repetition_of b)) (stored_as t_null).converted (stored_as t_null).logical;
+  physical = (stored_as t_null).physical;
+  is = refl;
+  own = refl;
+  written = refl;
+  served = refl;
+}
 leaf_is flat name b t e s = record {
   info = marked (named name (repetition_of b)) (stored_as t).converted (stored_as t).logical;
   physical = (stored_as t).physical;
@@ -144,6 +165,11 @@ leaf_is flat name b t e s = record {
   written = s;
   served = stored_served flat t s;
 }
+
+pub nulls_optional : (name : List ℕ) (t : TypeTree) → is_null_type (base t) ≡ true → is_optional (node name true t) ≡ true
+nulls_optional name (t_extension n t m) e = nulls_optional name t e
+nulls_optional name t_null e = refl
+nulls_optional name t e = absurd (true≢false (sym e))
 
 -- ---- the item of a list or a map
 
@@ -156,6 +182,7 @@ pub record ListNode (name : List ℕ) (b : Bool) (t u : TypeTree) : Type 0 where
   pub item : item_node (node name b t) ≡ Some (node item_name is_nullable u)
   pub limit : ℕ
   pub columns : type_columns b t ≡ map (beneath_list b limit) (type_columns is_nullable u)
+  pub placed : (flat : Bool) → is_placed flat b t ≡ true → is_placed false is_nullable u ≡ true
 
 inside : Option TypeTree → TypeTree → TypeTree
 inside (Some t) d = t
@@ -170,8 +197,8 @@ item_of name true t c l middle = refl
 item_of name false t c l middle = refl
 
 list_over_is : (name : List ℕ) (b : Bool) (c : Converted) (l : Logical) (middle : List ℕ) (n : List ℕ) (k : Bool) (t u : TypeTree) (whole : TypeTree) (limit : ℕ)
-    → node name b whole ≡ over (named name (repetition_of b)) c l middle (node n k t) → type_columns b whole ≡ map (beneath_list b limit) (type_columns k t) → t ≡ u → ListNode name b whole u
-list_over_is name b c l middle n k t u whole limit e columns same = record {
+    → node name b whole ≡ over (named name (repetition_of b)) c l middle (node n k t) → type_columns b whole ≡ map (beneath_list b limit) (type_columns k t) → ((flat : Bool) → is_placed flat b whole ≡ true → is_placed false k t ≡ true) → t ≡ u → ListNode name b whole u
+list_over_is name b c l middle n k t u whole limit e columns placed same = record {
   top = marked (named name (repetition_of b)) (Some c) (Some l);
   middle = named middle repeated;
   item_name = n;
@@ -180,13 +207,14 @@ list_over_is name b c l middle n k t u whole limit e columns same = record {
   item = ap item_node e ∙ (item_of name b (node n k t) c l middle ∙ ap (λ (x : TypeTree). Some (node n k x)) same);
   limit = limit;
   columns = columns ∙ ap (λ (x : TypeTree). map (beneath_list b limit) (type_columns k x)) same;
+  placed = λ flat s. ap (is_placed false k) (sym same) ∙ placed flat s;
 }
 
 pub list_is : (name : List ℕ) (b : Bool) (t u : TypeTree) → list_item (base t) ≡ Some u → ListNode name b t u
-list_is name b (t_extension n t m) u e = let r = list_is name b t u e in record { top = r.top; middle = r.middle; item_name = r.item_name; is_nullable = r.is_nullable; is = r.is; item = r.item; limit = r.limit; columns = r.columns }
-list_is name b (t_list (field n t k m)) u e = list_over_is name b Converted.list Logical.list (codes "list") n k t u (t_list (field n t k m)) small_limit refl refl (same_in t u e)
-list_is name b (t_large_list (field n t k m)) u e = list_over_is name b Converted.list Logical.list (codes "list") n k t u (t_large_list (field n t k m)) large_limit refl refl (same_in t u e)
-list_is name b (t_map (field n t k m) z) u e = list_over_is name b Converted.map Logical.map (codes "map") n k t u (t_map (field n t k m) z) small_limit refl refl (same_in t u e)
+list_is name b (t_extension n t m) u e = let r = list_is name b t u e in record { top = r.top; middle = r.middle; item_name = r.item_name; is_nullable = r.is_nullable; is = r.is; item = r.item; limit = r.limit; columns = r.columns; placed = r.placed }
+list_is name b (t_list (field n t k m)) u e = list_over_is name b Converted.list Logical.list (codes "list") n k t u (t_list (field n t k m)) small_limit refl refl (λ flat s. s) (same_in t u e)
+list_is name b (t_large_list (field n t k m)) u e = list_over_is name b Converted.list Logical.list (codes "list") n k t u (t_large_list (field n t k m)) large_limit refl refl (λ flat s. s) (same_in t u e)
+list_is name b (t_map (field n t k m) z) u e = list_over_is name b Converted.map Logical.map (codes "map") n k t u (t_map (field n t k m) z) small_limit refl refl (λ flat s. s) (same_in t u e)
 list_is name b t u e = absurd cc
 
 -- what holds of the type of a list holds of its items
@@ -197,13 +225,6 @@ item_served (t_large_list (field n t k m)) u e s = ap is_served_type (sym (same_
 item_served (t_map (field n t k m) z) u e s = ap is_served_type (sym (same_in t u e)) ∙ s
 item_served t u e s = absurd cc
 
-pub item_placed : (flat : Bool) (t u : TypeTree) → list_item (base t) ≡ Some u → is_placed flat t ≡ true → is_placed false u ≡ true
-item_placed flat (t_extension n t m) u e s = item_placed flat t u e s
-item_placed flat (t_list (field n t k m)) u e s = ap (is_placed false) (sym (same_in t u e)) ∙ s
-item_placed flat (t_large_list (field n t k m)) u e s = ap (is_placed false) (sym (same_in t u e)) ∙ s
-item_placed flat (t_map (field n t k m) z) u e s = ap (is_placed false) (sym (same_in t u e)) ∙ s
-item_placed flat t u e s = absurd cc
-
 -- ---- the fields of a struct
 
 pub parts_served : (t : TypeTree) → is_served_type t ≡ true → are_served_fields (part_types (base t)) ≡ true
@@ -211,10 +232,10 @@ parts_served (t_extension n t m) s = parts_served t s
 parts_served (t_struct fs) s = s
 parts_served t s = refl
 
-pub parts_placed : (flat : Bool) (t : TypeTree) → is_placed flat t ≡ true → are_placed (part_types (base t)) ≡ true
-parts_placed flat (t_extension n t m) s = parts_placed flat t s
-parts_placed flat (t_struct fs) s = s
-parts_placed flat t s = refl
+pub parts_placed : (flat b : Bool) (t : TypeTree) → is_placed flat b t ≡ true → are_placed (part_types (base t)) ≡ true
+parts_placed flat b (t_extension n t m) s = parts_placed flat b t s
+parts_placed flat b (t_struct fs) s = s
+parts_placed flat b t s = refl
 
 pub record StructNode (name : List ℕ) (b : Bool) (t : TypeTree) (fs : FieldTrees) : Type 0 where
   pub top : Info
@@ -232,7 +253,7 @@ leaf_by : (name : List ℕ) (b : Bool) (t : TypeTree) → is_leaf_node (leaf (ma
 leaf_by name true t = refl
 leaf_by name false t = refl
 
-pub leaf_node_is : (name : List ℕ) (b : Bool) (t : TypeTree) → is_leaf (base t) ≡ true → is_leaf_node (node name b t) ≡ true
+pub leaf_node_is : (name : List ℕ) (b : Bool) (t : TypeTree) → has_leaves (base t) ≡ true → is_leaf_node (node name b t) ≡ true
 leaf_node_is name b (t_extension n t m) e = leaf_node_is name b t e
 leaf_node_is name b (t_list f) e = absurd (true≢false (sym e))
 leaf_node_is name b (t_large_list f) e = absurd (true≢false (sym e))

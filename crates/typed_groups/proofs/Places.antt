@@ -17,21 +17,22 @@ use Rattle.pq_tree.specs.Types.{Repetition, required, optional, repeated}
 use Rattle.schema_map.specs.Rows.{all_bone, all_bones, allows_asked, has_row}
 use Rattle.write_pages.specs.Fits.{is_written_in}
 
--- Each leaf of a type is written where it stands: as a column of its own, or beneath lists or structs.
+-- Each leaf of a type is written where it stands: as a column of its own, or beneath lists or structs. One of nulls alone may be null.
 abbrev mutual
-  pub is_placed : Bool → TypeTree → Bool
-  is_placed flat (t_list item) = is_placed_field item
-  is_placed flat (t_large_list item) = is_placed_field item
-  is_placed flat (t_fixed_size_list item n) = false
-  is_placed flat (t_map entry is_sorted) = is_placed_field entry
-  is_placed flat (t_struct fs) = are_placed fs
-  is_placed flat (t_union fs ids is_sparse) = false
-  is_placed flat (t_dictionary key t is_sorted) = false
-  is_placed flat (t_extension name inner metadata) = is_placed flat inner
-  is_placed flat t = is_written_in flat t
+  pub is_placed : Bool → Bool → TypeTree → Bool
+  is_placed flat is_nullable t_null = is_nullable
+  is_placed flat is_nullable (t_list item) = is_placed_field item
+  is_placed flat is_nullable (t_large_list item) = is_placed_field item
+  is_placed flat is_nullable (t_fixed_size_list item n) = false
+  is_placed flat is_nullable (t_map entry is_sorted) = is_placed_field entry
+  is_placed flat is_nullable (t_struct fs) = are_placed fs
+  is_placed flat is_nullable (t_union fs ids is_sparse) = false
+  is_placed flat is_nullable (t_dictionary key t is_sorted) = false
+  is_placed flat is_nullable (t_extension name inner metadata) = is_placed flat is_nullable inner
+  is_placed flat is_nullable t = is_written_in flat t
 
   pub is_placed_field : FieldTree → Bool
-  is_placed_field (field name t is_nullable metadata) = is_placed false t
+  is_placed_field (field name t is_nullable metadata) = is_placed false is_nullable t
 
   pub are_placed : FieldTrees → Bool
   are_placed no_fields = true
@@ -40,7 +41,7 @@ abbrev mutual
 -- those of each field
 abbrev pub AreInPlace : FieldTrees → Type 0
 AreInPlace no_fields = Unit {0}
-AreInPlace (more_fields (field name t is_nullable metadata) fs) = (is_placed true t ≡ true) × AreInPlace fs
+AreInPlace (more_fields (field name t is_nullable metadata) fs) = (is_placed true is_nullable t ≡ true) × AreInPlace fs
 
 -- ---- a leaf
 
@@ -72,7 +73,7 @@ module _ {A : Type 0} (p : A → Bool) where
 -- ---- beneath lists and structs
 
 mutual
-  type_nested : (b : Bool) (t : TypeTree) → is_served_type t ≡ true → all_bones (has_row A.Nested) (type_bones b t) ≡ true → is_placed false t ≡ true
+  type_nested : (b : Bool) (t : TypeTree) → is_served_type t ≡ true → all_bones (has_row A.Nested) (type_bones b t) ≡ true → is_placed false b t ≡ true
   type_nested b (t_list f) s h = field_nested f s (all_beneath (has_row A.Nested) repeated (field_bones f) h)
   type_nested b (t_large_list f) s h = field_nested f s (all_beneath (has_row A.Nested) repeated (field_bones f) h)
   type_nested b (t_map f z) s h = field_nested f s (all_beneath (has_row A.Nested) repeated (field_bones f) h)
@@ -127,7 +128,8 @@ mutual
   type_nested true (t_fixed_size_binary n) s h = absurd (never_nested (is_stored_length n) n (and_parts _ _ h).0)
   type_nested false (t_decimal p q) s h = absurd (true≢false (sym h))
   type_nested false (t_fixed_size_binary n) s h = absurd (never_nested (is_stored_length n) n (and_parts _ _ h).0)
-  type_nested b t_null s h = absurd (true≢false (sym s))
+  type_nested true t_null s h = refl
+  type_nested false t_null s h = absurd (true≢false (sym h))
   type_nested b (t_dictionary k t z) s h = absurd (true≢false (sym s))
 
   field_nested : (f : FieldTree) → is_served_field f ≡ true → all_bones (has_row A.Nested) (field_bones f) ≡ true → is_placed_field f ≡ true
@@ -142,7 +144,7 @@ mutual
 
 -- ---- a field's own type
 
-type_flat : (b : Bool) (t : TypeTree) → is_served_type t ≡ true → all_bones (has_row (asked_of (base t))) (type_bones b t) ≡ true → is_placed true t ≡ true
+type_flat : (b : Bool) (t : TypeTree) → is_served_type t ≡ true → all_bones (has_row (asked_of (base t))) (type_bones b t) ≡ true → is_placed true b t ≡ true
 type_flat b (t_list f) s h = type_nested b (t_list f) s h
 type_flat b (t_large_list f) s h = type_nested b (t_large_list f) s h
 type_flat b (t_map f z) s h = type_nested b (t_map f z) s h
@@ -194,7 +196,8 @@ type_flat b (t_interval DayTime) s h = refl
 type_flat b (t_decimal p q) s h = refl
 type_flat true (t_fixed_size_binary n) s h = if_flat (is_stored_length n) n (and_parts _ _ h).0
 type_flat false (t_fixed_size_binary n) s h = if_flat (is_stored_length n) n (and_parts _ _ h).0
-type_flat b t_null s h = absurd (true≢false (sym s))
+type_flat true t_null s h = refl
+type_flat false t_null s h = absurd (true≢false (sym h))
 type_flat b (t_dictionary k t z) s h = absurd (true≢false (sym s))
 
 pub all_in_place : (fs : FieldTrees) → CanBeWritten fs → are_served_fields fs ≡ true → AreInPlace fs

@@ -69,7 +69,7 @@ column_fits flat l slots w parts a type_ e h s =
       array = s.leaf;
       physical = is_allowed (is_flat_path parts) (base (type_of a)) (physical_view type_.physical_type) h.along (ap (is_served (base (type_of a))) physical ∙ h.served);
       optional = ap (λ (i : Info). nat_eq (defines i.repetition) 1) own ∙ h.optional;
-      reached = rows_along h.values (leaf_slot a) h.are parts s.in_bounds;
+      reached = rows_along (leaf_slot a) parts s.in_bounds h.here;
     }
 
 not_unwritten : (parts : List Part) (t : TypeTree) (p : Physical) (e : Encoding) → is_written_as e t p ≡ true → ¬ IsUnwritten parts t p e
@@ -122,7 +122,7 @@ some_none e h = cc
 -- the field at a place, whose array has a type in its place
 pub field_wide :
     PathsAreSeen → (wanted : Bool) (o : WriteOptions) (a : ArrayTree) (name : List ℕ) (b : Bool) (es : List Encoding) (i : ℕ) (rows : List Slots) (cs : List ArrowColumn) (error : Error)
-    → IsSound a → is_placed true (type_of a) ≡ true → nesting (node name b (type_of a)) ≤ 128 → es ≡ map (λ l. encoding_name (field_encoding wanted (type_of a) l)) (leaves (node name b (type_of a)))
+    → IsSound a → is_placed true b (type_of a) ≡ true → nesting (node name b (type_of a)) ≤ 128 → es ≡ map (λ l. encoding_name (field_encoding wanted (type_of a) l)) (leaves (node name b (type_of a)))
     → slots (read_by a (node name b (type_of a))) ≡ field_slots i rows → AreOwnColumns i (ways (shape_by a (node name b (type_of a)))) (array_leaves a) cs
     → RefusesField o a (node name b (type_of a)) es error → IsOfWide rows cs (leaves (node name b (type_of a))) error
 field_wide law wanted o a name b es i rows cs error sound s deep asks read own (inl r) = absurd (omega (arith, deep, r.1))

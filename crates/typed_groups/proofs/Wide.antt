@@ -80,7 +80,7 @@ module _ (seen : PathsAreSeen) (own : TypedColumnsAreOwn) (read : TypedSlotsAreR
       let of_field : Each (IsOf (type_shape b t)) (field_slots place rows) = each_first (type_shape b t) (shapes_of fs) at place rows (λ one. ap (slot_at one) (sym here) ∙ e one 0) are in
       let all : All (IsOf (type_shape b (type_of c))) (slots c) = subst (λ (x : TypeTree). All (IsOf (type_shape b x)) (slots c)) typed.0 (All-from_recursion (IsOf (type_shape b t)) (slots c) (subst (Each (IsOf (type_shape b t))) mine_are of_field)) in
       let readable : slots (read_by c (node name b (type_of c))) ≡ field_slots place rows = read c name b sound.0 all ∙ sym mine_are in
-      let placed : is_placed true (type_of c) ≡ true = ap (is_placed true) (sym typed.0) ∙ s.0 in
+      let placed : is_placed true b (type_of c) ≡ true = ap (is_placed true b) (sym typed.0) ∙ s.0 in
       let along : AreAlong (ways (shape_by c (node name b (type_of c)))) (array_leaves c) (type_columns b (type_of c)) = own c name b sound.0 (goes true c name b sound.0 placed) in
       let columns_are = own_beneath place (ways (shape_by c (node name b (type_of c)))) (array_leaves c) (type_columns b (type_of c)) along in
       let many : length (map (beneath_struct false place) (type_columns b (type_of c))) ≡ length (leaves (node name b (type_of c))) =

@@ -89,7 +89,7 @@ module _ (wanted : Bool) (place : ℕ) where
   own_asked b (t_fixed_size_list f n) ls s e = absurd (true≢false (sym s))
   own_asked b (t_union fs ids z) ls s e = absurd (true≢false (sym s))
   own_asked b (t_dictionary key t z) ls s e = absurd (true≢false (sym s))
-  own_asked b t_null ls s e = absurd (true≢false (sym s))
+  own_asked b t_null (l ∷ []) s e = (record { asked = ap encoding_name (either (wanted && false) ∙ sym (either (wanted && true))); nested = λ q. absurd (true≢false q); nulls = λ q. either (wanted && true) }, tt)
   own_asked b t_float16 (l ∷ []) s e = (record { asked = ap encoding_name (either (wanted && false) ∙ sym (either (wanted && true))); nested = λ q. absurd (true≢false q); nulls = λ q. either (wanted && true) }, tt)
   own_asked b t_float32 (l ∷ []) s e = (record { asked = ap encoding_name (either (wanted && false) ∙ sym (either (wanted && true))); nested = λ q. absurd (true≢false q); nulls = λ q. either (wanted && true) }, tt)
   own_asked b t_float64 (l ∷ []) s e = (record { asked = ap encoding_name (either (wanted && false) ∙ sym (either (wanted && true))); nested = λ q. absurd (true≢false q); nulls = λ q. either (wanted && true) }, tt)

@@ -1,6 +1,8 @@
 pub mod AlongPath
 pub mod ArrayColumns
 pub mod ColumnLists
+pub mod HiddenPaths
+pub mod Looked
 pub mod Moved
 pub mod PageRows
 pub mod PageTable

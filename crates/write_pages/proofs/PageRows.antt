@@ -3,7 +3,7 @@ use Rattle.std.proofs.Common.{◌≡◌, ◌⊎◌, ◌↔◌, ◌<◌, ◌-◌,
 use Rattle.std.specs.Prelude.{Result, Ok, Err, IfOk}
 use Rattle.shredding.specs.Parts.{path_way, path_slots}
 use Rattle.shredding.specs.Shred.{Triple, column}
-use Rattle.shredding.specs.Slot.{Slot, Value}
+use Rattle.shredding.specs.Slot.{Value}
 use Rattle.std.specs.List.{AllZip}
 use Rattle.columns_base.specs.declared.error.Error.{Error}
 use Rattle.columns_base.specs.declared.error.Error.TheVariants.{Memory}
@@ -34,15 +34,16 @@ use Rattle.write_values.specs.Pages.{IsColumnPage, column_room, out_page, stored
 use Rattle.write_values.specs.declared.page.PageForm.{PageForm}
 use Rattle.write_values.specs.Decimals.{HasWide}
 use Rattle.write_values.specs.Deltas.{page_encoding}
+use Rattle.write_values.specs.Nulls.{TellsNulls}
 use Rattle.write_values.specs.Rows.{Measures}
 use Rattle.write_values.specs.Served.{is_served}
 use Rattle.write_values.specs.Stored.{stored_at}
-use Rattle.write_values.proofs.ServedColumns.{column_stored, slots_are_values}
+use Rattle.write_values.proofs.ServedColumns.{column_stored, slots_told}
 use Rattle.write_pages.specs.declared.options.WriteOptions.{WriteOptions}
 use Rattle.write_pages.specs.Holds.{HoldsRows}
 use Rattle.write_pages.specs.Refused.{IsPastRoom}
 use Rattle.write_pages.specs.Sized.{AreMeasured}
-use Rattle.write_pages.proofs.StoredBytes.{column_bytes}
+use Rattle.write_pages.proofs.StoredBytes.{column_bytes, decimals_told}
 use Rattle.write_pages.proofs.StoredOnce.{sizes_once}
 
 -- the form of the pages that are asked for
@@ -61,23 +62,17 @@ comes_as reason C D f g (Err e) h = by_cause h
     by_cause (inl m) = inl m
     by_cause (inr c) = inr (λ x. f (c.0 x), λ d. c.1 (g d))
 
-module _ (a : ArrayTree) (p : Physical) (nested : List Nested) (s : IsSound a) (e : is_served (base (type_of a)) p ≡ true) where
+module _ (a : ArrayTree) (p : Physical) (nested : List Nested) (s : IsSound a) (e : is_served (base (type_of a)) p ≡ true) (told : TellsNulls a (parts_of nested)) where
   abbrev ts : List Triple
   ts = column (path_way (parts_of nested)) (path_slots (leaf_slot a) (parts_of nested))
 
   -- the column of the values is that of the rows
   column_is : nested_column (value_at a) nested ≡ ts
-  column_is = ap (λ (f : ℕ → Slot). column (path_way (parts_of nested)) (path_slots f (parts_of nested))) (λ k i. slots_are_values a p i s e k)
+  column_is = ap (column (path_way (parts_of nested))) (slots_told a p (parts_of nested) s e told)
 
   -- and so is what is held of it
   pub rows_held : ¬ HasWide (leaf_type (type_of a)) p ts → ¬ HasWide (leaf_type (type_of a)) p (value_column a nested)
   rows_held n = subst (λ (xs : List Triple). ¬ HasWide (leaf_type (type_of a)) p xs) (sym column_is) n
-
-  pub rows_wide : HasWide (leaf_type (type_of a)) p (value_column a nested) ↔ HasWide (leaf_type (type_of a)) p ts
-  rows_wide = (
-    λ h. subst (λ (xs : List Triple). HasWide (leaf_type (type_of a)) p xs) column_is h,
-    λ h. subst (λ (xs : List Triple). HasWide (leaf_type (type_of a)) p xs) (sym column_is) h,
-  )
 
   pub rows_stored : AreStored (leaf_type (type_of a)) p (value_column a nested) (stored_column a p nested) → AreStored (leaf_type (type_of a)) p ts (stored_column a p nested)
   rows_stored h = subst (λ (xs : List Triple). AreStored (leaf_type (type_of a)) p xs (stored_column a p nested)) column_is h
@@ -127,7 +122,14 @@ module _ (a : ArrayTree) (p : Physical) (nested : List Nested) (s : IsSound a) (
   pub are_measured : (m : Measured) → ¬ HasWide (leaf_type (type_of a)) p ts → Measures p (tree_len a) (stored_at a p) (path_places (parts_of nested)) m → AreMeasured (leaf_type (type_of a)) p (path_way (parts_of nested)) (path_slots (leaf_slot a) (parts_of nested)) m.plain
   are_measured m n h = record {
     stored = stored_column a p nested;
-    are_stored = rows_stored (column_stored a p nested s e h.within (rows_held n));
+    are_stored = rows_stored (column_stored a p nested s e told h.within (rows_held n));
     have_bytes = column_bytes a p nested s e;
     bytes = h.plain ∙ ap (λ (vs : List Value). min (plain_length p vs) (2 ^ 128 - 1)) (sym (values_are_at_places (stored_at a p) nested));
   }
+
+-- decimals are wide in the one where they are in the other: of nulls alone there are none
+pub rows_wide : (a : ArrayTree) (p : Physical) (nested : List Nested) → IsSound a → is_served (base (type_of a)) p ≡ true → HasWide (leaf_type (type_of a)) p (value_column a nested) ↔ HasWide (leaf_type (type_of a)) p (column (path_way (parts_of nested)) (path_slots (leaf_slot a) (parts_of nested)))
+rows_wide a p nested s e = (
+  λ h. subst (λ (xs : List Triple). HasWide (leaf_type (type_of a)) p xs) (column_is a p nested s e (decimals_told a (parts_of nested) s h.0)) h,
+  λ h. subst (λ (xs : List Triple). HasWide (leaf_type (type_of a)) p xs) (sym (column_is a p nested s e (decimals_told a (parts_of nested) s h.0))) h,
+)

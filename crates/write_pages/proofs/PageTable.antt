@@ -2,20 +2,24 @@
 use Rattle.std.proofs.Common.{◌≡◌, ℕ, Bool, true, false, ◌&&◌, List, true≢false, Option, Some, None, if◌then◌else◌, refl, sym, ap, ◌∙◌}
 use Rattle.std.specs.Prelude.{◌||◌}
 use Rattle.std.proofs.lemmas.Bool.{or_left}
+use Rattle.shredding.specs.Along.{IsAlong}
 use Rattle.shredding.specs.Parts.{Part}
+use Rattle.shredding.specs.Shape.{at_leaf}
 use Rattle.columns_core.specs.Shapes.{base}
 use Rattle.columns_core.specs.declared.types.IntervalUnit.TheVariants.{YearMonth, DayTime}
 use Rattle.columns_core.specs.declared.types.TimeUnit.TheVariants.{Second, Millisecond, Microsecond, Nanosecond}
-use Rattle.columns_core.specs.Tree.{TypeTree, t_boolean, t_int8, t_int16, t_int32, t_int64, t_uint8, t_uint16, t_uint32, t_uint64, t_timestamp, t_date32, t_date64, t_time32, t_time64, t_duration, t_interval, t_binary, t_fixed_size_binary, t_large_binary, t_utf8, t_large_utf8, t_decimal}
-use Rattle.columns_slots.specs.Slots.{type_of}
-use Rattle.columns_slots.specs.Tree.{ArrayTree}
-use Rattle.columns_slots.specs.Types.{is_boolean}
+use Rattle.columns_core.specs.Tree.{TypeTree, t_null, t_boolean, t_int8, t_int16, t_int32, t_int64, t_uint8, t_uint16, t_uint32, t_uint64, t_timestamp, t_date32, t_date64, t_time32, t_time64, t_duration, t_interval, t_binary, t_fixed_size_binary, t_large_binary, t_utf8, t_large_utf8, t_decimal}
+use Rattle.columns_slots.specs.Slots.{IsSound, type_of}
+use Rattle.columns_slots.specs.Tree.{ArrayTree, null_array, leaf_array, list_array, fixed_list_array, struct_array, dictionary_array}
+use Rattle.columns_slots.specs.Types.{is_boolean, is_null_type}
+use Rattle.nested_paths.specs.Seen.{leaf_slot}
 use Rattle.pq_tree.specs.Physical.{Physical, boolean, int32, int64, int96, float, double, byte_array, fixed}
 use Rattle.schema_fit.specs.declared.page_table.Row.{Row}
 use Rattle.schema_fit.specs.declared.page_table.Stored.{Stored}
 use Rattle.schema_fit.specs.declared.page_table.Stored.TheVariants as S
 use Rattle.schema_fit.specs.PageTable.{allows, only_flat}
 use Rattle.write_values.specs.Served.{is_decimal, is_fixed, is_small, is_wide, is_string, is_served}
+use Rattle.write_values.proofs.ServedTypes.{no_others}
 use Rattle.write_pages.specs.Fits.{row_at, is_flat_path, is_written, is_written_along, is_written_flat, is_written_in}
 
 -- a row that allows exactly the physical types that are written
@@ -46,6 +50,7 @@ string t d a b c f = each t S.ByteArray (sym a) (sym b) (sym c) (sym d) refl ref
 
 pub written_row : (b : Bool) (t : TypeTree) → is_written_in b t ≡ true → HasRow t
 written_row b t_boolean w = record { row = record { stored = S.Boolean; is_nested = true }; is = refl; allows_written = each t_boolean S.Boolean refl refl refl refl refl refl refl (λ n. refl) }
+written_row b t_null w = record { row = record { stored = S.Int32; is_nested = true }; is = refl; allows_written = small t_null refl refl refl refl (λ n. refl) }
 written_row b t_int8 w = record { row = record { stored = S.Int32; is_nested = true }; is = refl; allows_written = small t_int8 refl refl refl refl (λ n. refl) }
 written_row b t_int16 w = record { row = record { stored = S.Int32; is_nested = true }; is = refl; allows_written = small t_int16 refl refl refl refl (λ n. refl) }
 written_row b t_int32 w = record { row = record { stored = S.Int32; is_nested = true }; is = refl; allows_written = small t_int32 refl refl refl refl (λ n. refl) }
@@ -112,6 +117,15 @@ pub fits_served : (b : Bool) (t : TypeTree) (p : Physical) → is_written_in b t
 fits_served b t p w f =
     let h = written_row b t w in
     sym (h.allows_written p) ∙ f h.row h.is
+
+-- each slot of what is written and is not null alone is one of its leaf
+pub values_here : (a : ArrayTree) (p : Physical) (b : Bool) → IsSound a → is_served (base (type_of a)) p ≡ true → is_null_type (base (type_of a)) ≡ false → (i : ℕ) → IsAlong (at_leaf b) (leaf_slot a i)
+values_here (leaf_array t vs m) p b s e n i = tt
+values_here (null_array t k) p b s e n i = absurd (true≢false (sym s ∙ n))
+values_here (list_array t os c m) p b s e n i = absurd (true≢false (sym e ∙ no_others (list_array t os c m) p refl s))
+values_here (fixed_list_array t w k c m) p b s e n i = absurd (true≢false (sym e ∙ no_others (fixed_list_array t w k c m) p refl s))
+values_here (struct_array t cs m) p b s e n i = absurd (true≢false (sym e ∙ no_others (struct_array t cs m) p refl s))
+values_here (dictionary_array t ks c m) p b s e n i = absurd (true≢false (sym e ∙ no_others (dictionary_array t ks c m) p refl s))
 
 -- what is written in any column is written along each path
 pub written_along : (parts : List Part) (a : ArrayTree) → is_written (base (type_of a)) ≡ true → is_written_along parts a ≡ true

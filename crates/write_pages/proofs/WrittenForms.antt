@@ -4,7 +4,7 @@ use Rattle.std.specs.Prelude.{◌&&◌}
 use Rattle.shredding.specs.Parts.{Part}
 use Rattle.shredding.specs.Shape.{LeafType, nothing, truths, text, binary, signed, unsigned, fixed_bytes, decimal, months, days}
 use Rattle.columns_core.specs.Shapes.{base, leaf_type}
-use Rattle.columns_core.specs.Tree.{TypeTree, t_decimal, t_fixed_size_binary, t_interval, t_boolean, t_int8, t_int16, t_int32, t_int64, t_uint8, t_uint16, t_uint32, t_uint64, t_timestamp, t_date32, t_date64, t_time32, t_time64, t_duration, t_binary, t_large_binary, t_utf8, t_large_utf8, t_extension}
+use Rattle.columns_core.specs.Tree.{TypeTree, t_decimal, t_fixed_size_binary, t_interval, t_null, t_boolean, t_int8, t_int16, t_int32, t_int64, t_uint8, t_uint16, t_uint32, t_uint64, t_timestamp, t_date32, t_date64, t_time32, t_time64, t_duration, t_binary, t_large_binary, t_utf8, t_large_utf8, t_extension}
 use Rattle.columns_core.specs.declared.types.IntervalUnit.TheVariants.{YearMonth, DayTime}
 use Rattle.columns_slots.specs.Types.{is_boolean}
 use Rattle.pq_tree.specs.Physical.{Physical, boolean, int32, int64, byte_array, fixed}
@@ -40,6 +40,7 @@ truth_no_string t e = absurd (true≢false (sym e))
 
 -- nor are numbers texts
 small_no_string : (t : TypeTree) → is_small t ≡ true → is_strings t ≡ false
+small_no_string t_null e = refl
 small_no_string t_int8 e = refl
 small_no_string t_int16 e = refl
 small_no_string t_int32 e = refl

@@ -42,8 +42,8 @@ is_written_as E.DeltaBinaryPacked t (fixed n) = false
 is_written_as E.DeltaBinaryPacked t p = encodes E.DeltaBinaryPacked t
 is_written_as e t p = false
 
--- Values of a type, without its extensions, are written in any column: truth values, whole numbers, dates, times, timestamps, durations, texts
--- and byte strings.
+-- Values of a type, without its extensions, are written in any column: truth values, whole numbers, dates, times, timestamps, durations, texts,
+-- byte strings, and nulls alone.
 abbrev pub is_written : TypeTree → Bool
 is_written t = is_boolean t || is_small t || is_wide t || is_string t
 
@@ -57,7 +57,7 @@ is_written_flat (t_interval DayTime) = true
 is_written_flat t = false
 
 -- Values of a type, without its extensions, are written in a column that is no more than its leaf, or in one that is. Not yet written are
--- nulls alone and dictionaries; other types are in no page.
+-- dictionaries; other types are in no page.
 abbrev pub is_written_in : Bool → TypeTree → Bool
 is_written_in is_flat t = is_written t || (is_flat && is_written_flat t)
 

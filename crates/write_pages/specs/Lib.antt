@@ -1,5 +1,6 @@
 pub mod Fits
 pub mod Holds
+pub mod Nulls
 pub mod Refused
 pub mod Rule
 pub mod Sized

@@ -1,6 +1,7 @@
 -- The rows of a page, as they are found from the values of a whole column.
-use Rattle.std.specs.Prelude.{◌≡◌, ℕ, ◌-◌, ◌^◌, ◌<◌, ◌≤◌, min, true, Option, Some, List, length}
+use Rattle.std.specs.Prelude.{◌≡◌, ℕ, ◌-◌, ◌^◌, ◌<◌, ◌≤◌, min, true, Option, Some, List, length, All}
 use Rattle.shredding.specs.Cut.{cut}
+use Rattle.shredding.specs.Along.{IsAlong}
 use Rattle.shredding.specs.Parts.{Part, path_way}
 use Rattle.shredding.specs.Shape.{LeafType, Way}
 use Rattle.shredding.specs.Shred.{Triple, column}
@@ -38,6 +39,7 @@ pub record IsReady (a : ArrayTree) (parts : List Part) (p : Physical) (per_page 
   pub in_bounds : IsInBounds parts
   pub few : length parts ≤ 128
   pub leaf : tree_len a ≡ leaf_count_or 0 parts
+  pub reached : All (IsAlong (path_way parts)) (rows_of parts a)
   pub served : is_served (base (type_of a)) p ≡ true
   pub held : ¬ HasWide (leaf_type (type_of a)) p (column (path_way parts) (rows_of parts a))
   pub some : 0 < per_page

@@ -1,14 +1,18 @@
 //! Some rows of a column.
-ghost use Rattle.std.specs.Prelude.{◌≡◌, ◌+◌, ◌≤◌, length, IfOk, IfErr};
-ghost use Rattle.shredding.specs.Parts.{slot_count};
+ghost use Rattle.std.specs.Prelude.{◌≡◌, ◌+◌, ◌≤◌, length, All, IfOk, IfErr};
+ghost use Rattle.shredding.specs.Along.{IsAlong};
+ghost use Rattle.shredding.specs.Parts.{path_way, slot_count};
 ghost use Rattle.columns_base.specs.declared.error.Error.TheVariants.{Memory};
 ghost use Rattle.columns_array.specs.Boxed.{boxed};
 ghost use Rattle.columns_slots.specs.Slots.{tree_len};
 ghost use Rattle.levels.specs.InBounds.{IsInBounds};
 ghost use Rattle.levels.specs.Nested.{parts_of};
 ghost use Rattle.levels.specs.Ranges.{leaf_count_or};
+ghost use Rattle.write_values.specs.Nulls.{TellsNulls};
 ghost use Rattle.write_pages.specs.CutColumns.{IsCutColumn};
+ghost use Rattle.write_pages.specs.Holds.{rows_of};
 
+use crate::nulls::{is_null, seen_path};
 use columns_array::ArrayBox;
 use columns_core::Result;
 use levels::Nested;
@@ -61,4 +65,32 @@ pub fn cut_column(
     let mut nested = copy_path(alloc, nested)?;
     slice_parquet_array(&mut array, &mut nested, first, count);
     Ok(CutColumn { array, nested })
+}
+
+// The same, and the masks of the path tell the nulls of an array of nulls alone.
+pub fn seen_column(
+    alloc: Global,
+    array: &ArrayBox,
+    nested: &[Nested],
+    first: usize,
+    count: usize,
+) -> Result<CutColumn>
+    requires in_bounds { IsInBounds (parts_of nested.now) }
+    requires leaf { tree_len (boxed array.now) ≡ leaf_count_or 0 (parts_of nested.now) }
+    requires reached { All (IsAlong (path_way (parts_of nested.now))) (rows_of (parts_of nested.now) (boxed array.now)) }
+    requires rows { first + count ≤ slot_count (parts_of nested.now) }
+    ensures ok { IfOk result (IsCutColumn (boxed array.now) (parts_of nested.now) first count) }
+    ensures told { IfOk result (λ c. TellsNulls (boxed c.array) (parts_of c.nested.items)) }
+    ensures err { IfErr result (λ e. e ≡ Memory) }
+{
+    let rows = cut_column(alloc, array, nested, first, count)?;
+    rows.array.know();
+    if !is_null(&rows.array) {
+        return Ok(rows);
+    }
+    let nested = seen_path(alloc, &rows.array, &rows.nested)?;
+    Ok(CutColumn {
+        array: rows.array,
+        nested,
+    })
 }

@@ -1,14 +1,18 @@
 //! Whether a column can be written: its path and type fit its array, and its pages are ones that are written.
-ghost use Rattle.std.specs.Prelude.{◌≡◌, ◌⊎◌, ◌↔◌, IsTrue, ℕ, true, false, length, OnOk, IfErr};
-ghost use Rattle.columns_base.specs.declared.error.Error.TheVariants.{InvalidArgumentError, NotYetImplemented};
+ghost use Rattle.std.specs.Prelude.{◌≡◌, ◌⊎◌, ◌↔◌, IsTrue, ℕ, true, false, length, All, OnOk, IfErr};
+ghost use Rattle.shredding.specs.Along.{IsAlong};
+ghost use Rattle.shredding.specs.Parts.{path_way};
+ghost use Rattle.columns_base.specs.declared.error.Error.TheVariants.{Memory, InvalidArgumentError, NotYetImplemented};
 ghost use Rattle.columns_base.specs.declared.error.A.TheVariants.{A8};
 ghost use Rattle.columns_base.specs.declared.error.N.TheVariants.{N4, N5};
 ghost use Rattle.columns_array.specs.Boxed.{boxed};
 ghost use Rattle.columns_core.specs.Shapes.{base};
 ghost use Rattle.columns_core.specs.View.{type_view};
-ghost use Rattle.columns_slots.specs.Slots.{type_of};
+ghost use Rattle.columns_slots.specs.Slots.{tree_len, type_of};
+ghost use Rattle.columns_slots.specs.Types.{is_null_type};
 ghost use Rattle.levels.specs.InBounds.{IsInBounds};
 ghost use Rattle.levels.specs.Nested.{parts_of};
+ghost use Rattle.levels.specs.Ranges.{leaf_count_or};
 ghost use Rattle.nested_paths.specs.Nodes.{is_optional};
 ghost use Rattle.nested_paths.specs.PathLeaf.{is_leaf_optional, FitsLeaf};
 ghost use Rattle.pq_tree.specs.TreeViews.{leaf_view};
@@ -20,12 +24,15 @@ ghost use Rattle.write_pages.specs.Fits.{FitsColumn, is_flat_path, is_written, i
 ghost use Rattle.write_pages.specs.Holds.{is_delta_encoding, rows_of, wants_deltas};
 ghost use Rattle.write_pages.specs.Refused.{IsUnwritten};
 
+use crate::cut_column::cut_column;
+use crate::nulls::{is_null, seen_path};
 use columns_array::ArrayBox;
 use columns_core::{A, DataType, Error, IntervalUnit, N, Result};
-use levels::{Nested, is_in_bounds};
+use levels::{Nested, is_in_bounds, slot_count};
 use nested_paths::fits_leaf;
 use pq_tree::{Encoding, PhysicalType, PrimitiveType, Repetition};
 use schema_to_tree::can_encode;
+use std::alloc::Global;
 use write_values::{is_decimal, is_served};
 
 const MISFIT: Error = Error::InvalidArgumentError(A::A8);
@@ -153,17 +160,38 @@ fn is_optional(type_: &PrimitiveType) -> bool
     type_.field_info.repetition != Repetition::Required
 }
 
+// That no row of a path in bounds over an array of nulls alone is null where that is not allowed.
+fn check_nulls(alloc: Global, array: &ArrayBox, nested: &[Nested]) -> Result<()>
+    requires null { is_null_type (base (type_of (boxed array.now))) ≡ true }
+    requires in_bounds { IsInBounds (parts_of nested.now) }
+    requires leaf { tree_len (boxed array.now) ≡ leaf_count_or 0 (parts_of nested.now) }
+    ensures ok { OnOk result (All (IsAlong (path_way (parts_of nested.now))) (rows_of (parts_of nested.now) (boxed array.now))) }
+    ensures err { IfErr result (λ e. (e ≡ Memory) ⊎ ((e ≡ InvalidArgumentError A8) × ¬ All (IsAlong (path_way (parts_of nested.now))) (rows_of (parts_of nested.now) (boxed array.now)))) }
+{
+    let whole = cut_column(alloc, array, nested, 0, slot_count(nested))?;
+    match seen_path(alloc, &whole.array, &whole.nested) {
+        Ok(_) => Ok(()),
+        Err(error) => Err(error),
+    }
+}
+
 /// That the path is in bounds, and the path and the type fit the array, whose values are written.
 ///
 /// # Errors
 ///
-/// `InvalidArgumentError(A8)` exactly where not.
-pub fn check_fit(array: &ArrayBox, type_: &PrimitiveType, nested: &[Nested]) -> Result<()>
+/// - `InvalidArgumentError(A8)` exactly where not.
+/// - `Memory`.
+pub fn check_fit(
+    alloc: Global,
+    array: &ArrayBox,
+    type_: &PrimitiveType,
+    nested: &[Nested],
+) -> Result<()>
     requires { is_written_along (parts_of nested.now) (boxed array.now) ≡ true }
     ensures in_bounds { OnOk result (IsInBounds (parts_of nested.now)) }
     ensures fits { OnOk result (FitsColumn (parts_of nested.now) (rows_of (parts_of nested.now) (boxed array.now)) (leaf_view type_.now) (physical_view type_.now.physical_type) (boxed array.now)) }
     ensures served { OnOk result (is_served (base (type_of (boxed array.now))) (physical_view type_.now.physical_type) ≡ true) }
-    ensures err { IfErr result (λ e. (e ≡ InvalidArgumentError A8) × ¬ (IsInBounds (parts_of nested.now) × FitsColumn (parts_of nested.now) (rows_of (parts_of nested.now) (boxed array.now)) (leaf_view type_.now) (physical_view type_.now.physical_type) (boxed array.now))) }
+    ensures err { IfErr result (λ e. (e ≡ Memory) ⊎ ((e ≡ InvalidArgumentError A8) × ¬ (IsInBounds (parts_of nested.now) × FitsColumn (parts_of nested.now) (rows_of (parts_of nested.now) (boxed array.now)) (leaf_view type_.now) (physical_view type_.now.physical_type) (boxed array.now)))) }
 {
     array.know();
     if !is_in_bounds(nested) {
@@ -178,5 +206,11 @@ pub fn check_fit(array: &ArrayBox, type_: &PrimitiveType, nested: &[Nested]) -> 
     if !is_served(array.data_type(), type_.physical_type) {
         return Err(MISFIT);
     }
-    Ok(())
+    if !is_null(array) {
+        return Ok(());
+    }
+    match check_nulls(alloc, array, nested) {
+        Ok(()) => Ok(()),
+        Err(error) => Err(error),
+    }
 }

@@ -4,6 +4,7 @@
 mod columns;
 mod cut_column;
 mod fit;
+mod nulls;
 mod options;
 mod page;
 mod pages;

@@ -1,5 +1,6 @@
 //! One page of a path.
-ghost use Rattle.std.specs.Prelude.{◌≡◌, ◌⊎◌, ◌≤◌, true, false, length, IfOk, OnOk, IfErr, Some};
+ghost use Rattle.std.specs.Prelude.{◌≡◌, ◌⊎◌, ◌≤◌, true, false, length, All, IfOk, OnOk, IfErr, Some};
+ghost use Rattle.shredding.specs.Along.{IsAlong};
 ghost use Rattle.shredding.specs.Parts.{IsPath, path_way, path_slots};
 ghost use Rattle.shredding.specs.Shred.{column};
 ghost use Rattle.columns_base.specs.declared.error.Error.TheVariants.{Memory, InvalidArgumentError, Overflow, NotYetImplemented};
@@ -19,12 +20,14 @@ ghost use Rattle.pq_files.specs.Page.{Encoding as PageEncoding};
 ghost use Rattle.pq_pages.specs.DataPages.{DataPageValue};
 ghost use Rattle.pq_pages.specs.declared.page.Page.TheVariants.{Data};
 ghost use Rattle.write_values.specs.Deltas.{page_encoding};
+ghost use Rattle.write_values.specs.Nulls.{TellsNulls};
 ghost use Rattle.write_values.specs.Served.{is_served};
 ghost use Rattle.write_pages.specs.Fits.{FitsColumn, is_written_along};
 ghost use Rattle.write_pages.specs.Holds.{HoldsRows, written_encoding};
 ghost use Rattle.write_pages.specs.Refused.{HasWide, IsPastRoom, IsUnwritten};
 
 use crate::fit::{check_written, wants_deltas};
+use crate::nulls::{is_null, seen_path};
 use crate::options::WriteOptions;
 use columns_array::ArrayBox;
 use columns_core::{A, Error, Result};
@@ -46,6 +49,7 @@ pub fn page_of_rows(
     requires well { IsPath (parts_of nested.now) }
     requires parts { length nested.now ≤ 128 }
     requires leaf { tree_len (boxed array.now) ≡ leaf_count_or 0 (parts_of nested.now) }
+    requires nulls { TellsNulls (boxed array.now) (parts_of nested.now) }
     requires served { is_served (base (type_of (boxed array.now))) (physical_view type_.physical_type) ≡ true }
     requires held { ¬ HasWide (leaf_type (type_of (boxed array.now))) (physical_view type_.physical_type) (column (path_way (parts_of nested.now)) (path_slots (leaf_slot (boxed array.now)) (parts_of nested.now))) }
     ensures ok { IfOk result (HoldsRows options (page_encoding with_deltas (leaf_type (type_of (boxed array.now))) (physical_view type_.physical_type)) (leaf_type (type_of (boxed array.now))) (leaf_view type_) (physical_view type_.physical_type) (path_way (parts_of nested.now)) (path_slots (leaf_slot (boxed array.now)) (parts_of nested.now))) }
@@ -59,6 +63,34 @@ pub fn page_of_rows(
         with_deltas,
     };
     data_page(alloc, array, type_, nested, form)
+}
+
+// The same, of a path that reaches no null where one is not allowed.
+fn seen_page(
+    alloc: Global,
+    array: &ArrayBox,
+    type_: PrimitiveType,
+    nested: &[Nested],
+    options: WriteOptions,
+    with_deltas: bool,
+) -> Result<DataPage>
+    requires well { IsPath (parts_of nested.now) }
+    requires parts { length nested.now ≤ 128 }
+    requires leaf { tree_len (boxed array.now) ≡ leaf_count_or 0 (parts_of nested.now) }
+    requires reached { All (IsAlong (path_way (parts_of nested.now))) (path_slots (leaf_slot (boxed array.now)) (parts_of nested.now)) }
+    requires served { is_served (base (type_of (boxed array.now))) (physical_view type_.physical_type) ≡ true }
+    requires held { ¬ HasWide (leaf_type (type_of (boxed array.now))) (physical_view type_.physical_type) (column (path_way (parts_of nested.now)) (path_slots (leaf_slot (boxed array.now)) (parts_of nested.now))) }
+    ensures ok { IfOk result (HoldsRows options (page_encoding with_deltas (leaf_type (type_of (boxed array.now))) (physical_view type_.physical_type)) (leaf_type (type_of (boxed array.now))) (leaf_view type_) (physical_view type_.physical_type) (path_way (parts_of nested.now)) (path_slots (leaf_slot (boxed array.now)) (parts_of nested.now))) }
+    ensures too_large { ComesWhere (Overflow V3) (IsPastRoom (leaf_type (type_of (boxed array.now))) (physical_view type_.physical_type) (column (path_way (parts_of nested.now)) (path_slots (leaf_slot (boxed array.now)) (parts_of nested.now)))) result }
+    ensures err { IfErr result (λ e. (e ≡ Memory) ⊎ (e ≡ Overflow V3)) }
+{
+    array.know();
+    if !is_null(array) {
+        return page_of_rows(alloc, array, type_, nested, options, with_deltas);
+    }
+    let seen = seen_path(alloc, array, nested)?;
+    let page = page_of_rows(alloc, array, type_, &seen, options, with_deltas)?;
+    Ok(page)
 }
 
 // That no value of a well-formed path over an array is a decimal past what its physical type holds.
@@ -110,6 +142,6 @@ pub fn array_to_page(
     check_written(array, type_.physical_type, nested, encoding)?;
     check_held(array, type_.physical_type, nested)?;
     let with_deltas = wants_deltas(nested, encoding);
-    let page = page_of_rows(alloc, array, type_, nested, options, with_deltas)?;
+    let page = seen_page(alloc, array, type_, nested, options, with_deltas)?;
     Ok(Page::Data(page))
 }

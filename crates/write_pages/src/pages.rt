@@ -1,5 +1,6 @@
 //! The pages of a column, one at a time.
-ghost use Rattle.std.specs.Prelude.{◌≡◌, ◌⊎◌, ◌+◌, ◌<◌, ◌≤◌, take, drop, true, length, option_map, IfOk, OnOk, IfErr};
+ghost use Rattle.std.specs.Prelude.{◌≡◌, ◌⊎◌, ◌+◌, ◌<◌, ◌≤◌, take, drop, true, length, option_map, All, IfOk, OnOk, IfErr};
+ghost use Rattle.shredding.specs.Along.{IsAlong};
 ghost use Rattle.shredding.specs.Parts.{IsPath, path_way, path_slots, slot_count};
 ghost use Rattle.shredding.specs.Shred.{column};
 ghost use Rattle.columns_base.specs.declared.error.Error.TheVariants.{Memory, InvalidArgumentError, Overflow};
@@ -16,12 +17,13 @@ ghost use Rattle.pq_tree.specs.TreeViews.{leaf_view};
 ghost use Rattle.page_statistics.specs.Stated.{AreStated};
 ghost use Rattle.pq_tree.specs.Views.{physical_view, statistics_view};
 ghost use Rattle.write_values.specs.Deltas.{encoding_name, page_encoding};
+ghost use Rattle.write_values.specs.Nulls.{TellsNulls};
 ghost use Rattle.write_values.specs.Served.{is_served};
 ghost use Rattle.write_pages.specs.Holds.{HoldsRows, IsPagesOf, rows_of, to_give};
 ghost use Rattle.write_pages.specs.Refused.{AreWritten, Gives, HasWide, IsPastRoom, RefusesPages};
 ghost use Rattle.write_pages.specs.Sized.{AreMeasured, IsByRule};
 
-use crate::cut_column::{copy_path, cut_column};
+use crate::cut_column::{copy_path, cut_column, seen_column};
 use crate::fit::{check_fit, check_written, wants_deltas};
 use crate::options::WriteOptions;
 use crate::page::{check_held, page_of_rows};
@@ -83,6 +85,7 @@ fn page_at(
 ) -> Result<DataPage>
     requires in_bounds { IsInBounds (parts_of nested.now) }
     requires parts { length nested.now ≤ 128 }
+    requires reached { All (IsAlong (path_way (parts_of nested.now))) (rows_of (parts_of nested.now) (boxed array.now)) }
     requires leaf { tree_len (boxed array.now) ≡ leaf_count_or 0 (parts_of nested.now) }
     requires served { is_served (base (type_of (boxed array.now))) (physical_view type_.now.physical_type) ≡ true }
     requires held { ¬ HasWide (leaf_type (type_of (boxed array.now))) (physical_view type_.now.physical_type) (column (path_way (parts_of nested.now)) (rows_of (parts_of nested.now) (boxed array.now))) }
@@ -90,7 +93,7 @@ fn page_at(
     ensures ok { IfOk result (HoldsRows options (page_encoding with_deltas (leaf_type (type_of (boxed array.now))) (physical_view type_.now.physical_type)) (leaf_type (type_of (boxed array.now))) (leaf_view type_.now) (physical_view type_.now.physical_type) (path_way (parts_of nested.now)) (take count (drop first (rows_of (parts_of nested.now) (boxed array.now))))) }
     ensures err { IfErr result (λ e. (e ≡ Memory) ⊎ ((e ≡ Overflow V3) × IsPastRoom (leaf_type (type_of (boxed array.now))) (physical_view type_.now.physical_type) (column (path_way (parts_of nested.now)) (take count (drop first (rows_of (parts_of nested.now) (boxed array.now))))))) }
 {
-    let rows = cut_column(alloc, array, nested, first, count)?;
+    let rows = seen_column(alloc, array, nested, first, count)?;
     let type_ = type_.clone(alloc)?;
     let page = page_of_rows(
         alloc,
@@ -183,6 +186,7 @@ fn check_all_held(
 fn plain_bytes(array: &ArrayBox, physical_type: PhysicalType, nested: &[Nested]) -> u128
     requires well { IsPath (parts_of nested.now) }
     requires leaf { tree_len (boxed array.now) ≡ leaf_count_or 0 (parts_of nested.now) }
+    requires nulls { TellsNulls (boxed array.now) (parts_of nested.now) }
     requires served { is_served (base (type_of (boxed array.now))) (physical_view physical_type) ≡ true }
     requires held { ¬ HasWide (leaf_type (type_of (boxed array.now))) (physical_view physical_type) (column (path_way (parts_of nested.now)) (path_slots (leaf_slot (boxed array.now)) (parts_of nested.now))) }
     ensures { AreMeasured (leaf_type (type_of (boxed array.now))) (physical_view physical_type) (path_way (parts_of nested.now)) (path_slots (leaf_slot (boxed array.now)) (parts_of nested.now)) result }
@@ -203,6 +207,7 @@ fn all_bytes(
     rows: usize,
 ) -> Result<u128>
     requires in_bounds { IsInBounds (parts_of nested.now) }
+    requires reached { All (IsAlong (path_way (parts_of nested.now))) (rows_of (parts_of nested.now) (boxed array.now)) }
     requires leaf { tree_len (boxed array.now) ≡ leaf_count_or 0 (parts_of nested.now) }
     requires served { is_served (base (type_of (boxed array.now))) (physical_view physical_type) ≡ true }
     requires held { ¬ HasWide (leaf_type (type_of (boxed array.now))) (physical_view physical_type) (column (path_way (parts_of nested.now)) (rows_of (parts_of nested.now) (boxed array.now))) }
@@ -210,7 +215,7 @@ fn all_bytes(
     ensures ok { IfOk result (AreMeasured (leaf_type (type_of (boxed array.now))) (physical_view physical_type) (path_way (parts_of nested.now)) (rows_of (parts_of nested.now) (boxed array.now))) }
     ensures err { IfErr result (λ e. e ≡ Memory) }
 {
-    let all = cut_column(alloc, array, nested, 0, rows)?;
+    let all = seen_column(alloc, array, nested, 0, rows)?;
     Ok(plain_bytes(&all.array, physical_type, &all.nested))
 }
 
@@ -223,6 +228,7 @@ fn page_rows(
     limit: Option<usize>,
 ) -> Result<usize>
     requires in_bounds { IsInBounds (parts_of nested.now) }
+    requires reached { All (IsAlong (path_way (parts_of nested.now))) (rows_of (parts_of nested.now) (boxed array.now)) }
     requires leaf { tree_len (boxed array.now) ≡ leaf_count_or 0 (parts_of nested.now) }
     requires served { is_served (base (type_of (boxed array.now))) (physical_view physical_type) ≡ true }
     requires held { ¬ HasWide (leaf_type (type_of (boxed array.now))) (physical_view physical_type) (column (path_way (parts_of nested.now)) (rows_of (parts_of nested.now) (boxed array.now))) }
@@ -248,6 +254,7 @@ fn row_statistics(
 ) -> Result<Option<Statistics>>
     requires well { IsPath (parts_of nested.now) }
     requires leaf { tree_len (boxed array.now) ≡ leaf_count_or 0 (parts_of nested.now) }
+    requires nulls { TellsNulls (boxed array.now) (parts_of nested.now) }
     requires served { is_served (base (type_of (boxed array.now))) (physical_view physical_type) ≡ true }
     requires held { ¬ HasWide (leaf_type (type_of (boxed array.now))) (physical_view physical_type) (column (path_way (parts_of nested.now)) (path_slots (leaf_slot (boxed array.now)) (parts_of nested.now))) }
     ensures ok { IfOk result (λ s. AreStated is_wanted (leaf_type (type_of (boxed array.now))) (physical_view physical_type) (column (path_way (parts_of nested.now)) (path_slots (leaf_slot (boxed array.now)) (parts_of nested.now))) (option_map statistics_view s)) }
@@ -266,13 +273,14 @@ fn all_statistics(
     is_wanted: bool,
 ) -> Result<Option<Statistics>>
     requires in_bounds { IsInBounds (parts_of nested.now) }
+    requires reached { All (IsAlong (path_way (parts_of nested.now))) (rows_of (parts_of nested.now) (boxed array.now)) }
     requires leaf { tree_len (boxed array.now) ≡ leaf_count_or 0 (parts_of nested.now) }
     requires served { is_served (base (type_of (boxed array.now))) (physical_view physical_type) ≡ true }
     requires held { ¬ HasWide (leaf_type (type_of (boxed array.now))) (physical_view physical_type) (column (path_way (parts_of nested.now)) (rows_of (parts_of nested.now) (boxed array.now))) }
     ensures ok { IfOk result (λ s. AreStated is_wanted (leaf_type (type_of (boxed array.now))) (physical_view physical_type) (column (path_way (parts_of nested.now)) (rows_of (parts_of nested.now) (boxed array.now))) (option_map statistics_view s)) }
     ensures err { IfErr result (λ e. e ≡ Memory) }
 {
-    let all = cut_column(alloc, array, nested, 0, slot_count(nested))?;
+    let all = seen_column(alloc, array, nested, 0, slot_count(nested))?;
     let statistics = row_statistics(alloc, &all.array, physical_type, &all.nested, is_wanted)?;
     Ok(statistics)
 }
@@ -306,7 +314,7 @@ pub fn array_to_pages(
     ensures err { IfErr result (λ e. (e ≡ Memory) ⊎ RefusesPages options type_ (parts_of nested.now) (boxed primitive_array.now) encoding e) }
 {
     check_written(primitive_array, type_.physical_type, nested, encoding)?;
-    check_fit(primitive_array, &type_, nested)?;
+    check_fit(alloc, primitive_array, &type_, nested)?;
     check_all_held(alloc, primitive_array, type_.physical_type, nested)?;
     let per_page = page_rows(
         alloc,

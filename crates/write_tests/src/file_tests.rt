@@ -4,7 +4,7 @@ use columns_base::{A, Error, Result};
 use columns_core::{Bitmap, DataType, Field, Metadata, OffsetsBuffer, Schema};
 use columns_leaf::PrimitiveArray;
 use pq_container::read_metadata;
-use pq_io::PlainSink;
+use pq_io::{MemorySink, PlainSink};
 use pq_tree::{CompressionOptions, Encoding, ParquetType, Version};
 use schema_codec::PlainCodec;
 use std::alloc::Global;
@@ -65,21 +65,32 @@ fn trees(alloc: Global, from: &[ParquetType], count: usize) -> Result<Vec<Parque
     Ok(trees)
 }
 
-// The group of both columns, or of the first alone.
-fn group(alloc: Global, from: &[ParquetType], count: usize) -> Result<RowGroupIter> {
+// So many of the two columns, with so many lists of encodings and so many trees.
+fn group_of(
+    alloc: Global,
+    from: &[ParquetType],
+    columns: usize,
+    lists_of_encodings: usize,
+    fields: usize,
+) -> Result<RowGroupIter> {
     let mut arrays = Vec::from_array(alloc, [lists(alloc)?, numbers(alloc, &[1, 2, 3, 4], None)?])?;
-    arrays.truncate(count);
+    arrays.truncate(columns);
     let mut encodings = Vec::new(alloc);
-    for _ in 0..count {
+    for _ in 0..lists_of_encodings {
         encodings.push(Vec::from_array(alloc, [Encoding::Plain])?)?;
     }
     row_group_iter(
         alloc,
         Chunk::try_new(arrays)?,
         encodings,
-        trees(alloc, from, count)?,
+        trees(alloc, from, fields)?,
         OPTIONS,
     )
+}
+
+// The group of both columns, or of the first alone.
+fn group(alloc: Global, from: &[ParquetType], count: usize) -> Result<RowGroupIter> {
+    group_of(alloc, from, count, count, count)
 }
 
 fn writer(alloc: Global) -> Result<FileWriter<PlainSink>> {
@@ -113,5 +124,32 @@ fn a_group_of_one_column_is_refused(rt: HostRuntime) -> Result<()> {
     let both = group(alloc, writer.parquet_schema().fields(), 2)?;
     assert!(rt; writer.write(both) == Err(Error::InvalidArgumentError(A::A8)));
     assert!(rt; writer.into_inner().bytes().is_empty());
+    Ok(())
+}
+
+// The first error is answered from then on, and nothing more is pushed.
+#[test]
+fn a_sink_that_fails_is_told_by_every_call(rt: HostRuntime) -> Result<()> {
+    let alloc = rt.alloc();
+    let sink = MemorySink::new(alloc, Vec::from_slice(alloc, &[1])?);
+    let mut writer = FileWriter::try_new(alloc, sink, schema(alloc)?, OPTIONS)?;
+    for _ in 0..2 {
+        let group = group(alloc, writer.parquet_schema().fields(), 2)?;
+        assert!(rt; writer.write(group) == Err(Error::WriteFault));
+    }
+    assert!(rt; writer.end(None, &PlainCodec) == Err(Error::WriteFault));
+    assert!(rt; writer.into_inner().bytes().is_empty());
+    Ok(())
+}
+
+#[test]
+fn arrays_encodings_and_fields_are_counted(rt: HostRuntime) -> Result<()> {
+    let alloc = rt.alloc();
+    let writer = writer(alloc)?;
+    let from = writer.parquet_schema().fields();
+    for (columns, encodings, fields) in [(2, 1, 1), (2, 2, 1), (2, 1, 2), (1, 2, 2), (1, 1, 2)] {
+        let group = group_of(alloc, from, columns, encodings, fields);
+        assert!(rt; matches!(group, Err(Error::InvalidArgumentError(A::A8))));
+    }
     Ok(())
 }

@@ -1,23 +1,22 @@
 -- The values of leaf arrays in order, and their texts as bounds.
-use Rattle.std.proofs.Common.{◌≡◌, ℕ, ◌<◌, ℤ, ◌≤ℤ◌, ◌<ℤ◌, Bool, true, false, true≢false, List, [], ◌∷◌, map, length, get_or, refl, sym, ap, subst, ◌∙◌, arith, cond, Some, inl, inr}
+use Rattle.std.proofs.Common.{◌≡◌, ℕ, ◌<◌, ℤ, ◌≤ℤ◌, ◌<ℤ◌, Bool, true, false, true≢false, List, [], ◌∷◌, map, length, get_or, refl, sym, ap, subst, ◌∙◌, arith, cond, Some}
 use Rattle.std.specs.Prelude.{All, IsUtf8}
 use Rattle.std.proofs.lemmas.List.{get_or-map}
 use Rattle.std.proofs.lemmas.Int.{by_lt_z, ints}
 use Rattle.shredding.specs.Shape.{LeafType, truths, text, binary, fixed_bytes}
 use Rattle.shredding.specs.Slot.{Value, truth, number, bytes}
 use Rattle.columns_core.specs.Shapes.{base, leaf_type}
-use Rattle.columns_core.specs.Tree.{TypeTree, t_boolean, t_int8, t_int16, t_int32, t_int64, t_uint8, t_uint16, t_uint32, t_uint64, t_date32, t_date64, t_time32, t_time64, t_timestamp, t_duration, t_utf8, t_large_utf8, t_binary, t_fixed_size_binary, t_large_binary, t_decimal}
+use Rattle.columns_core.specs.Tree.{TypeTree, t_boolean, t_utf8, t_large_utf8, t_binary, t_fixed_size_binary, t_large_binary}
 use Rattle.columns_slots.specs.Bytes.{pieces, pieces_values}
 use Rattle.columns_slots.specs.Types.{byte_width, is_binary, is_boolean, is_text}
-use Rattle.pq_tree.specs.Physical.{Physical, boolean, int32, int64, byte_array, fixed}
-use Rattle.pq_files.specs.Statistics.{IsImplied, IsUpTo, has_order}
+use Rattle.pq_tree.specs.Physical.{Physical, boolean, byte_array, fixed}
+use Rattle.pq_files.specs.Statistics.{IsImplied, IsUpTo}
 use Rattle.pq_files.specs.Stored.{IsStored}
 use Rattle.page_statistics.specs.Spelled.{IsSpelled, bound_text}
 use Rattle.write_values.specs.Fixed.{width_in}
-use Rattle.write_values.specs.Numbers.{at_place, is_number}
-use Rattle.write_values.specs.Served.{is_decimal, is_small, is_wide, is_string, is_served}
+use Rattle.write_values.specs.Numbers.{at_place}
 use Rattle.write_values.proofs.Picked.{number_here}
-use Rattle.write_values.proofs.ServedTypes.{either, some_number}
+use Rattle.write_values.proofs.ServedTypes.{some_number}
 
 pub below_is_up_to : (a b : ℤ) → a <ℤ b → a ≤ℤ b
 below_is_up_to a b h = omega (arith, ints, h)
@@ -36,56 +35,6 @@ module _ {A : Type 0} (g : A → Value) (ordinal : A → ℤ) (is : (x : A) → 
 -- the text of the number at a place
 pub number_spelled : {A : Type 0} (t : LeafType) (p : Physical) (g : A → Value) (xs : List A) (i : ℕ) (x : A) (z : ℤ) (s : List ℕ) → i < length xs → x ≡ get_or xs i x → IsStored t p (g x) (number z) → s ≡ bound_text p (number z) → IsSpelled t p s (at_place (map g xs) i)
 number_spelled t p g xs i x z s l e h is = subst (λ (v : Value). IsSpelled t p s v) (number_here g xs i x l e) (record { stored = number z; is_stored = h; has_bytes = λ d. tt; is = is })
-
--- ---- the types that are written have an order
-
-small_ordered : (t : TypeTree) → is_small t ≡ true → has_order (leaf_type t) ≡ true
-small_ordered t_int8 e = refl
-small_ordered t_int16 e = refl
-small_ordered t_int32 e = refl
-small_ordered t_uint8 e = refl
-small_ordered t_uint16 e = refl
-small_ordered t_uint32 e = refl
-small_ordered t_date32 e = refl
-small_ordered (t_time32 u) e = refl
-small_ordered t e = absurd (true≢false (sym e))
-
-wide_ordered : (t : TypeTree) → is_wide t ≡ true → has_order (leaf_type t) ≡ true
-wide_ordered t_uint32 e = refl
-wide_ordered t_int64 e = refl
-wide_ordered t_uint64 e = refl
-wide_ordered t_date64 e = refl
-wide_ordered (t_time64 u) e = refl
-wide_ordered (t_timestamp u z) e = refl
-wide_ordered (t_duration u) e = refl
-wide_ordered t e = absurd (true≢false (sym e))
-
-decimal_ordered : (t : TypeTree) → is_decimal t ≡ true → has_order (leaf_type t) ≡ true
-decimal_ordered (t_decimal p s) e = refl
-decimal_ordered t e = absurd (true≢false (sym e))
-
-string_ordered : (t : TypeTree) → is_string t ≡ true → has_order (leaf_type t) ≡ true
-string_ordered t_utf8 e = refl
-string_ordered t_large_utf8 e = refl
-string_ordered t_binary e = refl
-string_ordered t_large_binary e = refl
-string_ordered t e = absurd (true≢false (sym e))
-
-truth_ordered : (t : TypeTree) → is_boolean t ≡ true → has_order (leaf_type t) ≡ true
-truth_ordered t_boolean e = refl
-truth_ordered t e = absurd (true≢false (sym e))
-
--- but for intervals
-pub served_ordered : (t : TypeTree) (p : Physical) → is_number p ≡ true → is_served t p ≡ true → has_order (leaf_type t) ≡ true
-served_ordered t int32 n e = elim (either (is_small t) (is_decimal t) e) [ inl s ↦ small_ordered t s | inr d ↦ decimal_ordered t d ]
-served_ordered t int64 n e = elim (either (is_wide t) (is_decimal t) e) [ inl s ↦ wide_ordered t s | inr d ↦ decimal_ordered t d ]
-served_ordered t p n e = absurd (true≢false (sym n))
-
-pub strings_ordered : (t : TypeTree) → is_served t byte_array ≡ true → has_order (leaf_type t) ≡ true
-strings_ordered t e = string_ordered t e
-
-pub truths_ordered : (t : TypeTree) → is_served t boolean ≡ true → has_order (leaf_type t) ≡ true
-truths_ordered t e = truth_ordered t e
 
 -- ---- texts, byte strings and truth values
 
@@ -145,9 +94,6 @@ implied_true true c e = e
 fixed_type : (t : TypeTree) (w : ℕ) → byte_width t ≡ Some w → leaf_type t ≡ fixed_bytes w
 fixed_type (t_fixed_size_binary m) w e = ap fixed_bytes (some_number m w e)
 fixed_type t w e = absurd cc
-
-pub fixed_ordered : (t : TypeTree) (w : ℕ) → byte_width t ≡ Some w → has_order (leaf_type t) ≡ true
-fixed_ordered t w e = ap has_order (fixed_type t w e)
 
 pub fixed_spelled : (t : TypeTree) (s b : List ℕ) (v : Value) → byte_width (base t) ≡ Some (width_in t) → bytes b ≡ v → length b ≡ width_in t → s ≡ b → IsSpelled (leaf_type (base t)) (fixed (width_in t)) s v
 fixed_spelled t s b v e i l h =

@@ -1,5 +1,5 @@
 -- Which columns have deltas.
-use Rattle.std.proofs.Common.{◌≡◌, ◌≢◌, ℕ, Bool, true, false, true≢false, pos, Option, Some, None, refl, sym, ap, subst, ◌∙◌, inl, inr}
+use Rattle.std.proofs.Common.{◌≡◌, ℕ, Bool, true, false, true≢false, pos, Option, Some, None, refl, sym, ap, ◌∙◌, inl, inr}
 use Rattle.shredding.specs.Shape.{LeafType, nothing}
 use Rattle.columns_core.specs.Shapes.{base, leaf_type}
 use Rattle.columns_core.specs.Tree.{TypeTree, t_null, t_boolean, t_int8, t_int16, t_int32, t_int64, t_uint8, t_uint16, t_uint32, t_uint64, t_date32, t_date64, t_time32, t_time64, t_timestamp, t_duration, t_utf8, t_large_utf8, t_binary, t_large_binary, t_fixed_size_binary, t_interval, t_decimal}
@@ -15,62 +15,66 @@ use Rattle.write_values.specs.Deltas.{HasDeltas, IsLeafType, IsSpelling, encodin
 use Rattle.write_values.specs.Served.{is_decimal, is_small, is_wide, is_string, is_fixed, is_served}
 use Rattle.write_values.proofs.ServedTypes.{either, leaf_base}
 
-truths_have : (t : TypeTree) → is_boolean t ≡ true → leaf_type t ≢ nothing
-truths_have t_boolean e = λ h. cc
+-- the type has values, or is Null
+abbrev HasKind : TypeTree → Type 0
+HasKind t = leaf_type t ≡ nothing → is_null_type t ≡ true
+
+truths_have : (t : TypeTree) → is_boolean t ≡ true → HasKind t
+truths_have t_boolean e = λ h. absurd cc
 truths_have t e = absurd (true≢false (sym e))
 
-small_have : (t : TypeTree) → is_small t ≡ true → leaf_type t ≢ nothing
-small_have t_int8 e = λ h. cc
-small_have t_int16 e = λ h. cc
-small_have t_int32 e = λ h. cc
-small_have t_date32 e = λ h. cc
-small_have (t_time32 u) e = λ h. cc
-small_have t_uint8 e = λ h. cc
-small_have t_uint16 e = λ h. cc
-small_have t_uint32 e = λ h. cc
+small_have : (t : TypeTree) → is_small t ≡ true → HasKind t
+small_have t_null e = λ h. refl
+small_have t_int8 e = λ h. absurd cc
+small_have t_int16 e = λ h. absurd cc
+small_have t_int32 e = λ h. absurd cc
+small_have t_date32 e = λ h. absurd cc
+small_have (t_time32 u) e = λ h. absurd cc
+small_have t_uint8 e = λ h. absurd cc
+small_have t_uint16 e = λ h. absurd cc
+small_have t_uint32 e = λ h. absurd cc
 small_have t e = absurd (true≢false (sym e))
 
-wide_have : (t : TypeTree) → is_wide t ≡ true → leaf_type t ≢ nothing
-wide_have t_int64 e = λ h. cc
-wide_have t_date64 e = λ h. cc
-wide_have (t_time64 u) e = λ h. cc
-wide_have (t_timestamp u zone_name) e = λ h. cc
-wide_have (t_duration u) e = λ h. cc
-wide_have t_uint32 e = λ h. cc
-wide_have t_uint64 e = λ h. cc
+wide_have : (t : TypeTree) → is_wide t ≡ true → HasKind t
+wide_have t_int64 e = λ h. absurd cc
+wide_have t_date64 e = λ h. absurd cc
+wide_have (t_time64 u) e = λ h. absurd cc
+wide_have (t_timestamp u zone_name) e = λ h. absurd cc
+wide_have (t_duration u) e = λ h. absurd cc
+wide_have t_uint32 e = λ h. absurd cc
+wide_have t_uint64 e = λ h. absurd cc
 wide_have t e = absurd (true≢false (sym e))
 
-decimals_have : (t : TypeTree) → is_decimal t ≡ true → leaf_type t ≢ nothing
-decimals_have (t_decimal p s) e = λ h. cc
+decimals_have : (t : TypeTree) → is_decimal t ≡ true → HasKind t
+decimals_have (t_decimal p s) e = λ h. absurd cc
 decimals_have t e = absurd (true≢false (sym e))
 
-strings_have : (t : TypeTree) → is_string t ≡ true → leaf_type t ≢ nothing
-strings_have t_utf8 e = λ h. cc
-strings_have t_large_utf8 e = λ h. cc
-strings_have t_binary e = λ h. cc
-strings_have t_large_binary e = λ h. cc
+strings_have : (t : TypeTree) → is_string t ≡ true → HasKind t
+strings_have t_utf8 e = λ h. absurd cc
+strings_have t_large_utf8 e = λ h. absurd cc
+strings_have t_binary e = λ h. absurd cc
+strings_have t_large_binary e = λ h. absurd cc
 strings_have t e = absurd (true≢false (sym e))
 
-fixed_have : (n : ℕ) (t : TypeTree) → is_fixed n t ≡ true → leaf_type t ≢ nothing
-fixed_have n (t_fixed_size_binary m) e = λ h. cc
-fixed_have n (t_interval YearMonth) e = λ h. cc
-fixed_have n (t_interval DayTime) e = λ h. cc
-fixed_have n (t_decimal p s) e = λ h. cc
+fixed_have : (n : ℕ) (t : TypeTree) → is_fixed n t ≡ true → HasKind t
+fixed_have n (t_fixed_size_binary m) e = λ h. absurd cc
+fixed_have n (t_interval YearMonth) e = λ h. absurd cc
+fixed_have n (t_interval DayTime) e = λ h. absurd cc
+fixed_have n (t_decimal p s) e = λ h. absurd cc
 fixed_have n t e = absurd (true≢false (sym e))
 
--- what is written has values
-have_values : (t : TypeTree) (p : Physical) → is_served t p ≡ true → leaf_type t ≢ nothing
-have_values t boolean e = truths_have t e
-have_values t int32 e = elim (either (is_small t) (is_decimal t) e) [ inl s ↦ small_have t s | inr d ↦ decimals_have t d ]
-have_values t int64 e = elim (either (is_wide t) (is_decimal t) e) [ inl s ↦ wide_have t s | inr d ↦ decimals_have t d ]
-have_values t byte_array e = strings_have t e
-have_values t (fixed n) e = fixed_have n t e
-have_values t p e = absurd (true≢false (sym e))
+served_kind : (t : TypeTree) (p : Physical) → is_served t p ≡ true → HasKind t
+served_kind t boolean e = truths_have t e
+served_kind t int32 e = elim (either (is_small t) (is_decimal t) e) [ inl s ↦ small_have t s | inr d ↦ decimals_have t d ]
+served_kind t int64 e = elim (either (is_wide t) (is_decimal t) e) [ inl s ↦ wide_have t s | inr d ↦ decimals_have t d ]
+served_kind t byte_array e = strings_have t e
+served_kind t (fixed n) e = fixed_have n t e
+served_kind t p e = absurd (true≢false (sym e))
 
 pub leaf_types : (t : TypeTree) (p : Physical) → is_served (base t) p ≡ true → IsLeafType t
-leaf_types t p served e = absurd (subst (λ (l : LeafType). l ≢ nothing) (leaf_base t) (have_values (base t) p served) e)
+leaf_types t p served e = served_kind (base t) p served (leaf_base t ∙ e)
 
-null_nothing : (t : TypeTree) → is_null_type t ≡ true → leaf_type t ≡ nothing
+pub null_nothing : (t : TypeTree) → is_null_type t ≡ true → leaf_type t ≡ nothing
 null_nothing t_null e = refl
 null_nothing t e = absurd (true≢false (sym e))
 

@@ -11,7 +11,7 @@ use Rattle.columns_core.specs.Shapes.{base, leaf_type}
 use Rattle.columns_core.specs.Tree.{TypeTree, t_null, t_boolean, t_int8, t_int16, t_int32, t_int64, t_uint8, t_uint16, t_uint32, t_uint64, t_date32, t_date64, t_time32, t_time64, t_timestamp, t_duration, t_interval, t_utf8, t_large_utf8, t_binary, t_fixed_size_binary, t_large_binary, t_extension, t_list, t_large_list, t_map, t_fixed_size_list, t_struct, t_dictionary, t_decimal}
 use Rattle.columns_slots.specs.Tree.{ArrayTree, null_array, leaf_array, list_array, fixed_list_array, struct_array, dictionary_array, ArrayTrees, no_arrays, more_arrays}
 use Rattle.columns_slots.specs.Slots.{IsSound, AreTyped, count_arrays, type_of}
-use Rattle.columns_slots.specs.Types.{is_null_type, is_boolean, byte_width, list_item, fixed_item, entry_type, part_types}
+use Rattle.columns_slots.specs.Types.{is_boolean, byte_width, list_item, fixed_item, entry_type, part_types}
 use Rattle.pq_tree.specs.Physical.{Physical, boolean, int32, int64, int96, float, double, byte_array, fixed}
 use Rattle.pq_files.specs.Stored.{IsStored, HoldsDecimal}
 use Rattle.write_values.specs.Decimals.{stored_decimal}
@@ -30,10 +30,6 @@ no_row t d a b c f float = refl
 no_row t d a b c f double = refl
 no_row t d a b c f byte_array = c
 no_row t d a b c f (fixed n) = f n
-
-no_nulls : (t : TypeTree) (p : Physical) → is_null_type t ≡ true → is_served t p ≡ false
-no_nulls t_null p e = no_row t_null refl refl refl refl (λ n. refl) p
-no_nulls t p e = absurd (true≢false (sym e))
 
 no_items : (t i : TypeTree) (p : Physical) → list_item t ≡ Some i → is_served t p ≡ false
 no_items (t_list f) i p e = no_row (t_list f) refl refl refl refl (λ n. refl) p
@@ -54,13 +50,14 @@ no_parts (t_struct fs) cs p h k = no_row (t_struct fs) refl refl refl refl (λ n
 no_parts t no_arrays p h k = absurd (omega (arith, k))
 no_parts t (more_arrays c cs) p h k = absurd h
 
-abbrev pub is_leaf_array : ArrayTree → Bool
-is_leaf_array (leaf_array t vs m) = true
-is_leaf_array a = false
+abbrev pub holds_none : ArrayTree → Bool
+holds_none (null_array t n) = true
+holds_none (leaf_array t vs m) = true
+holds_none a = false
 
--- arrays that hold arrays, and nulls alone
-pub no_others : (a : ArrayTree) (p : Physical) → is_leaf_array a ≡ false → IsSound a → is_served (base (type_of a)) p ≡ false
-no_others (null_array t n) p e s = no_nulls (base t) p s
+-- arrays that hold arrays
+pub no_others : (a : ArrayTree) (p : Physical) → holds_none a ≡ false → IsSound a → is_served (base (type_of a)) p ≡ false
+no_others (null_array t n) p e s = absurd (true≢false e)
 no_others (leaf_array t vs m) p e s = absurd (true≢false e)
 no_others (list_array t os c m) p e s = no_items (base t) (type_of c) p s.3
 no_others (fixed_list_array t w n c m) p e s = no_fixed_items (base t) (type_of c) p s.3
@@ -124,6 +121,7 @@ small_stored (t_time32 u) v e h = absurd h
 small_stored t_uint8 v e h = absurd h
 small_stored t_uint16 v e h = absurd h
 small_stored t_uint32 v e h = absurd h
+small_stored t_null v e h = absurd h
 small_stored t v e h = absurd (true≢false (sym e))
 
 wide_stored : (t : TypeTree) (v : Value) → is_wide t ≡ true → IsInRange (leaf_type t) v → IsStored (leaf_type t) int64 v (stored_value (leaf_type t) int64 v)

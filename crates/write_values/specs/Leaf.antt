@@ -2,19 +2,21 @@
 use Rattle.std.specs.Prelude.{◌≡◌, true, map}
 use Rattle.shredding.specs.Slot.{truth}
 use Rattle.columns_core.specs.Natives.{value_days, value_i8, value_i16, value_i32, value_i64, value_i128, value_u8, value_u16, value_u32, value_u64}
-use Rattle.columns_core.specs.Shapes.{base}
+use Rattle.columns_core.specs.Shapes.{base, leaf_type}
 use Rattle.columns_slots.specs.Bytes.{pieces_values}
 use Rattle.columns_slots.specs.Slots.{type_of}
-use Rattle.columns_slots.specs.Tree.{ArrayTree, leaf_array}
+use Rattle.columns_slots.specs.Tree.{ArrayTree, null_array, leaf_array}
 use Rattle.pq_tree.specs.Physical.{Physical, boolean, int32, int64, byte_array, fixed}
+use Rattle.pq_files.specs.Statistics.{has_order}
 use Rattle.write_values.specs.declared.leaf.Leaf.{Leaf}
-use Rattle.write_values.specs.declared.leaf.Leaf.TheVariants.{Boolean, Int8, Int16, Int32, UInt8, UInt16, UInt32, WideUInt32, Int64, UInt64, Utf8, LargeUtf8, Binary, LargeBinary, FixedSizeBinary, Months, Days, Decimal}
+use Rattle.write_values.specs.declared.leaf.Leaf.TheVariants.{Null, Boolean, Int8, Int16, Int32, UInt8, UInt16, UInt32, WideUInt32, Int64, UInt64, Utf8, LargeUtf8, Binary, LargeBinary, FixedSizeBinary, Months, Days, Decimal}
 use Rattle.write_values.specs.Decimals.{form_physical}
 use Rattle.write_values.specs.Fixed.{strings_in, width_in}
 use Rattle.write_values.specs.Served.{is_served}
 
 -- what the array stands for
 abbrev pub leaf_tree : Leaf → ArrayTree
+leaf_tree (Null a) = null_array a.now.0 a.now.1
 leaf_tree (Boolean a) = leaf_array a.now.0 (map truth a.now.1.0) a.now.1.1
 leaf_tree (Int8 a) = leaf_array a.now.0 (map (value_i8 (base a.now.0)) a.now.1.0) a.now.1.1
 leaf_tree (Int16 a) = leaf_array a.now.0 (map (value_i16 (base a.now.0)) a.now.1.0) a.now.1.1
@@ -36,6 +38,7 @@ leaf_tree (Decimal a form) = leaf_array a.now.0 (map (value_i128 (base a.now.0))
 
 -- the physical type of its column
 abbrev pub leaf_physical : Leaf → Physical
+leaf_physical (Null a) = int32
 leaf_physical (Boolean a) = boolean
 leaf_physical (Int8 a) = int32
 leaf_physical (Int16 a) = int32
@@ -60,3 +63,13 @@ pub record IsLeafOf (a : ArrayTree) (p : Physical) (leaf : Leaf) : Type 0 where
   pub tree : leaf_tree leaf ≡ a
   pub physical : leaf_physical leaf ≡ p
   pub served : is_served (base (type_of a)) p ≡ true
+
+-- Numbers of 32 bits have an order: of the types that are stored so nulls alone have none.
+abbrev pub HasOrder : Leaf → Type 0
+HasOrder (Int8 a) = has_order (leaf_type (base a.now.0)) ≡ true
+HasOrder (Int16 a) = has_order (leaf_type (base a.now.0)) ≡ true
+HasOrder (Int32 a) = has_order (leaf_type (base a.now.0)) ≡ true
+HasOrder (UInt8 a) = has_order (leaf_type (base a.now.0)) ≡ true
+HasOrder (UInt16 a) = has_order (leaf_type (base a.now.0)) ≡ true
+HasOrder (UInt32 a) = has_order (leaf_type (base a.now.0)) ≡ true
+HasOrder leaf = Unit {0}

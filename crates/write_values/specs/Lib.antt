@@ -3,6 +3,7 @@ pub mod Deltas
 pub mod Fixed
 pub mod Leaf
 pub mod Lengths
+pub mod Nulls
 pub mod Numbers
 pub mod Pages
 pub mod Rows

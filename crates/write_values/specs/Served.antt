@@ -1,14 +1,15 @@
--- The types whose values are written, each with the physical types of its column (Parquet format, "Types" and LogicalTypes). Of the others
--- that pages may have, nulls alone and dictionaries are not written yet.
+-- The types whose values are written, each with the physical types of its column (Parquet format, "Types" and LogicalTypes). Of the types
+-- that pages may have, dictionaries alone are not written yet.
 use Rattle.std.specs.Prelude.{ℕ, ◌==◌, nat_le, Bool, true, false, ◌&&◌, ◌||◌}
 use Rattle.columns_core.specs.declared.types.IntervalUnit.TheVariants.{YearMonth, DayTime}
 use Rattle.columns_core.specs.declared.types.TimeUnit.TheVariants.{Second, Millisecond, Microsecond, Nanosecond}
-use Rattle.columns_core.specs.Tree.{TypeTree, t_int8, t_int16, t_int32, t_int64, t_uint8, t_uint16, t_uint32, t_uint64, t_timestamp, t_date32, t_date64, t_time32, t_time64, t_duration, t_interval, t_binary, t_fixed_size_binary, t_large_binary, t_utf8, t_large_utf8, t_decimal}
+use Rattle.columns_core.specs.Tree.{TypeTree, t_null, t_int8, t_int16, t_int32, t_int64, t_uint8, t_uint16, t_uint32, t_uint64, t_timestamp, t_date32, t_date64, t_time32, t_time64, t_duration, t_interval, t_binary, t_fixed_size_binary, t_large_binary, t_utf8, t_large_utf8, t_decimal}
 use Rattle.columns_slots.specs.Types.{is_boolean}
 use Rattle.pq_tree.specs.Physical.{Physical, boolean, int32, int64, byte_array, fixed}
 
--- as numbers of 32 bits
+-- as numbers of 32 bits: nulls alone too, of which no number is stored
 abbrev pub is_small : TypeTree → Bool
+is_small t_null = true
 is_small t_int8 = true
 is_small t_int16 = true
 is_small t_int32 = true

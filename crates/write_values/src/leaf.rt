@@ -9,17 +9,21 @@ ghost use Rattle.columns_slots.specs.Types.{is_boolean};
 ghost use Rattle.columns_array.specs.Boxed.{boxed};
 ghost use Rattle.pq_tree.specs.Views.{physical_view};
 ghost use Rattle.write_values.specs.Served.{is_decimal, is_fixed, is_small, is_wide, is_string, is_served};
-ghost use Rattle.write_values.specs.Leaf.{IsLeafOf};
+ghost use Rattle.write_values.specs.Leaf.{HasOrder, IsLeafOf, leaf_physical, leaf_tree};
 
 use crate::decimals::DecimalForm;
 use columns_array::ArrayBox;
 use columns_base::PhysicalType;
 use columns_core::{DataType, DaysMs, IntervalUnit, TimeUnit};
-use columns_leaf::{BinaryArray, BooleanArray, FixedSizeBinaryArray, PrimitiveArray, Utf8Array};
+use columns_leaf::{
+    BinaryArray, BooleanArray, FixedSizeBinaryArray, NullArray, PrimitiveArray, Utf8Array,
+};
 
 // A leaf array whose values are written, and how.
 #[derive(Clone, Copy, Drop)]
 pub enum Leaf<'a> {
+    // as nothing
+    Null(&'a NullArray),
     // as truth values
     Boolean(&'a BooleanArray),
     // as numbers of 32 bits
@@ -60,6 +64,7 @@ fn is_small(data_type: &DataType) -> bool
     ensures { result ≡ is_small (base (type_view data_type.now)) }
 {
     match data_type.base() {
+        DataType::Null => true,
         DataType::Int8 | DataType::Int16 | DataType::Int32 => true,
         DataType::UInt8 | DataType::UInt16 | DataType::UInt32 => true,
         DataType::Date32 | DataType::Time32(TimeUnit::Second | TimeUnit::Millisecond) => true,
@@ -236,7 +241,7 @@ pub fn leaf_of(array: &ArrayBox, physical_type: PhysicalType) -> Option<Leaf<'_>
         ArrayBox::Int128(a) => decimal_leaf(a, physical_type),
         ArrayBox::Null(a) => {
             a.know();
-            None
+            Some(Leaf::Null(a))
         }
         ArrayBox::Dictionary(a) => {
             a.know();
@@ -262,5 +267,33 @@ pub fn leaf_of(array: &ArrayBox, physical_type: PhysicalType) -> Option<Leaf<'_>
             a.know();
             None
         }
+    }
+}
+
+// Callers learn that numbers of 32 bits have an order.
+pub fn know_order(leaf: Leaf<'_>)
+    requires { is_served (base (type_of (leaf_tree leaf))) (leaf_physical leaf) ≡ true }
+    ensures { HasOrder leaf.entry }
+{
+    match leaf {
+        Leaf::Int8(a) => a.know(),
+        Leaf::Int16(a) => a.know(),
+        Leaf::Int32(a) => a.know(),
+        Leaf::UInt8(a) => a.know(),
+        Leaf::UInt16(a) => a.know(),
+        Leaf::UInt32(a) => a.know(),
+        Leaf::Null(_) => {}
+        Leaf::Boolean(_) => {}
+        Leaf::WideUInt32(_) => {}
+        Leaf::Int64(_) => {}
+        Leaf::UInt64(_) => {}
+        Leaf::Utf8(_) => {}
+        Leaf::LargeUtf8(_) => {}
+        Leaf::Binary(_) => {}
+        Leaf::LargeBinary(_) => {}
+        Leaf::FixedSizeBinary(_) => {}
+        Leaf::Months(_) => {}
+        Leaf::Days(_) => {}
+        Leaf::Decimal(_, _) => {}
     }
 }

@@ -21,6 +21,7 @@ ghost use Rattle.write_values.specs.Decimals.{HasWide};
 ghost use Rattle.write_values.specs.Leaf.{leaf_tree, leaf_physical};
 ghost use Rattle.pq_files.specs.Written.{number_of_encoding};
 ghost use Rattle.write_values.specs.Deltas.{AreDeltasOf, IsSpelling, encoding_in};
+ghost use Rattle.write_values.specs.Nulls.{TellsNulls};
 ghost use Rattle.write_values.specs.Pages.{column_room, stored_column, value_column, IsBody, IsColumnPage, IsHeader, IsOut};
 ghost use Rattle.write_values.specs.Served.{is_served};
 ghost use Rattle.write_values.specs.Stored.{stored_at};
@@ -97,6 +98,7 @@ fn page_body(
     requires parts { length nested.now ≤ 128 }
     requires leaf { leaf_count_or 0 (parts_of nested.now) ≤ tree_len (leaf_tree leaf) }
     requires served { is_served (base (type_of (leaf_tree leaf))) (leaf_physical leaf) ≡ true }
+    requires nulls { TellsNulls (leaf_tree leaf) (parts_of nested.now) }
     requires deltas { IfSome deltas (AreDeltasOf (leaf_physical leaf)) }
     requires count { measured.values ≡ length (path_places (parts_of nested.now)) }
     requires size { measured.plain ≤ max_size }
@@ -188,6 +190,7 @@ fn leaf_page(
     requires parts { length nested.now ≤ 128 }
     requires leaf { leaf_count_or 0 (parts_of nested.now) ≤ tree_len (leaf_tree leaf) }
     requires served { is_served (base (type_of (leaf_tree leaf))) (leaf_physical leaf) ≡ true }
+    requires nulls { TellsNulls (leaf_tree leaf) (parts_of nested.now) }
     requires held { ¬ HasWide (leaf_type (type_of (leaf_tree leaf))) (leaf_physical leaf) (value_column (leaf_tree leaf) nested.now) }
     requires spelling { IsSpelling form.with_deltas (leaf_type (type_of (leaf_tree leaf))) (leaf_physical leaf) deltas }
     ensures ok { IfOk result (IsColumnPage form (leaf_tree leaf.entry) (leaf_physical leaf.entry) type_ nested.now) }
@@ -217,7 +220,8 @@ fn leaf_page(
 /// path: its levels, and at each present value the one that the physical type stores for it, by the page table. Where deltas are wanted INT32
 /// and INT64 numbers are spelled in DELTA_BINARY_PACKED and BYTE_ARRAY strings in DELTA_LENGTH_BYTE_ARRAY, everything else in PLAIN. Its header
 /// has the statistics of these values exactly where they are wanted (parquet.thrift: `Statistics`). What lies beneath nulls is not looked at.
-/// The path is well formed, and its nulls are those of its masks. The physical type holds each decimal (`has_wide`).
+/// The path is well formed, and its nulls are those of its masks: over an array of nulls alone it reaches no place, and nothing is spelled. The
+/// physical type holds each decimal (`has_wide`).
 ///
 /// # Errors
 ///
@@ -234,6 +238,7 @@ pub fn data_page(
     requires well { IsPath (parts_of nested.now) }
     requires parts { length nested.now ≤ 128 }
     requires leaf { tree_len (boxed array.now) ≡ leaf_count_or 0 (parts_of nested.now) }
+    requires nulls { TellsNulls (boxed array.now) (parts_of nested.now) }
     requires held { ¬ HasWide (leaf_type (type_of (boxed array.now))) (physical_view type_.physical_type) (value_column (boxed array.now) nested.now) }
     ensures ok { IfOk result (IsColumnPage form (boxed array.now) (physical_view type_.physical_type) type_ nested.now) }
     ensures stored { is_served (base (type_of (boxed array.now))) (physical_view type_.physical_type) ≡ true → AreStored (leaf_type (type_of (boxed array.now))) (physical_view type_.physical_type) (value_column (boxed array.now) nested.now) (stored_column (boxed array.now) (physical_view type_.physical_type) nested.now) }

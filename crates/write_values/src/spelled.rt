@@ -14,6 +14,7 @@ ghost use Rattle.pq_files.specs.Room.{max_size};
 ghost use Rattle.write_places.specs.Places.{path_places};
 ghost use Rattle.write_values.specs.Deltas.{AppendsSpelled, AreDeltasOf, delta_in, encoding_in};
 ghost use Rattle.write_values.specs.Leaf.{leaf_tree, leaf_physical};
+ghost use Rattle.write_values.specs.Nulls.{TellsNulls};
 ghost use Rattle.write_values.specs.Rows.{AppendsPlain};
 ghost use Rattle.write_values.specs.Served.{is_served};
 ghost use Rattle.write_values.specs.Stored.{stored_at};
@@ -52,6 +53,7 @@ fn push_plain(
     requires well { IsPath (parts_of nested.now) }
     requires leaf { leaf_count_or 0 (parts_of nested.now) ≤ tree_len (leaf_tree leaf) }
     requires served { is_served (base (type_of (leaf_tree leaf))) (leaf_physical leaf) ≡ true }
+    requires nulls { TellsNulls (leaf_tree leaf) (parts_of nested.now) }
     requires small { plain_length (leaf_physical leaf) (map (stored_at (leaf_tree leaf) (leaf_physical leaf)) (path_places (parts_of nested.now))) ≤ max_size }
     ensures ok { IfOk result (λ body. AppendsPlain (leaf_physical leaf.entry) out.items body.items (map (stored_at (leaf_tree leaf.entry) (leaf_physical leaf.entry)) (path_places (parts_of nested.now)))) }
     ensures err { IfErr result (λ e. e ≡ Memory) }
@@ -74,6 +76,7 @@ pub fn push_spelled(
     requires well { IsPath (parts_of nested.now) }
     requires leaf { leaf_count_or 0 (parts_of nested.now) ≤ tree_len (leaf_tree leaf) }
     requires served { is_served (base (type_of (leaf_tree leaf))) (leaf_physical leaf) ≡ true }
+    requires nulls { TellsNulls (leaf_tree leaf) (parts_of nested.now) }
     requires deltas { IfSome deltas (AreDeltasOf (leaf_physical leaf)) }
     requires count { measured.values ≡ length (path_places (parts_of nested.now)) }
     requires size { measured.plain ≤ max_size }

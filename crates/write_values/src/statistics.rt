@@ -15,12 +15,13 @@ ghost use Rattle.pq_files.specs.Statistics.{has_order};
 ghost use Rattle.page_statistics.specs.Stated.{AreStated};
 ghost use Rattle.write_values.specs.Decimals.{HasWide, IsForm, form_physical};
 ghost use Rattle.write_values.specs.Leaf.{leaf_tree, leaf_physical};
+ghost use Rattle.write_values.specs.Nulls.{TellsNulls};
 ghost use Rattle.write_values.specs.Pages.{value_column};
 ghost use Rattle.write_values.specs.Served.{is_served};
 
 use crate::decimals::{DecimalForm, Decimals};
 use crate::fixed::FixedStrings;
-use crate::leaf::{Leaf, leaf_of};
+use crate::leaf::{Leaf, know_order, leaf_of};
 use crate::numbers::Numbers;
 use crate::order::OrderedTruths;
 use crate::strings::{Strings, Texts};
@@ -39,6 +40,7 @@ fn null_statistics(leaf: Leaf<'_>, nested: &[Nested]) -> Statistics
     requires well { IsPath (parts_of nested.now) }
     requires leaf { leaf_count_or 0 (parts_of nested.now) ≤ tree_len (leaf_tree leaf) }
     requires served { is_served (base (type_of (leaf_tree leaf))) (leaf_physical leaf) ≡ true }
+    requires nulls { TellsNulls (leaf_tree leaf) (parts_of nested.now) }
     requires unordered { has_order (leaf_type (base (type_of (leaf_tree leaf)))) ≡ false }
     ensures { AreStated true (leaf_type (base (type_of (leaf_tree leaf.entry)))) (leaf_physical leaf.entry) (value_column (leaf_tree leaf.entry) nested.now) (Some (statistics_view result)) }
 {
@@ -68,10 +70,12 @@ fn all_statistics(alloc: Global, leaf: Leaf<'_>, nested: &[Nested]) -> Result<St
     requires well { IsPath (parts_of nested.now) }
     requires leaf { leaf_count_or 0 (parts_of nested.now) ≤ tree_len (leaf_tree leaf) }
     requires served { is_served (base (type_of (leaf_tree leaf))) (leaf_physical leaf) ≡ true }
+    requires nulls { TellsNulls (leaf_tree leaf) (parts_of nested.now) }
     requires held { ¬ HasWide (leaf_type (base (type_of (leaf_tree leaf)))) (leaf_physical leaf) (value_column (leaf_tree leaf) nested.now) }
     ensures ok { IfOk result (λ s. AreStated true (leaf_type (base (type_of (leaf_tree leaf.entry)))) (leaf_physical leaf.entry) (value_column (leaf_tree leaf.entry) nested.now) (Some (statistics_view s))) }
     ensures err { IfErr result (λ e. e ≡ Memory) }
 {
+    know_order(leaf);
     match leaf {
         Leaf::Boolean(array) => statistics_of(alloc, &OrderedTruths { array }, nested),
         Leaf::Int8(a) => statistics_of(alloc, &Numbers::<i8, i32>::new(a), nested),
@@ -103,6 +107,10 @@ fn all_statistics(alloc: Global, leaf: Leaf<'_>, nested: &[Nested]) -> Result<St
             a.know();
             decimal_statistics(alloc, a, form, nested)
         }
+        Leaf::Null(a) => {
+            a.know();
+            Ok(null_statistics(leaf, nested))
+        }
     }
 }
 
@@ -116,6 +124,7 @@ pub fn leaf_statistics(
     requires well { IsPath (parts_of nested.now) }
     requires leaf { leaf_count_or 0 (parts_of nested.now) ≤ tree_len (leaf_tree leaf) }
     requires served { is_served (base (type_of (leaf_tree leaf))) (leaf_physical leaf) ≡ true }
+    requires nulls { TellsNulls (leaf_tree leaf) (parts_of nested.now) }
     requires held { ¬ HasWide (leaf_type (type_of (leaf_tree leaf))) (leaf_physical leaf) (value_column (leaf_tree leaf) nested.now) }
     ensures ok { IfOk result (λ s. AreStated is_wanted (leaf_type (type_of (leaf_tree leaf.entry))) (leaf_physical leaf.entry) (value_column (leaf_tree leaf.entry) nested.now) (option_map statistics_view s)) }
     ensures err { IfErr result (λ e. e ≡ Memory) }
@@ -129,7 +138,7 @@ pub fn leaf_statistics(
 
 /// The statistics of the column of a path over its leaf array, whose values are written under the physical type, which holds them (`has_wide`):
 /// exactly where they are wanted (Parquet format, parquet.thrift: `Statistics`, `ColumnOrder`). Values beneath nulls do not count. The path is well formed, and its
-/// nulls are those of its masks.
+/// nulls are those of its masks: over an array of nulls alone it reaches no place.
 ///
 /// # Errors
 ///
@@ -143,6 +152,7 @@ pub fn column_statistics(
 ) -> Result<Option<Statistics>>
     requires well { IsPath (parts_of nested.now) }
     requires leaf { tree_len (boxed array.now) ≡ leaf_count_or 0 (parts_of nested.now) }
+    requires nulls { TellsNulls (boxed array.now) (parts_of nested.now) }
     requires served { is_served (base (type_of (boxed array.now))) (physical_view physical_type) ≡ true }
     requires held { ¬ HasWide (leaf_type (type_of (boxed array.now))) (physical_view physical_type) (value_column (boxed array.now) nested.now) }
     ensures ok { IfOk result (λ s. AreStated is_wanted (leaf_type (type_of (boxed array.now))) (physical_view physical_type) (value_column (boxed array.now) nested.now) (option_map statistics_view s)) }

@@ -12,6 +12,7 @@ ghost use Rattle.pq_files.specs.Layout.{plain_length};
 ghost use Rattle.pq_files.specs.Room.{max_size};
 ghost use Rattle.write_places.specs.Places.{path_places};
 ghost use Rattle.write_values.specs.Leaf.{leaf_tree, leaf_physical};
+ghost use Rattle.write_values.specs.Nulls.{TellsNulls};
 ghost use Rattle.write_values.specs.Rows.{AppendsPlain, Measures};
 ghost use Rattle.write_values.specs.Served.{is_served};
 ghost use Rattle.write_values.specs.Stored.{stored_at};
@@ -19,7 +20,7 @@ ghost use Rattle.write_values.specs.Stored.{stored_at};
 use crate::decimals::Decimals;
 use crate::fixed::{FixedStrings, InFixed};
 use crate::intervals::{Days, Months};
-use crate::leaf::{Leaf, leaf_of};
+use crate::leaf::{Leaf, know_order, leaf_of};
 use crate::measure::measure_row;
 use crate::measured::Measured;
 use crate::numbers::Numbers;
@@ -37,8 +38,10 @@ pub fn measure(leaf: Leaf<'_>, nested: &[Nested]) -> Measured
     requires well { IsPath (parts_of nested.now) }
     requires leaf { leaf_count_or 0 (parts_of nested.now) ≤ tree_len (leaf_tree leaf) }
     requires served { is_served (base (type_of (leaf_tree leaf))) (leaf_physical leaf) ≡ true }
+    requires nulls { TellsNulls (leaf_tree leaf) (parts_of nested.now) }
     ensures { Measures (leaf_physical leaf.entry) (tree_len (leaf_tree leaf.entry)) (stored_at (leaf_tree leaf.entry) (leaf_physical leaf.entry)) (path_places (parts_of nested.now)) result }
 {
+    know_order(leaf);
     match leaf {
         Leaf::Boolean(array) => measure_truths(array, nested),
         Leaf::Int8(a) => measure_row(&Numbers::<i8, i32>::new(a), nested),
@@ -64,6 +67,10 @@ pub fn measure(leaf: Leaf<'_>, nested: &[Nested]) -> Measured
             a.know();
             measure_row(&InFixed::new(Decimals::new(a, form)), nested)
         }
+        Leaf::Null(_) => Measured {
+            values: 0,
+            plain: 0,
+        },
     }
 }
 
@@ -77,10 +84,12 @@ pub fn push_values(
     requires well { IsPath (parts_of nested.now) }
     requires leaf { leaf_count_or 0 (parts_of nested.now) ≤ tree_len (leaf_tree leaf) }
     requires served { is_served (base (type_of (leaf_tree leaf))) (leaf_physical leaf) ≡ true }
+    requires nulls { TellsNulls (leaf_tree leaf) (parts_of nested.now) }
     requires small { plain_length (leaf_physical leaf) (map (stored_at (leaf_tree leaf) (leaf_physical leaf)) (path_places (parts_of nested.now))) ≤ max_size }
     ensures ok { IfOk result (λ body. AppendsPlain (leaf_physical leaf.entry) out.items body.items (map (stored_at (leaf_tree leaf.entry) (leaf_physical leaf.entry)) (path_places (parts_of nested.now)))) }
     ensures err { IfErr result (λ e. e ≡ Memory) }
 {
+    know_order(leaf);
     match leaf {
         Leaf::Boolean(array) => push_truths(alloc, array, nested, out),
         Leaf::Int8(a) => push_row(&Numbers::<i8, i32>::new(a), nested, out),
@@ -106,12 +115,13 @@ pub fn push_values(
             a.know();
             push_row(&InFixed::new(Decimals::new(a, form)), nested, out)
         }
+        Leaf::Null(_) => Ok(out),
     }
 }
 
 /// The number of the values that a path reaches in its leaf array and that of the bytes of their plain spelling, each up to the largest
 /// number, and `None` exactly where values of the array's type are not written under the physical type. It takes no memory. The path is well
-/// formed, and its nulls are those of its masks.
+/// formed, and its nulls are those of its masks: over an array of nulls alone it reaches none.
 pub fn measure_values(
     array: &ArrayBox,
     physical_type: PhysicalType,
@@ -119,6 +129,7 @@ pub fn measure_values(
 ) -> Option<Measured>
     requires well { IsPath (parts_of nested.now) }
     requires leaf { tree_len (boxed array.now) ≡ leaf_count_or 0 (parts_of nested.now) }
+    requires nulls { TellsNulls (boxed array.now) (parts_of nested.now) }
     ensures { MatchOption result (is_served (base (type_of (boxed array.now))) (physical_view physical_type) ≡ false) (Measures (physical_view physical_type) (tree_len (boxed array.now)) (stored_at (boxed array.now) (physical_view physical_type)) (path_places (parts_of nested.now))) }
 {
     match leaf_of(array, physical_type) {

@@ -193,6 +193,10 @@ fn leaf_has_wide(leaf: Leaf<'_>, nested: &[Nested]) -> bool
             a.know();
             false
         }
+        Leaf::Null(a) => {
+            a.know();
+            false
+        }
     }
 }
 

@@ -5,8 +5,8 @@ use Rattle.leaf_iters.proofs.nulls.take_values.Goals as goal
 
 pub returns-in-Err-clause-err : goal.returns-in-Err-clause-err
 returns-in-Err-clause-err g c = elim c.in-Err.ensures.1 [
-  | inl memory ↦ inl memory.0
-  | inr f ↦ inr (failed _ _ _ f)
+  | inl memory ↦ inl memory
+  | inr f ↦ (let is = failed _ _ _ f in inr (is.0, is.1, f))
 ]
 
 pub returns-in-None-clause-ok : goal.returns-in-None-clause-ok

@@ -19,8 +19,8 @@ use Rattle.write_pages.proofs.WidePieces.{more_cause, no_cause}
 use Rattle.write_pages.proofs.PageTable.{fits_served}
 use Rattle.write_pages.proofs.page.array_to_page.Goals as goal
 
-pub page_of_rows-requires-clause-served : goal.page_of_rows-requires-clause-served
-page_of_rows-requires-clause-served c =
+pub seen_page-requires-clause-served : goal.seen_page-requires-clause-served
+seen_page-requires-clause-served c =
     fits_served (is_flat_path (parts_of c.args.nested.now)) (base (type_of (boxed c.args.array.now))) (physical_view c.args.type_.physical_type) c.in_ok-check_written.ensures.ok.1 c.requires.fits.physical
 
 pub returns-clause-ok : goal.returns-clause-ok

@@ -32,7 +32,7 @@ returns-in-Some-clause-stored c = λ served.
     let a = boxed c.args.array.now in
     let nested = c.args.nested.now in
     let within : All (λ i. i < tree_len a) (path_places (parts_of nested)) = subst (λ (b : ArrayTree). All (λ i. i < tree_len b) (path_places (parts_of nested))) c.in-Some.ensures.tree c.leaf_page.ensures.places in
-    column_stored a (physical_view c.args.type_.physical_type) nested c.know.ensures served within c.requires.held
+    column_stored a (physical_view c.args.type_.physical_type) nested c.know.ensures served c.requires.nulls within c.requires.held
 
 pub leaf_page-requires-clause-spelling : goal.leaf_page-requires-clause-spelling
 leaf_page-requires-clause-spelling c =

@@ -7,7 +7,7 @@ use Rattle.read_leaf.proofs.truths.TruthDecoderNestedDecoder.push_valid.Goals as
 pub returns-then-not-are_there-clause-err : goal.returns-then-not-are_there-clause-err
 returns-then-not-are_there-clause-err c =
     let s = c.args.state.now in
-    inr (inl (refl, too-few s.values.now s.bit c.args.count c.in-Some.end (omega (arith, c.if-count-eq0.false)) (omega (arith, c.in-Some.ensures)) (λ h. true≢false (sym (c.are_there.ensures.1 h) ∙ c.if-not-are_there.true))))
+    inr (inl (refl, too-few s.values.now s.bit c.args.count (omega (arith, c.if-count-eq0.false)) (λ h. true≢false (sym (c.are_there.ensures.1 h) ∙ c.if-not-are_there.true))))
 
 pub returns-clause-ok : goal.returns-clause-ok
 returns-clause-ok c =

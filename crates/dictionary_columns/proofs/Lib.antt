@@ -1,0 +1,14 @@
+pub mod Triples
+pub mod Looked
+pub mod Pages
+pub mod Zeros
+pub mod Futures
+pub mod Kept
+pub mod Numbers
+pub mod Entered
+pub mod ReadKeys
+pub mod Refusing
+pub mod KeyRows
+pub mod KeyText
+pub mod NextKeys
+pub mod PieceKeys

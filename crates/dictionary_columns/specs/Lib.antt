@@ -1,0 +1,5 @@
+pub mod Keys
+pub mod Sources
+pub mod Lending
+pub mod Columns
+pub mod Laws

@@ -1,0 +1,212 @@
+//! Measures how fast the level pairs of a list of optional numbers are walked: levels are decoded from their sections, and values from theirs. The first word
+//! is the number of pages (one without it), the second the shape (all without it): `nulls`, `ones`, `fours`, `twos` or `random`. A page has about 65,536
+//! pairs, and each has a fresh state.
+//! Counts go to standard output, and times, which differ from run to run, to standard error.
+#![tactic(auto)]
+
+use anyhow::Result;
+use columns_core::{MutableBitmap, Offsets};
+use level_sections::write_rep_and_def;
+use levels::{ListNested, Nested, is_well_formed, num_values};
+use pq_tree::Version;
+use read_leaf::{NumberValues, PlainNumbers, PrimitiveDecoder};
+use read_state::{InitNested, init_nested};
+use read_walk::{NestedPage, extend_levels};
+use std::alloc::Global;
+use std::env;
+use std::time::Instant;
+
+/// What the lists of a page are like.
+#[derive(Clone, Copy, Drop)]
+enum Shape {
+    /// All are null.
+    Nulls,
+    /// Each has one present item.
+    Ones,
+    /// Each has four present items.
+    Fours,
+    /// Each has two items, the second null.
+    Twos,
+    /// Null, empty, or of up to six items, a third of which are null.
+    Random,
+}
+
+/// A page: its level sections, its values and its number of pairs.
+#[derive(Drop)]
+struct Sections {
+    levels: Vec<u8>,
+    repetition: usize,
+    values: Vec<u8>,
+    pairs: usize,
+}
+
+/// Numbers as by chance.
+#[derive(Clone, Copy, Drop)]
+struct Chance {
+    state: u64,
+}
+
+impl Chance {
+    // One of the numbers below 64.
+    fn next(&mut self) -> usize {
+        self.state = self
+            .state
+            .wrapping_mul(6_364_136_223_846_793_005)
+            .wrapping_add(1_442_695_040_888_963_407);
+        (self.state >> 58) as usize
+    }
+}
+
+// Whether the next list is null, and how many items it has.
+fn next_list(shape: Shape, chance: &mut Chance) -> (bool, usize) {
+    match shape {
+        Shape::Nulls => (true, 0),
+        Shape::Ones => (false, 1),
+        Shape::Fours => (false, 4),
+        Shape::Twos => (false, 2),
+        Shape::Random => {
+            let drawn = chance.next();
+            (drawn % 8 == 7, drawn % 8 % 7)
+        }
+    }
+}
+
+// Whether the item at this place of its list is null.
+fn is_null(shape: Shape, place: usize, chance: &mut Chance) -> bool {
+    match shape {
+        Shape::Twos => place == 1,
+        Shape::Random => chance.next() % 3 == 0,
+        _ => false,
+    }
+}
+
+// The path of so many lists of a shape.
+fn path_of(alloc: Global, shape: Shape, lists: usize) -> Result<Vec<Nested>> {
+    let mut chance = Chance { state: 1 };
+    let mut offsets = Offsets::<i32>::with_capacity(alloc, 0)?;
+    let mut valid = MutableBitmap::with_capacity(alloc, 0)?;
+    let mut present = MutableBitmap::with_capacity(alloc, 0)?;
+    for _ in 0..lists {
+        let (is_list_null, items) = next_list(shape, &mut chance);
+        valid.push(!is_list_null)?;
+        offsets.try_push_usize(items)?;
+        for place in 0..items {
+            present.push(!is_null(shape, place, &mut chance))?;
+        }
+    }
+    let list = ListNested::new(offsets.into_buffer()?, Some(valid.into_bitmap()?), true);
+    let present = present.into_bitmap()?;
+    let count = present.len();
+    let mut path = Vec::new(alloc);
+    path.push(Nested::List(list))?;
+    path.push(Nested::Primitive(Some(present), true, count))?;
+    Ok(path)
+}
+
+// The page of a path, unless it is none that has levels.
+fn page_of(alloc: Global, path: &[Nested]) -> Result<Option<Sections>> {
+    if !is_well_formed(path) || path.len() > 128 {
+        return Ok(None);
+    }
+    let pairs = num_values(path);
+    let mut levels = Vec::new(alloc);
+    let (repetition, _) = write_rep_and_def(Version::V2, path, &mut levels)?;
+    let mut values = Vec::new(alloc);
+    for _ in 0..pairs {
+        values.extend_from_slice(&[1, 2, 3, 4])?;
+    }
+    Ok(Some(Sections {
+        levels,
+        repetition,
+        values,
+        pairs,
+    }))
+}
+
+// How many slots the leaf gains by all pairs of the page, into a fresh state.
+fn walk(alloc: Global, page: &Sections) -> Result<usize> {
+    let parts = [InitNested::List(true), InitNested::Primitive(true)];
+    let mut nested = init_nested(alloc, &parts, 0)?;
+    let mut decoded = NumberValues::<i32>::new(alloc);
+    let (reps, defs) = page.levels.split_at(page.repetition.min(page.levels.len()));
+    let mut pairs = NestedPage::try_new(reps, 1, defs, 3, page.pairs)?;
+    let mut values = PlainNumbers {
+        values: &page.values,
+    };
+    let decoder = PrimitiveDecoder::<i32, i32>::new();
+    extend_levels(
+        &mut pairs,
+        &mut values,
+        &mut nested,
+        &mut decoded,
+        &decoder,
+        usize::MAX,
+    )?;
+    Ok(decoded.len())
+}
+
+// Walks so many pages of the shape.
+fn measure(rt: &HostRuntime, shape: Shape, pages: usize) -> Result<()> {
+    let (name, lists) = match shape {
+        Shape::Nulls => ("null lists", 65_536),
+        Shape::Ones => ("lists of one item", 65_536),
+        Shape::Fours => ("lists of four items", 16_384),
+        Shape::Twos => ("lists of two items, the second null", 32_768),
+        Shape::Random => ("random", 21_845),
+    };
+    let path = path_of(rt.alloc(), shape, lists)?;
+    let Some(page) = page_of(rt.alloc(), &path)? else {
+        return Ok(());
+    };
+    let start = Instant::now(rt)?;
+    let mut slots: usize = 0;
+    for _ in 0..pages {
+        slots = slots.wrapping_add(walk(rt.alloc(), &page)?);
+    }
+    let time = start.elapsed(rt)?.as_nanos();
+    let pairs = (page.pairs as u128).saturating_mul(pages as u128).max(1);
+    println!(rt; "{name}: {} pairs a page, {slots} slots", page.pairs)?;
+    eprintln!(rt;
+        "{name}: {} hundredths of a nanosecond a pair",
+        time.saturating_mul(100) / pairs
+    )?;
+    Ok(())
+}
+
+// The shape that a word names.
+fn shape_of(word: &str) -> Option<Shape> {
+    match word {
+        "nulls" => Some(Shape::Nulls),
+        "ones" => Some(Shape::Ones),
+        "fours" => Some(Shape::Fours),
+        "twos" => Some(Shape::Twos),
+        "random" => Some(Shape::Random),
+        _ => None,
+    }
+}
+
+fn main(rt: HostRuntime) -> Result<()> {
+    let mut args = env::args(&rt)?;
+    args.next();
+    let pages = match args.next() {
+        Some(word) => word.as_str().parse::<usize>()?,
+        None => 1,
+    };
+    let asked = args.next();
+    if let Some(word) = asked {
+        if let Some(shape) = shape_of(word.as_str()) {
+            measure(&rt, shape, pages)?;
+        }
+        return Ok(());
+    }
+    for shape in [
+        Shape::Nulls,
+        Shape::Ones,
+        Shape::Fours,
+        Shape::Twos,
+        Shape::Random,
+    ] {
+        measure(&rt, shape, pages)?;
+    }
+    Ok(())
+}
