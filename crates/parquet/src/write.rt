@@ -3,6 +3,10 @@
 pub use footer_write::{
     ThriftColumnChunk, ThriftColumnMetaData, ThriftFileMetaData, ThriftRowGroup, write_metadata,
 };
+pub use leaf_pages::{
+    array_to_page_simple, binary, boolean, check_along, check_flat, fixed_len_bytes, primitive,
+    utf8,
+};
 pub use level_sections::{write_def_levels, write_rep_and_def};
 pub use levels::{
     DefLevelsIter, ListNested, Nested, RepLevelsIter, get_max_length, is_in_bounds, is_well_formed,

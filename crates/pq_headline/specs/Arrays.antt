@@ -1,8 +1,9 @@
 -- Arrays of several fields side by side, and what is seen of them (Arrow columnar format, "Physical Memory Layout"; Arrow IPC format, "RecordBatch message").
 use Rattle.std.specs.Prelude.{ℕ, zero, suc, ◌+◌, List, [], ◌∷◌, ◌++◌, map, Option, Some, None}
-use Rattle.shredding.specs.Slot.{Slot, value, Slots, Value}
+use Rattle.shredding.specs.Slot.{Slots, Value}
 use Rattle.columns_core.specs.Tree.{TypeTree, t_null, FieldTree, field}
 use Rattle.columns_slots.specs.Slots.{slots, slots_at, type_of, first_len}
+pub use Rattle.columns_entries.specs.Entries.{entry_value}
 use Rattle.columns_slots.specs.Tree.{ArrayTree, null_array, leaf_array, list_array, fixed_list_array, struct_array, dictionary_array, ArrayTrees, no_arrays, more_arrays}
 use Rattle.pq_headline.specs.Rows.{Seen}
 
@@ -10,10 +11,6 @@ use Rattle.pq_headline.specs.Rows.{Seen}
 
 abbrev pub type_in : FieldTree → TypeTree
 type_in (field name t is_nullable metadata) = t
-
-abbrev pub entry_value : Slot → Option Value
-entry_value (value v) = Some v
-entry_value _ = None
 
 -- for each leaf in order the entries, where it has a dictionary: each with a value or null
 abbrev mutual

@@ -1,5 +1,6 @@
 pub mod NumberSlots
 pub mod Pieces
+pub mod CutStrings
 pub mod Reading
 pub mod Standing
 pub mod PlainRead

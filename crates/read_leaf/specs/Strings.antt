@@ -46,6 +46,11 @@ abbrev pub total_bytes : List (List ℕ) → ℕ
 total_bytes [] = 0
 total_bytes (s ∷ ss) = length s + total_bytes ss
 
+-- strings of these lengths, one after another, off the front of the bytes
+abbrev pub cut_off : List ℕ → List ℕ → List (List ℕ)
+cut_off [] text = []
+cut_off (n ∷ ns) text = take n text ∷ cut_off ns (drop n text)
+
 -- Offsets and bytes of strings: the offsets end at the end of the bytes, and the strings between them have all the bytes.
 pub record IsLaid (offsets content : List ℕ) : Type 0 where
   pub some : 0 < length offsets

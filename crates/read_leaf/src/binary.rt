@@ -1,11 +1,14 @@
 //! Byte strings that grow.
-ghost use Rattle.std.specs.Prelude.{◌≡◌, ◌⊎◌, ◌+◌, ◌<◌, ◌≤◌, ◌++◌, ◌∷◌, [], List, ℕ, IfOk, OnOk, IfErr, replicate, length as list_length};
+ghost use Rattle.std.specs.Prelude.{◌≡◌, ◌⊎◌, ◌+◌, ◌<◌, ◌≤◌, ◌++◌, ◌∷◌, [], List, ℕ, IfOk, OnOk, IfErr, OnErr, drop, replicate, sum, length as list_length};
 ghost use Rattle.columns_base.specs.declared.error.Error.{Error};
+ghost use Rattle.columns_base.specs.declared.error.S.{S};
 ghost use Rattle.columns_base.specs.declared.error.V.{V};
 ghost use Rattle.columns_slots.specs.Bytes.{pieces};
-ghost use Rattle.read_leaf.specs.Strings.{IsLaid, total_bytes};
+ghost use Rattle.std.specs.Iterator.{IsFinite, Drains};
+ghost use Rattle.read_leaf.specs.Strings.{IsLaid, cut_off, total_bytes};
 
-use columns_base::{Error, Result, V};
+use crate::lengths::{collect_lengths, push_lengths, sum_within};
+use columns_base::{Error, Result, S, V};
 use columns_core::{Offset, Offsets, OffsetsBuffer};
 use std::alloc::Global;
 use std::marker::Model;
@@ -72,6 +75,39 @@ impl<O: Offset> Binary<O> {
         ensures err { IfErr result (λ e. (e ≡ Error.Memory) × (self.new ≡ self.old)) }
     {
         self.offsets.extend_constant(additional)?;
+        Ok(())
+    }
+
+    /// Strings of these lengths more, cut one after another off the front of the bytes.
+    ///
+    /// # Errors
+    ///
+    /// S6 where fewer bytes stand there; V1 where the bytes of all strings are more than the offset type counts; `Memory`. The strings and the
+    /// bytes are then as before.
+    pub fn extend_lengths<I: Iterator<Item = usize> + Drop>(
+        &mut self,
+        lengths: I,
+        values: &mut &[u8],
+    ) -> Result<()>
+        requires can { I.can_next lengths }
+        requires ends { IsFinite (I.remaining lengths) }
+        ensures ok { OnOk result ((ns : List ℕ) × Drains I.next_gives lengths ns × (sum ns ≤ list_length values.old.now) × (self.new ≡ self.old ++ cut_off ns values.old.now) × (values.new.now ≡ drop (sum ns) values.old.now)) }
+        ensures kept { OnErr result ((self.new ≡ self.old) × (values.new.now ≡ values.old.now)) }
+        ensures err { IfErr result (λ e. (e ≡ Error.Memory) ⊎ ((e ≡ Error.OutOfSpec S.S6) × (ns : List ℕ) × Drains I.next_gives lengths ns × (list_length values.old.now < sum ns)) ⊎ ((e ≡ Error.Overflow V.V1) × (ns : List ℕ) × Drains I.next_gives lengths ns × (O.limit ≤ total_bytes self.old + sum ns))) }
+    {
+        let lengths = collect_lengths(*self.values.allocator(), lengths)?;
+        let Some(total) = sum_within(&lengths, values.len()) else {
+            return Err(Error::OutOfSpec(S::S6));
+        };
+        if O::from_usize(self.offsets.last().to_usize() + total).is_none() {
+            return Err(Error::Overflow(V::V1));
+        }
+        self.offsets.reserve(lengths.len())?;
+        self.values.reserve(total)?;
+        push_lengths(&mut self.offsets, &lengths);
+        let (strings, rest) = values.split_at(total);
+        self.values.extend_from_slice(strings).unwrap();
+        *values = rest;
         Ok(())
     }
 

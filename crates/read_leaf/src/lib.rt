@@ -9,6 +9,7 @@ mod fixed;
 mod fixed_bytes;
 mod fixed_values;
 mod laws;
+mod lengths;
 mod loaded;
 mod nulls;
 mod primitive;

@@ -7,7 +7,7 @@ use Rattle.std.proofs.lemmas.List.Sums.{sum_by-append, sum_by-cons}
 use Rattle.shredding.specs.Slot.{Slot, Slots, fields}
 use Rattle.pq_files.specs.FooterRecord.{ColumnChunk}
 use Rattle.pq_files.specs.Layout.{OutChunk, OutGroup}
-use Rattle.pq_files.specs.Packed.{AreChunks}
+use Rattle.pq_files.specs.Packed.{AreChunks, HasDictionary}
 use Rattle.pq_headline.specs.Columns.{ArrowColumn, schema_columns}
 use Rattle.pq_headline.specs.Output.{Style}
 use Rattle.pq_tree.specs.Tree.{Leaf, columns_of}
@@ -47,8 +47,9 @@ column_behind version ss (c ∷ cs) (k ∷ ks) l other_leaves (o ∷ os) out oth
 column_holds : (version : Version) (ss : List Slot) (c : ArrowColumn) (l : Leaf) (out : OutChunk) (start : ℕ) → AllByRecursion IsSlot ss → length ss ≤ 1000000 → IsFine c l → IsNeat c l ss out → start ≤ 20000000000 → ColumnPasses version l out start → ⊥
 column_holds version ss c l out start a few f n s (inl h) = absurd (omega (arith, h, few_pairs c l ss out f a n, few))
 column_holds version ss c l out start a few f n s (inr h) =
+    let none : h.dictionary ≡ [] = subst (λ o. HasDictionary l o h.dictionary) n.entries h.has_dictionary in
     let k = pages_text version c l ss out h.first h.rest h.text f a n h.parts h.are in
-    absurd (omega (arith, h.passes, k.by_pages, k.few, few, s))
+    absurd (omega (arith, h.passes, ap length none, k.by_pages, k.few, few, s))
 
 columns_hold : (version : Version) (s : Style) (rows : List Slots) (out : OutGroup) (start : ℕ) → All IsRow rows → length rows ≤ 1000000 → IsLaidOut s rows out → start ≤ 10000000000 → SomeColumnPasses version (columns_of (schema_of sample_fields)) out.chunks start → ⊥
 columns_hold version s rows out start a few h l p =

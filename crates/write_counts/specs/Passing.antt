@@ -4,18 +4,20 @@ use Rattle.pq_tree.specs.declared.version.Version.{Version}
 use Rattle.pq_tree.specs.Tree.{Leaf}
 use Rattle.pq_files.specs.FooterRecord.{ColumnChunk, RowGroup}
 use Rattle.pq_files.specs.Layout.{OutPage, OutChunk, OutGroup}
-use Rattle.pq_files.specs.Packed.{ArePages, AreChunks, AreGroups}
+use Rattle.pq_files.specs.Packed.{HasDictionary, ArePages, AreChunks, AreGroups}
 use Rattle.pq_files.specs.Room.{max_count}
 use Rattle.pq_files.specs.Written.{pairs_in}
 
--- The bytes of the first pages of a column that begins at a place do.
+-- The bytes of the dictionary page, where there is one, and of the first data pages of a column that begins at a place do.
 pub record PagesPass (version : Version) (l : Leaf) (c : OutChunk) (start : ℕ) : Type 0 where
+  pub dictionary : List ℕ
+  pub has_dictionary : HasDictionary l c.entries dictionary
   pub first : List OutPage
   pub rest : List OutPage
   pub parts : c.pages ≡ first ++ rest
   pub text : List ℕ
   pub are : ArePages version l c.entries first text
-  pub passes : max_count < start + length text
+  pub passes : max_count < start + length dictionary + length text
 
 -- the pairs of a column, or the bytes of its pages
 abbrev pub ColumnPasses : Version → Leaf → OutChunk → ℕ → Type 0

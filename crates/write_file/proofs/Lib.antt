@@ -8,3 +8,4 @@ mod Whole
 mod Footed
 mod Passed
 mod Reasons
+mod Dictionaries

@@ -1,5 +1,5 @@
 -- What passes a footer's numbers, as the loops find it.
-use Rattle.std.proofs.Common.{◌≡◌, ◌⊎◌, inl, inr, ℕ, suc, ◌+◌, ◌<◌, List, [], ◌∷◌, ◌++◌, length, take, drop, sym, ap, subst, ◌∙◌, append_assoc, append-nil, arith, Option, None}
+use Rattle.std.proofs.Common.{◌≡◌, ◌⊎◌, inl, inr, ℕ, suc, ◌+◌, ◌<◌, List, [], ◌∷◌, ◌++◌, length, take, drop, refl, sym, ap, subst, ◌∙◌, append_assoc, append-nil, arith, Option}
 use Rattle.std.specs.Prelude.{sum_by}
 use Rattle.std.proofs.lemmas.List.{length-append, take-append-drop}
 use Rattle.std.proofs.lemmas.List.Sums.{sum_by-append, sum_by-cons}
@@ -8,12 +8,9 @@ use Rattle.pq_tree.specs.declared.version.Version.{Version}
 use Rattle.pq_tree.specs.Tree.{Leaf}
 use Rattle.pq_files.specs.FooterRecord.{ColumnChunk}
 use Rattle.pq_files.specs.Layout.{OutPage, OutChunk}
-use Rattle.pq_files.specs.Packed.{ArePages, IsWrittenPage}
+use Rattle.pq_files.specs.Packed.{HasDictionary, ArePages, IsWrittenPage}
 use Rattle.pq_files.specs.Room.{max_count}
 use Rattle.pq_files.specs.Written.{pairs_in}
-use Rattle.pq_thrift.specs.Spelling.{spell, spell_fields, field_head, behind_head, number_of, kind_in_field}
-use Rattle.std.specs.Prelude.{ℤ}
-use Rattle.pq_thrift.specs.Value.{Fields, no_fields, field, struct}
 use Rattle.write_file.proofs.Columns.{Pushed}
 use Rattle.write_file.proofs.Going.{Going, pairs_of}
 use Rattle.write_file.proofs.Grown.{pages_more}
@@ -29,14 +26,16 @@ pairs_pass gives version l c old before after bytes pairs pages o rest h e p =
     inl (omega (arith, p, all, h.pairs_are))
 
 -- with the next page the bytes pass
-pub bytes_pass : {S : Type 0} (gives : S → Version → Leaf → OutChunk → Type 0) (version : Version) (l : Leaf) (c : OutChunk) (old : S) (before after : Option (List ℕ)) (bytes pairs pages : ℕ) (o : OutPage) (rest : OutChunk) (t : List ℕ) (h : Going gives version l c old before after bytes pairs pages) → h.rest ≡ with_page o rest → c.entries ≡ None → IsWrittenPage version l None o t → max_count < bytes + length t → ColumnPasses version l c 0
-bytes_pass gives version l c old before after bytes pairs pages o rest t h e none w p =
+pub bytes_pass : {S : Type 0} (gives : S → Version → Leaf → OutChunk → Type 0) (version : Version) (l : Leaf) (c : OutChunk) (old : S) (before after : Option (List ℕ)) (bytes pairs pages : ℕ) (o : OutPage) (rest : OutChunk) (t : List ℕ) (h : Going gives version l c old before after bytes pairs pages) → h.rest ≡ with_page o rest → (dictionary : List ℕ) → HasDictionary l c.entries dictionary → IsWrittenPage version l h.rest.entries o t → max_count < bytes + length t → ColumnPasses version l c 0
+bytes_pass gives version l c old before after bytes pairs pages o rest t h e dictionary has w p =
     inr (record {
+      dictionary = dictionary;
+      has_dictionary = has;
       first = h.done ++ (o ∷ []);
       rest = rest.pages;
       parts = h.whole ∙ (ap (λ (r : OutChunk). h.done ++ r.pages) e ∙ sym (append_assoc h.done (o ∷ []) rest.pages));
       text = h.text ++ t;
-      are = subst (λ (es : Option (List Value)). ArePages version l es (h.done ++ (o ∷ [])) (h.text ++ t)) (sym none) (pages_more version l None h.done o h.text t h.are w);
+      are = pages_more version l c.entries h.done o h.text t h.are (subst (λ (es : Option (List Value)). IsWrittenPage version l es o t) h.entries w);
       passes = omega (arith, p, h.bytes_are, length-append h.text t);
     })
 
@@ -44,6 +43,8 @@ bytes_pass gives version l c old before after bytes pairs pages o rest t h e non
 pub from_place : (version : Version) (l : Leaf) (c : OutChunk) (start : ℕ) → ColumnPasses version l c 0 → ColumnPasses version l c start
 from_place version l c start (inl p) = inl p
 from_place version l c start (inr h) = inr (record {
+  dictionary = h.dictionary;
+  has_dictionary = h.has_dictionary;
   first = h.first;
   rest = h.rest;
   parts = h.parts;
@@ -52,38 +53,41 @@ from_place version l c start (inr h) = inr (record {
   passes = omega (arith, h.passes);
 })
 
--- ---- a header has a byte at least
-
-fields_some : (fs : Fields) (last : ℤ) → 0 < length (spell_fields fs last)
-fields_some no_fields last = omega arith
-fields_some (field id v fs) last =
-    let head = field_head last id (number_of (kind_in_field v)) in
-    let body = behind_head v (spell v) in
-    omega (arith, length-append head (body ++ spell_fields fs id), length-append body (spell_fields fs id), fields_some fs id)
-
-pub struct_some : (fs : Fields) → 0 < length (spell (struct fs))
-struct_some fs = fields_some fs _
-
 -- ---- the next page of a column
 
-pub page_passes : {S : Type 0} (gives : S → Version → Leaf → OutChunk → Type 0) (version : Version) (l : Leaf) (c : OutChunk) (old : S) (before after : Option (List ℕ)) (bytes pairs pages : ℕ) (o : OutPage) (rest : OutChunk) (h : Going gives version l c old before after bytes pairs pages) → h.rest ≡ with_page o rest → c.entries ≡ None → (max_count < length o.triples) ⊎ ((t : List ℕ) × IsWrittenPage version l None o t × (max_count < length t)) → ColumnPasses version l c 0
-page_passes gives version l c old before after bytes pairs pages o rest h e none (inl p) = pairs_pass gives version l c old before after bytes pairs pages o rest h e (omega (arith, p))
-page_passes gives version l c old before after bytes pairs pages o rest h e none (inr (t, w, p)) = bytes_pass gives version l c old before after bytes pairs pages o rest t h e none w (omega (arith, p))
+pub page_passes : {S : Type 0} (gives : S → Version → Leaf → OutChunk → Type 0) (version : Version) (l : Leaf) (c : OutChunk) (old : S) (before after : Option (List ℕ)) (bytes pairs pages : ℕ) (o : OutPage) (rest : OutChunk) (h : Going gives version l c old before after bytes pairs pages) → h.rest ≡ with_page o rest → (dictionary : List ℕ) → HasDictionary l c.entries dictionary → (max_count < length o.triples) ⊎ ((t : List ℕ) × IsWrittenPage version l h.rest.entries o t × (max_count < length t)) → ColumnPasses version l c 0
+page_passes gives version l c old before after bytes pairs pages o rest h e dictionary has (inl p) = pairs_pass gives version l c old before after bytes pairs pages o rest h e (omega (arith, p))
+page_passes gives version l c old before after bytes pairs pages o rest h e dictionary has (inr (t, w, p)) = bytes_pass gives version l c old before after bytes pairs pages o rest t h e dictionary has w (omega (arith, p))
 
 -- with this page the numbers pass
-pub sums_pass : {S : Type 0} (gives : S → Version → Leaf → OutChunk → Type 0) (version : Version) (l : Leaf) (c : OutChunk) (old : S) (before after : Option (List ℕ)) (bytes pairs pages more count : ℕ) (o : OutPage) (rest : OutChunk) (t : List ℕ) (h : Going gives version l c old before after bytes pairs pages) → h.rest ≡ with_page o rest → c.entries ≡ None → more ≡ length t → count ≡ length o.triples → IsWrittenPage version l None o t → (max_count < bytes + more) ⊎ (max_count < pairs + count) → ColumnPasses version l c 0
-sums_pass gives version l c old before after bytes pairs pages more count o rest t h e none n k w (inl p) = bytes_pass gives version l c old before after bytes pairs pages o rest t h e none w (omega (arith, p, n))
-sums_pass gives version l c old before after bytes pairs pages more count o rest t h e none n k w (inr p) = pairs_pass gives version l c old before after bytes pairs pages o rest h e (omega (arith, p, k))
+pub sums_pass : {S : Type 0} (gives : S → Version → Leaf → OutChunk → Type 0) (version : Version) (l : Leaf) (c : OutChunk) (old : S) (before after : Option (List ℕ)) (bytes pairs pages more count : ℕ) (o : OutPage) (rest : OutChunk) (t : List ℕ) (h : Going gives version l c old before after bytes pairs pages) → h.rest ≡ with_page o rest → (dictionary : List ℕ) → HasDictionary l c.entries dictionary → more ≡ length t → count ≡ length o.triples → IsWrittenPage version l h.rest.entries o t → (max_count < bytes + more) ⊎ (max_count < pairs + count) → ColumnPasses version l c 0
+sums_pass gives version l c old before after bytes pairs pages more count o rest t h e dictionary has n k w (inl p) = bytes_pass gives version l c old before after bytes pairs pages o rest t h e dictionary has w (omega (arith, p, n))
+sums_pass gives version l c old before after bytes pairs pages more count o rest t h e dictionary has n k w (inr p) = pairs_pass gives version l c old before after bytes pairs pages o rest h e (omega (arith, p, k))
 
 -- the whole column is in the sink, and its bytes pass
-pub whole_passes : (version : Version) (l : Leaf) (c : OutChunk) (start : ℕ) (text : List ℕ) → c.entries ≡ None → ArePages version l None c.pages text → max_count < start + length text → ColumnPasses version l c start
-whole_passes version l c start text none are p = inr (record {
+pub whole_passes : (version : Version) (l : Leaf) (c : OutChunk) (start : ℕ) (dictionary text : List ℕ) → HasDictionary l c.entries dictionary → ArePages version l c.entries c.pages text → max_count < start + length dictionary + length text → ColumnPasses version l c start
+whole_passes version l c start dictionary text has are p = inr (record {
+  dictionary = dictionary;
+  has_dictionary = has;
   first = c.pages;
   rest = [];
   parts = sym (append-nil c.pages);
   text = text;
-  are = subst (λ (es : Option (List Value)). ArePages version l es c.pages text) (sym none) are;
+  are = are;
   passes = p;
+})
+
+-- the bytes of the dictionary page pass
+pub dictionary_passes : (version : Version) (l : Leaf) (c : OutChunk) (start : ℕ) (dictionary : List ℕ) → HasDictionary l c.entries dictionary → max_count < start + length dictionary → ColumnPasses version l c start
+dictionary_passes version l c start dictionary has p = inr (record {
+  dictionary = dictionary;
+  has_dictionary = has;
+  first = [];
+  rest = c.pages;
+  parts = refl;
+  text = [];
+  are = refl;
+  passes = omega (arith, p);
 })
 
 -- ---- a column behind others

@@ -1,5 +1,5 @@
 //! One column of a group.
-ghost use Rattle.std.specs.Prelude.{◌≡◌, ◌⊎◌, ℕ, ◌+◌, ◌<◌, ◌≤◌, List, Some, length, map, option_map, pos, string_bytes, false, IfOk, IfErr, IsErrOf};
+ghost use Rattle.std.specs.Prelude.{◌≡◌, ◌⊎◌, ℕ, ◌+◌, ◌<◌, ◌≤◌, List, [], ◌∷◌, Some, None, length, map, option_map, pos, string_bytes, cond, IfOk, IfErr, IsErrOf};
 ghost use Rattle.std.specs.Io.KnownBytes.{Appends};
 ghost use Rattle.columns_base.specs.declared.error.Error.TheVariants.{Memory, Overflow, WriteFault};
 ghost use Rattle.columns_base.specs.declared.error.V.TheVariants.{V3};
@@ -18,7 +18,7 @@ ghost use Rattle.pq_io.specs.Causes.{Rose};
 ghost use Rattle.write_file.specs.Pages.{encoding_view};
 ghost use Rattle.write_counts.specs.Passing.{ColumnPasses};
 
-use crate::push::push_pages;
+use crate::column::push_column;
 use crate::{ChunkPages, Count};
 use columns_base::Result;
 use footer_write::{ThriftColumnChunk, ThriftColumnMetaData};
@@ -26,19 +26,41 @@ use pq_io::Sink;
 use pq_tree::{Encoding, PhysicalType, Statistics};
 use std::alloc::Global;
 
-// The encodings of levels and of data, ascending (Parquet format, `ColumnMetaData.encodings`), of a chunk without a dictionary.
-fn encodings_from(alloc: Global, encoding: Encoding) -> Result<Vec<i32>>
-    ensures ok { IfOk result (λ v. (e : PageEncoding) → encoding_view encoding ≡ Some e → v.items ≡ map (λ n. pos n) (encodings_of e false)) }
+// The encodings of levels and of data that is not plain, ascending, behind that of the dictionary page, where there is one.
+fn encodings_with(alloc: Global, encoding: i32, has_dictionary: bool) -> Result<Vec<i32>>
+    ensures ok { IfOk result (λ v. v.items ≡ cond has_dictionary (pos 0 ∷ pos 3 ∷ encoding ∷ []) (pos 3 ∷ encoding ∷ [])) }
     ensures err { IfErr result (λ e. e ≡ Memory) }
 {
-    let numbers = match encoding {
-        Encoding::Plain => [0, 3],
-        Encoding::DeltaBinaryPacked => [3, 5],
-        Encoding::DeltaLengthByteArray => [3, 6],
-        _ => [3, 8],
+    let encodings = if has_dictionary {
+        Vec::from_slice(alloc, &[0, 3, encoding])?
+    } else {
+        Vec::from_slice(alloc, &[3, encoding])?
     };
-    let encodings = Vec::from_slice(alloc, &numbers)?;
     Ok(encodings)
+}
+
+// The encodings of the pages of a chunk, ascending and each once (Parquet format, `ColumnMetaData.encodings`).
+fn encodings_from(alloc: Global, encoding: Encoding, has_dictionary: bool) -> Result<Vec<i32>>
+    ensures ok { IfOk result (λ v. (e : PageEncoding) → encoding_view encoding ≡ Some e → v.items ≡ map (λ n. pos n) (encodings_of e has_dictionary)) }
+    ensures err { IfErr result (λ e. e ≡ Memory) }
+{
+    match encoding {
+        Encoding::Plain => Ok(Vec::from_slice(alloc, &[0, 3])?),
+        Encoding::DeltaBinaryPacked => encodings_with(alloc, 5, has_dictionary),
+        Encoding::DeltaLengthByteArray => encodings_with(alloc, 6, has_dictionary),
+        _ => encodings_with(alloc, 8, has_dictionary),
+    }
+}
+
+// Where the dictionary page stands, where there is one.
+fn dictionary_offset(has_dictionary: bool, start: Count) -> Option<i64>
+    ensures { result ≡ cond has_dictionary (Some (pos start)) None }
+{
+    if has_dictionary {
+        Some(start.stated())
+    } else {
+        None
+    }
 }
 
 fn number_from(physical: PhysicalType) -> i32
@@ -91,7 +113,7 @@ fn copy_path(alloc: Global, path: &[String]) -> Result<Vec<String>>
     Ok(names)
 }
 
-/// A chunk that has gone to the sink: what the footer states of it, the place after it, and its number of pages.
+/// A chunk that has gone to the sink: what the footer states of it, the place after it, and its number of data pages.
 #[derive(Drop)]
 pub(crate) struct Chunk {
     pub meta: ThriftColumnChunk,
@@ -99,11 +121,11 @@ pub(crate) struct Chunk {
     pub pages: Count,
 }
 
-/// Pushes the pages of a column that starts at a place (Parquet format, "Column chunks").
+/// Pushes the pages of a column that starts at a place, the dictionary page first (Parquet format, "Column chunks").
 ///
 /// # Errors
 ///
-/// Those of `push_pages`; `Overflow(V3)` also where the place after it passes 2^63 - 1.
+/// Those of `push_column` and of the dictionary page.
 pub(crate) fn push_chunk<W: Sink, P: ChunkPages>(
     alloc: Global,
     sink: &mut W,
@@ -121,15 +143,17 @@ pub(crate) fn push_chunk<W: Sink, P: ChunkPages>(
 {
     let path_in_schema = copy_path(alloc, path)?;
     let statistics = copy_statistics(alloc, pages.statistics())?;
-    let encodings = encodings_from(alloc, pages.encoding())?;
-    let pushed = match push_pages(alloc, sink, pages) {
-        Ok(pushed) => pushed,
+    let dictionary = match pages.dictionary_page() {
+        Ok(dictionary) => dictionary,
         Err(error) => return Err(error),
     };
-    let end = match start.plus(pushed.bytes.get()) {
-        Ok(end) => end,
+    let has_dictionary = dictionary.is_some();
+    let encodings = encodings_from(alloc, pages.encoding(), has_dictionary)?;
+    let placed = match push_column(alloc, sink, dictionary, pages, start) {
+        Ok(placed) => placed,
         Err(error) => return Err(error),
     };
+    let size = placed.end.minus(start).stated();
     Ok(Chunk {
         meta: ThriftColumnChunk {
             file_offset: start.stated(),
@@ -138,15 +162,15 @@ pub(crate) fn push_chunk<W: Sink, P: ChunkPages>(
                 encodings,
                 path_in_schema,
                 codec: 0,
-                num_values: pushed.pairs.stated(),
-                total_uncompressed_size: pushed.bytes.stated(),
-                total_compressed_size: pushed.bytes.stated(),
-                data_page_offset: start.stated(),
-                dictionary_page_offset: None,
+                num_values: placed.pairs.stated(),
+                total_uncompressed_size: size,
+                total_compressed_size: size,
+                data_page_offset: placed.behind.stated(),
+                dictionary_page_offset: dictionary_offset(has_dictionary, start),
                 statistics,
             },
         },
-        end,
-        pages: pushed.pages,
+        end: placed.end,
+        pages: placed.pages,
     })
 }

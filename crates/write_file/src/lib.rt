@@ -3,6 +3,7 @@
 
 mod body;
 mod chunk;
+mod column;
 mod count;
 mod foot;
 mod group;

@@ -1,26 +1,27 @@
-//! The pages of one column as they go to a sink, one at a time.
-ghost use Rattle.std.specs.Prelude.{◌≡◌, ◌⊎◌, ℕ, ◌+◌, ◌<◌, ◌≤◌, List, None, length, IfOk, IfErr, IsErrOf};
+//! The pages of one column as they go to a sink, one at a time: the dictionary page, where there is one, and the data pages.
+ghost use Rattle.std.specs.Prelude.{◌≡◌, ◌⊎◌, ℕ, ◌+◌, ◌<◌, ◌≤◌, List, Option, length, IfOk, IfErr, IsErrOf};
 ghost use Rattle.std.specs.Io.KnownBytes.{Appends};
+ghost use Rattle.shredding.specs.Slot.{Value};
 ghost use Rattle.columns_base.specs.declared.error.Error.TheVariants.{Memory, Overflow, WriteFault};
 ghost use Rattle.columns_base.specs.declared.error.V.TheVariants.{V3};
 ghost use Rattle.pq_tree.specs.Tree.{Leaf};
 ghost use Rattle.pq_tree.specs.declared.version.Version.{Version};
 ghost use Rattle.pq_files.specs.Layout.{OutPage, OutChunk};
-ghost use Rattle.pq_files.specs.Packed.{IsWrittenPage, ArePages};
+ghost use Rattle.pq_files.specs.Packed.{HasDictionary, IsWrittenPage, ArePages};
 ghost use Rattle.pq_files.specs.Room.{max_count};
 ghost use Rattle.pq_files.specs.Written.{pairs_in};
 ghost use Rattle.pq_io.specs.Causes.{Rose};
-ghost use Rattle.pq_pages.specs.HeaderValue.{body_of as body_bytes};
-ghost use Rattle.write_file.specs.Pages.{IsGiven};
+ghost use Rattle.pq_pages.specs.HeaderValue.{body_of as body_bytes, IsTooLong};
+ghost use Rattle.write_file.specs.Pages.{IsDictionaryOf, IsGiven, IsHeaded};
 ghost use Rattle.write_counts.specs.Passing.{ColumnPasses};
 
 use crate::{ChunkPages, Count};
 use columns_base::Result;
 use pq_io::{Sink, push_all};
-use pq_pages::{DataPage, Page, pages_are_written, write_page_header};
+use pq_pages::{DataPage, DictPage, Page, pages_are_written, write_page_header};
 use std::alloc::Global;
 
-/// What went to the sink: its bytes, its level pairs and its pages.
+/// The data pages that went to the sink: their bytes, their level pairs and their number.
 #[derive(Clone, Copy, Drop)]
 pub(crate) struct Pushed {
     pub bytes: Count,
@@ -47,33 +48,72 @@ fn bytes_of(head: &[u8], body: &[u8]) -> Result<Count>
     first.plus(body.len() as u64)
 }
 
-// Pushes a page after its header.
-fn push_page<W: Sink>(alloc: Global, sink: &mut W, page: DataPage) -> Result<Pushed>
-    ensures ok { IfOk result (λ n. (text : List ℕ) × Appends (W.taken sink.old) (W.taken sink.new) text × (n.bytes ≡ length text) × ((version : Version) (l : Leaf) (o : OutPage) → IsGiven version l o page → (n.pairs ≡ length o.triples) × IsWrittenPage version l None o text)) }
-    ensures one { IfOk result (λ n. n.pages ≡ 1) }
-    ensures some { IfOk result (λ n. 1 ≤ n.bytes) }
+// Pushes a page behind its header, and gives the number of their bytes.
+fn push_headed<W: Sink>(alloc: Global, sink: &mut W, page: &Page) -> Result<Count>
+    ensures ok { IfOk result (λ n. (text : List ℕ) × Appends (W.taken sink.old) (W.taken sink.new) text × (n ≡ length text) × IsHeaded page.now text) }
+    ensures some { IfOk result (λ n. 1 ≤ n) }
     ensures later { W.faults sink.old ≤ W.faults sink.new }
     ensures fault { IsErrOf result WriteFault → Rose (W.faults sink.old) (W.faults sink.new) }
-    ensures refused { IfErr result (λ e. (e ≡ Memory) ⊎ (e ≡ WriteFault) ⊎ ((e ≡ Overflow V3) × ((version : Version) (l : Leaf) (o : OutPage) → IsGiven version l o page → (max_count < length o.triples) ⊎ ((text : List ℕ) × IsWrittenPage version l None o text × (max_count < length text))))) }
+    ensures refused { IfErr result (λ e. (e ≡ Memory) ⊎ (e ≡ WriteFault) ⊎ ((e ≡ Overflow V3) × (IsTooLong page.now ⊎ ((text : List ℕ) × IsHeaded page.now text × (max_count < length text))))) }
 {
-    let pairs = Count::zero().plus(page.num_values() as u64)?;
-    let pages = Count::zero().plus(1)?;
-    pages_are_written();
-    let page = Page::Data(page);
     let mut head = Vec::new(alloc);
-    write_page_header(&page, &mut head)?;
-    let body = body_of(&page);
+    write_page_header(page, &mut head)?;
+    let body = body_of(page);
     let bytes = match bytes_of(&head, body) {
         Ok(bytes) => bytes,
         Err(error) => return Err(error),
     };
     push_all(sink, &head)?;
     push_all(sink, body)?;
+    Ok(bytes)
+}
+
+// Pushes a data page behind its header.
+fn push_page<W: Sink>(alloc: Global, sink: &mut W, page: DataPage) -> Result<Pushed>
+    ensures ok { IfOk result (λ n. (text : List ℕ) × Appends (W.taken sink.old) (W.taken sink.new) text × (n.bytes ≡ length text) × ((version : Version) (l : Leaf) (entries : Option (List Value)) (o : OutPage) → IsGiven version l entries o page → (n.pairs ≡ length o.triples) × IsWrittenPage version l entries o text)) }
+    ensures one { IfOk result (λ n. n.pages ≡ 1) }
+    ensures some { IfOk result (λ n. 1 ≤ n.bytes) }
+    ensures later { W.faults sink.old ≤ W.faults sink.new }
+    ensures fault { IsErrOf result WriteFault → Rose (W.faults sink.old) (W.faults sink.new) }
+    ensures refused { IfErr result (λ e. (e ≡ Memory) ⊎ (e ≡ WriteFault) ⊎ ((e ≡ Overflow V3) × ((version : Version) (l : Leaf) (entries : Option (List Value)) (o : OutPage) → IsGiven version l entries o page → (max_count < length o.triples) ⊎ ((text : List ℕ) × IsWrittenPage version l entries o text × (max_count < length text))))) }
+{
+    let pairs = Count::zero().plus(page.num_values() as u64)?;
+    let pages = Count::zero().plus(1)?;
+    pages_are_written();
+    let page = Page::Data(page);
+    let bytes = match push_headed(alloc, sink, &page) {
+        Ok(bytes) => bytes,
+        Err(error) => return Err(error),
+    };
     Ok(Pushed {
         bytes,
         pairs,
         pages,
     })
+}
+
+/// Pushes the dictionary page of a column behind its header, where there is one, and gives the number of their bytes (Parquet format, "Dictionary Page").
+///
+/// # Errors
+///
+/// - `WriteFault`: the sink failed. `Memory`: memory ran out.
+/// - `Overflow(V3)`: the bytes pass 2^63 - 1.
+pub(crate) fn push_dictionary<W: Sink>(
+    alloc: Global,
+    sink: &mut W,
+    page: Option<DictPage>,
+) -> Result<Count>
+    ensures ok { IfOk result (λ n. (text : List ℕ) × Appends (W.taken sink.old) (W.taken sink.new) text × (n ≡ length text) × ((l : Leaf) (entries : Option (List Value)) → IsDictionaryOf l entries page → HasDictionary l entries text)) }
+    ensures later { W.faults sink.old ≤ W.faults sink.new }
+    ensures fault { IsErrOf result WriteFault → Rose (W.faults sink.old) (W.faults sink.new) }
+    ensures refused { IfErr result (λ e. (e ≡ Memory) ⊎ (e ≡ WriteFault) ⊎ ((e ≡ Overflow V3) × ((l : Leaf) (entries : Option (List Value)) → IsDictionaryOf l entries page → (text : List ℕ) × HasDictionary l entries text × (max_count < length text)))) }
+{
+    let Some(page) = page else {
+        return Ok(Count::zero());
+    };
+    pages_are_written();
+    let page = Page::Dict(page);
+    push_headed(alloc, sink, &page)
 }
 
 // One page more.
@@ -93,23 +133,23 @@ fn with_page(a: Pushed, page: Pushed) -> Result<Pushed>
     })
 }
 
-/// Pushes the pages of a column one after another, each when the one before has gone.
+/// Pushes the data pages of a column one after another, each when the one before has gone.
 ///
 /// # Errors
 ///
 /// - `WriteFault`: the sink failed. `Memory`: memory ran out.
-/// - `Overflow(V3)`: the bytes or the level pairs pass 2^63 - 1.
+/// - `Overflow(V3)`: the bytes or the level pairs pass 2^63 - 1, whatever the dictionary page is.
 /// - Those of the pages.
 pub(crate) fn push_pages<W: Sink, P: ChunkPages>(
     alloc: Global,
     sink: &mut W,
     pages: &mut P,
 ) -> Result<Pushed>
-    ensures ok { IfOk result (λ n. (version : Version) (l : Leaf) (c : OutChunk) → P.gives pages.old version l c → (text : List ℕ) × Appends (W.taken sink.old) (W.taken sink.new) text × (n.bytes ≡ length text) × (n.pairs ≡ pairs_in c) × (n.pages ≡ length c.pages) × ArePages version l None c.pages text) }
+    ensures ok { IfOk result (λ n. (version : Version) (l : Leaf) (c : OutChunk) → P.gives pages.old version l c → (text : List ℕ) × Appends (W.taken sink.old) (W.taken sink.new) text × (n.bytes ≡ length text) × (n.pairs ≡ pairs_in c) × (n.pages ≡ length c.pages) × ArePages version l c.entries c.pages text) }
     ensures few { IfOk result (λ n. n.pages ≤ n.bytes) }
     ensures later { W.faults sink.old ≤ W.faults sink.new }
     ensures fault { IsErrOf result WriteFault → Rose (W.faults sink.old) (W.faults sink.new) ⊎ P.refuses pages.old WriteFault }
-    ensures refused { IfErr result (λ e. (e ≡ Memory) ⊎ (e ≡ WriteFault) ⊎ ((e ≡ Overflow V3) × ((version : Version) (l : Leaf) (c : OutChunk) → P.gives pages.old version l c → ColumnPasses version l c 0)) ⊎ P.refuses pages.old e) }
+    ensures refused { IfErr result (λ e. (e ≡ Memory) ⊎ (e ≡ WriteFault) ⊎ ((e ≡ Overflow V3) × ((version : Version) (l : Leaf) (c : OutChunk) (dictionary : List ℕ) → P.gives pages.old version l c → HasDictionary l c.entries dictionary → ColumnPasses version l c 0)) ⊎ P.refuses pages.old e) }
 {
     let mut pushed = Pushed {
         bytes: Count::zero(),

@@ -50,7 +50,7 @@ one_once t p once v s r a b h k =
     ap (first_or s) (once (single (Some v)) (single (Some s)) (single (Some r)) (bytes_alone t s a) (bytes_alone t r b) (record { repetition = refl; definition = refl; value = h }, tt) (record { repetition = refl; definition = refl; value = k }, tt))
 
 -- the page holds the rows of the first piece, so it is the first page of the chunk
-is_given : (g : ToGive) (piece : List Slot) (o : OutPage) (page : DataPageValue) (version : Version) (l : Leaf) (c : OutChunk) → GivesChunk version l c g → IsPageOf g.options.write_statistics g.encoding g.type g.physical g.way piece o → HoldsRows g.options g.encoding g.type g.node g.physical g.way piece page → IsGiven version l o page
+is_given : (g : ToGive) (piece : List Slot) (o : OutPage) (page : DataPageValue) (version : Version) (l : Leaf) (c : OutChunk) → GivesChunk version l c g → IsPageOf g.options.write_statistics g.encoding g.type g.physical g.way piece o → HoldsRows g.options g.encoding g.type g.node g.physical g.way piece page → IsGiven version l None o page
 is_given g piece o page version l c k h r =
     let triples = k.once (column g.way piece) r.out.triples o.triples r.have_bytes h.have_bytes r.triples h.triples in
     let encoding = r.encoding ∙ sym h.encoding in
@@ -70,7 +70,7 @@ given_next s now page version l c piece rest a b r h (o ∷ os) e z =
       o,
       left,
       λ i. record { entries = c.entries; pages = e i; statistics = c.statistics },
-      is_given (to_come s) piece o page version l c k z.0 r,
+      subst (λ (es : Option (List Value)). IsGiven version l es o page) (sym k.entries) (is_given (to_come s) piece o page version l c k z.0 r),
       (
         h.0,
         subst (λ (g : ToGive). GivesChunk version l left g) (sym b) (record {

@@ -56,12 +56,6 @@ GivesColumn s version l c = (s.has_failed ≡ false) × GivesChunk version l c (
 abbrev pub BeginsColumn : ChunkColumn → Version → Leaf → OutChunk → Type 0
 BeginsColumn s version l c = GivesColumn s version l c × (pairs_in c ≤ max_count → (to_come s).statistics ≡ option_map statistics_of c.statistics)
 
-abbrev pub begun_in : (s : ChunkColumn) (version : Version) (l : Leaf) (c : OutChunk) → BeginsColumn s version l c → GivesColumn s version l c
-begun_in s version l c h = h.0
-
-abbrev pub no_entries_in : (s : ChunkColumn) (version : Version) (l : Leaf) (c : OutChunk) → GivesColumn s version l c → c.entries ≡ None
-no_entries_in s version l c h = h.1.entries
-
 -- the steps that are left at most
 abbrev pub left_after : Bool → ℕ → ℕ
 left_after true n = zero

@@ -3,7 +3,7 @@ ghost use Rattle.std.specs.Prelude.{◌≡◌};
 ghost use Rattle.write_groups.specs.Given.{column_of};
 
 use columns_base::Result;
-use pq_pages::{DataPage, Page};
+use pq_pages::{DataPage, DictPage, Page};
 use pq_tree::{Encoding, Statistics};
 use write_file::ChunkPages;
 use write_pages::PageIter;
@@ -33,7 +33,7 @@ impl ChunkPages for ChunkColumn {
     ghost use Rattle.pq_tree.specs.Tree.{Leaf};
     ghost use Rattle.pq_tree.specs.declared.version.Version.{Version};
     ghost use Rattle.pq_files.specs.Layout.{OutChunk};
-    ghost use Rattle.write_groups.specs.Given.{BeginsColumn, GivesColumn, RefusesColumn, begun_in, left_of, no_entries_in};
+    ghost use Rattle.write_groups.specs.Given.{BeginsColumn, GivesColumn, RefusesColumn, left_of};
 
     ghost gives = { GivesColumn };
 
@@ -43,9 +43,9 @@ impl ChunkPages for ChunkColumn {
 
     ghost refuses = { RefusesColumn };
 
-    ghost no_entries = { no_entries_in };
-
-    ghost begun = { begun_in };
+    fn dictionary_page(&mut self) -> Result<Option<DictPage>> {
+        Ok(None)
+    }
 
     fn next_page(&mut self) -> Option<Result<DataPage>> {
         if self.has_failed {

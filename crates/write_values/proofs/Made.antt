@@ -32,7 +32,7 @@ use Rattle.pq_files.specs.Statistics.{Statistics}
 use Rattle.pq_files.specs.Written.{statistics_of}
 use Rattle.levels.specs.declared.nested.Nested.{Nested}
 use Rattle.levels.specs.Nested.{parts_of, nested_column}
-use Rattle.level_sections.specs.Sections.{Stands}
+use Rattle.level_sections.specs.Sections.{AppendsSections, Stands}
 use Rattle.pq_pages.specs.Denotes.{Denotes}
 use Rattle.write_places.specs.Places.{path_places}
 use Rattle.write_places.proofs.Values.{values_are_at_places}
@@ -85,46 +85,49 @@ each_present : (w : Way) (ts : List Triple) → Each (IsWithin w) ts → Each (�
 each_present w [] h = tt
 each_present w (t ∷ ts) h = (h.0.present, each_present w ts h.1)
 
-pub denotes : (version : Version) (e : Encoding) (p : Physical) (stored : ℕ → Value) (st : Option Statistics) (nested : List Nested) (body : Body) (header : DataPageHeader) (d : Descriptor) → IsPath (parts_of nested)
-    → IsBody version e p nested stored body → IsHeader version (out_page e (nested_column stored nested) st) body.repetition body.definition header
+-- The text of the values in a column with these entries stands behind the level sections.
+pub denotes_in : (version : Version) (e : Encoding) (p : Physical) (entries : Option (List Value)) (stored : ℕ → Value) (st : Option Statistics) (nested : List Nested) (levels buffer text : List ℕ) (r d : ℕ) (header : DataPageHeader) (about : Descriptor) → IsPath (parts_of nested)
+    → AppendsSections version (path_way (parts_of nested)) (nested_column stored nested) [] levels (r, d) → buffer ≡ levels ++ text
+    → ((l : Leaf) → l.physical ≡ p → IsWrittenSpelled e l entries text (map stored (path_places (parts_of nested))))
+    → length text ≤ plain_length p (map stored (path_places (parts_of nested))) + (11 * length (map stored (path_places (parts_of nested))) + 310)
+    → IsHeader version (out_page e (nested_column stored nested) st) r d header
     → room (length (nested_column stored nested)) (plain_length p (values_in (nested_column stored nested))) ≤ max_size
-    → Denotes version p (shred.max_repetition (path_way (parts_of nested))) (shred.max_definition (path_way (parts_of nested))) None (out_page e (nested_column stored nested) st) (record { header = header; buffer = body.buffer.items; descriptor = d })
-denotes version e p stored st nested body header d well b h fits =
+    → Denotes version p (shred.max_repetition (path_way (parts_of nested))) (shred.max_definition (path_way (parts_of nested))) entries (out_page e (nested_column stored nested) st) (record { header = header; buffer = buffer; descriptor = about })
+denotes_in version e p entries stored st nested levels buffer text r d header about well s whole_is spelled size_is h fits =
     let parts = parts_of nested in
     let w = path_way parts in
     let ts = nested_column stored nested in
     let rows = path_slots (λ i. value (stored i)) parts in
-    let s = b.sections in
     let along = path_along stored parts well in
     let within = levels_are_within w rows along in
     let order = (local.columns_are_local w ts).1 (rows, along, refl) in
     let vs : map stored (path_places parts) ≡ values_in ts = sym (values_are_at_places stored nested) in
-    let whole : body.buffer.items ≡ (s.repetition ++ s.definition) ++ b.values.text = b.values.parts ∙ ap (λ (t : List ℕ). t ++ b.values.text) s.parts in
-    let sizes_r : body.repetition ≡ length s.repetition = ap (λ (x : ℕ × ℕ). x.0) s.sizes_are in
-    let sizes_d : body.definition ≡ length s.definition = ap (λ (x : ℕ × ℕ). x.1) s.sizes_are in
-    let bytes : length b.values.text ≤ plain_length p (values_in ts) + (11 * length (values_in ts) + 310) = subst (λ (us : List Value). length b.values.text ≤ plain_length p us + (11 * length us + 310)) vs b.values.size in
+    let whole : buffer ≡ (s.repetition ++ s.definition) ++ text = whole_is ∙ ap (λ (t : List ℕ). t ++ text) s.parts in
+    let sizes_r : r ≡ length s.repetition = ap (λ (x : ℕ × ℕ). x.0) s.sizes_are in
+    let sizes_d : d ≡ length s.definition = ap (λ (x : ℕ × ℕ). x.1) s.sizes_are in
+    let bytes : length text ≤ plain_length p (values_in ts) + (11 * length (values_in ts) + 310) = subst (λ (us : List Value). length text ≤ plain_length p us + (11 * length us + 310)) vs size_is in
     let few : length (values_in ts) ≤ length ts = omega (arith, nulls_and_values ts) in
-    let size : length body.buffer.items ≡ length s.repetition + length s.definition + length b.values.text = ap length whole ∙ (length-append (s.repetition ++ s.definition) b.values.text ∙ omega (arith, length-append s.repetition s.definition)) in
-    let most : length body.buffer.items ≤ room (length ts) (plain_length p (values_in ts)) = omega (arith, size, s.tight, bytes, few) in
+    let size : length buffer ≡ length s.repetition + length s.definition + length text = ap length whole ∙ (length-append (s.repetition ++ s.definition) text ∙ omega (arith, length-append s.repetition s.definition)) in
+    let most : length buffer ≤ room (length ts) (plain_length p (values_in ts)) = omega (arith, size, s.tight, bytes, few) in
     record {
       is = λ l leaf. record {
-        definition = body.definition;
-        repetition = body.repetition;
+        definition = d;
+        repetition = r;
         header = h;
         body =
             record {
-              sections = record { repetition = s.repetitions.section; definition = s.definitions.section; values = b.values.text };
+              sections = record { repetition = s.repetitions.section; definition = s.definitions.section; values = text };
               split =
-                  split_is version l (out_page e ts st) body.definition body.repetition s.repetition s.definition s.repetitions.section s.definitions.section b.values.text body.buffer.items
+                  split_is version l (out_page e ts st) d r s.repetition s.definition s.repetitions.section s.definitions.section text buffer
                   (subst (λ (m : ℕ). Stands version m s.repetition s.repetitions.section) (sym leaf.repeats) s.repetitions.stands) (subst (λ (m : ℕ). Stands version m s.definition s.definitions.section) (sym leaf.defines) s.definitions.stands) whole sizes_r sizes_d;
-              runs = runs_are version l (out_page e ts st) body.definition body.repetition;
+              runs = runs_are version l (out_page e ts st) d r;
               repetitions = subst (λ (m : ℕ). AreLevels m s.repetitions.section (map (λ t. t.repetition) ts)) (sym leaf.repeats) s.repetitions.are;
               definitions = subst (λ (m : ℕ). AreLevels m s.definitions.section (map (λ t. t.definition) ts)) (sym leaf.defines) s.definitions.are;
               present = subst (λ (m : ℕ). All (λ t. is_some t.value ≡ nat_eq t.definition m) ts) (sym leaf.defines) (All-from_recursion _ ts (each_present w ts (recursion_from_All (IsWithin w) ts within)));
               encoding = e;
-              has_encoding = encoding_is version e ts st body.definition body.repetition;
-              values = subst (λ (us : List Value). IsWrittenSpelled e l None b.values.text us) vs (b.values.spelled l leaf.physical);
-              counted = counted_is version (out_page e ts st) body.definition body.repetition;
+              has_encoding = encoding_is version e ts st d r;
+              values = subst (λ (us : List Value). IsWrittenSpelled e l entries text us) vs (spelled l leaf.physical);
+              counted = counted_is version (out_page e ts st) d r;
               begins_row = begins w ts order.1;
             };
         encoding = refl;
@@ -132,6 +135,13 @@ denotes version e p stored st nested body header d well b h fits =
       within = most;
       fits = omega (arith, most, fits);
     }
+
+pub denotes : (version : Version) (e : Encoding) (p : Physical) (stored : ℕ → Value) (st : Option Statistics) (nested : List Nested) (body : Body) (header : DataPageHeader) (d : Descriptor) → IsPath (parts_of nested)
+    → IsBody version e p nested stored body → IsHeader version (out_page e (nested_column stored nested) st) body.repetition body.definition header
+    → room (length (nested_column stored nested)) (plain_length p (values_in (nested_column stored nested))) ≤ max_size
+    → Denotes version p (shred.max_repetition (path_way (parts_of nested))) (shred.max_definition (path_way (parts_of nested))) None (out_page e (nested_column stored nested) st) (record { header = header; buffer = body.buffer.items; descriptor = d })
+denotes version e p stored st nested body header d well b h fits =
+    denotes_in version e p None stored st nested b.levels body.buffer.items b.values.text body.repetition body.definition header d well b.sections b.values.parts b.values.spelled b.values.size h fits
 
 pub mapped : (f : ℕ → Value) (ns : List ℕ) → length (map f ns) ≡ length ns
 mapped f [] = refl

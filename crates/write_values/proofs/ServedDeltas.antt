@@ -8,10 +8,11 @@ use Rattle.columns_slots.specs.Types.{is_boolean, is_null_type}
 use Rattle.pq_tree.specs.Physical.{Physical, boolean, int32, int64, byte_array, fixed}
 use Rattle.write_values.specs.declared.spelling.Deltas.{Deltas}
 use Rattle.write_values.specs.declared.spelling.Deltas.TheVariants.{Numbers32, Numbers64, Lengths}
-use Rattle.pq_files.specs.Page.{plain}
+use Rattle.pq_tree.specs.declared.types.Encoding.{Encoding as RustEncoding}
+use Rattle.pq_files.specs.Page.{Encoding as PageEncoding, plain, dictionary, delta, delta_length}
 use Rattle.pq_files.specs.Written.{number_of_encoding}
-use Rattle.pq_pages.specs.DataPages.{is_named}
-use Rattle.write_values.specs.Deltas.{HasDeltas, IsLeafType, IsSpelling, encoding_in, page_encoding}
+use Rattle.pq_pages.specs.DataPages.{is_named, number_in}
+use Rattle.write_values.specs.Deltas.{HasDeltas, IsLeafType, IsSpelling, encoding_in, encoding_name, page_encoding}
 use Rattle.write_values.specs.Served.{is_decimal, is_small, is_wide, is_string, is_fixed, is_served}
 use Rattle.write_values.proofs.ServedTypes.{either, leaf_base}
 
@@ -93,6 +94,13 @@ unwanted t p = record { encoding = refl; are = tt }
 
 pub spelled : (t : TypeTree) (p : Physical) (deltas : Option Deltas) → IsLeafType t → is_null_type (base t) ≡ false → HasDeltas p deltas → IsSpelling true (leaf_type t) p deltas
 spelled t p deltas leaf values h = record { encoding = h.0 (leaf_type t) (λ e. true≢false (sym (leaf e) ∙ values)); are = h.1 }
+
+-- an encoding has the number of its name
+pub named_number : (n : RustEncoding) (e : PageEncoding) → n ≡ encoding_name e → number_in n ≡ pos (number_of_encoding e)
+named_number n plain h = ap number_in h
+named_number n dictionary h = ap number_in h
+named_number n delta h = ap number_in h
+named_number n delta_length h = ap number_in h
 
 pub is_numbered : (deltas : Option Deltas) → is_named (pos (number_of_encoding (encoding_in deltas))) ≡ true
 is_numbered None = refl

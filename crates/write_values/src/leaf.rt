@@ -19,35 +19,35 @@ use columns_leaf::{
     BinaryArray, BooleanArray, FixedSizeBinaryArray, NullArray, PrimitiveArray, Utf8Array,
 };
 
-// A leaf array whose values are written, and how.
+/// A leaf array whose values are written, and how.
 #[derive(Clone, Copy, Drop)]
 pub enum Leaf<'a> {
-    // as nothing
+    /// As nothing.
     Null(&'a NullArray),
-    // as truth values
+    /// As truth values.
     Boolean(&'a BooleanArray),
-    // as numbers of 32 bits
+    /// As numbers of 32 bits.
     Int8(&'a PrimitiveArray<i8>),
     Int16(&'a PrimitiveArray<i16>),
     Int32(&'a PrimitiveArray<i32>),
     UInt8(&'a PrimitiveArray<u8>),
     UInt16(&'a PrimitiveArray<u16>),
     UInt32(&'a PrimitiveArray<u32>),
-    // as numbers of 64 bits
+    /// As numbers of 64 bits.
     WideUInt32(&'a PrimitiveArray<u32>),
     Int64(&'a PrimitiveArray<i64>),
     UInt64(&'a PrimitiveArray<u64>),
-    // as byte strings
+    /// As byte strings.
     Utf8(&'a Utf8Array<i32>),
     LargeUtf8(&'a Utf8Array<i64>),
     Binary(&'a BinaryArray<i32>),
     LargeBinary(&'a BinaryArray<i64>),
-    // as byte strings of one length
+    /// As byte strings of one length.
     FixedSizeBinary(&'a FixedSizeBinaryArray),
-    // as the 12 bytes of intervals
+    /// As the 12 bytes of intervals.
     Months(&'a PrimitiveArray<i32>),
     Days(&'a PrimitiveArray<DaysMs>),
-    // as decimals
+    /// As decimals.
     Decimal(&'a PrimitiveArray<i128>, DecimalForm),
 }
 

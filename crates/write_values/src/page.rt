@@ -13,14 +13,14 @@ ghost use Rattle.levels.specs.Ranges.{leaf_count_or};
 ghost use Rattle.pq_tree.specs.Reads.{ComesWhere};
 ghost use Rattle.pq_tree.specs.Views.{physical_view, statistics_view};
 ghost use Rattle.pq_files.specs.Layout.{OutPage, plain_length};
+ghost use Rattle.pq_files.specs.Page.{Encoding as PageEncoding};
 ghost use Rattle.pq_files.specs.Room.{room, max_size};
 ghost use Rattle.pq_files.specs.Stored.{AreStored};
-ghost use Rattle.pq_pages.specs.DataPages.{stated_values, stated_encoding};
+ghost use Rattle.pq_pages.specs.DataPages.{number_in, stated_values, stated_encoding};
 ghost use Rattle.write_places.specs.Places.{path_places};
 ghost use Rattle.write_values.specs.Decimals.{HasWide};
 ghost use Rattle.write_values.specs.Leaf.{leaf_tree, leaf_physical};
-ghost use Rattle.pq_files.specs.Written.{number_of_encoding};
-ghost use Rattle.write_values.specs.Deltas.{AreDeltasOf, IsSpelling, encoding_in};
+ghost use Rattle.write_values.specs.Deltas.{AreDeltasOf, IsSpelling, encoding_in, encoding_name};
 ghost use Rattle.write_values.specs.Nulls.{TellsNulls};
 ghost use Rattle.write_values.specs.Pages.{column_room, stored_column, value_column, IsBody, IsColumnPage, IsHeader, IsOut};
 ghost use Rattle.write_values.specs.Served.{is_served};
@@ -29,7 +29,7 @@ ghost use Rattle.write_values.specs.Stored.{stored_at};
 use crate::leaf::{Leaf, leaf_of};
 use crate::measured::Measured;
 use crate::spelled::push_spelled;
-use crate::spelling::{Deltas, encoding_number, spelling_of};
+use crate::spelling::{Deltas, encoding_in, encoding_number, spelling_of};
 use crate::statistics::leaf_statistics;
 use crate::values::measure;
 use columns_array::ArrayBox;
@@ -38,8 +38,8 @@ use level_sections::write_rep_and_def;
 use levels::{Nested, max_def_level, max_rep_level, num_values, slot_count};
 use pq_pages::DataPage;
 use pq_tree::{
-    DataPageHeader, DataPageHeaderV1, DataPageHeaderV2, Descriptor, PrimitiveType, Statistics,
-    Version,
+    DataPageHeader, DataPageHeaderV1, DataPageHeaderV2, Descriptor, Encoding, PrimitiveType,
+    Statistics, Version,
 };
 use std::alloc::Global;
 
@@ -56,24 +56,27 @@ pub struct PageForm {
     pub with_deltas: bool,
 }
 
-// A body, and the lengths of its level sections.
+/// The body of a data page.
 #[derive(Drop)]
 pub struct Body {
     pub buffer: Vec<u8>,
+    /// The lengths of its level sections.
     pub repetition: usize,
     pub definition: usize,
 }
 
-// What the header of a page counts.
+/// What the header of a data page counts.
 #[derive(Clone, Copy, Drop)]
-struct Counts {
-    pairs: u32,
-    nulls: u32,
-    rows: u32,
+pub struct Counts {
+    /// The pairs of levels.
+    pub pairs: u32,
+    /// Those without a value.
+    pub nulls: u32,
+    pub rows: u32,
 }
 
-// Whether a page of so many pairs and bytes of values has room.
-fn has_room(pairs: usize, plain: u128) -> bool
+/// Whether a page of so many pairs or entries, whose values have so many plain bytes, is within the sizes that its header tells.
+pub fn has_room(pairs: usize, plain: u128) -> bool
     ensures { IsTrue result ↔ (room pairs plain ≤ max_size) }
 {
     if pairs > MAX_SIZE {
@@ -117,10 +120,12 @@ fn page_body(
     })
 }
 
-// The header of a page with these statistics, whose values are spelled so.
-fn page_header(
+/// The header of a data page with these statistics, whose values are in this encoding (Parquet format, parquet.thrift: `DataPageHeader`,
+/// `DataPageHeaderV2`).
+#[tactic(auto, using(crate::proofs::ServedDeltas::named_number))]
+pub fn page_header(
     version: Version,
-    deltas: Option<Deltas>,
+    encoding: Encoding,
     counts: Counts,
     statistics: Option<Statistics>,
     body: &Body,
@@ -131,13 +136,13 @@ fn page_header(
     requires repetition { body.now.repetition < 2 ^ 31 }
     requires definition { body.now.definition < 2 ^ 31 }
     ensures values { stated_values result ≡ pos counts.pairs }
-    ensures encoding { stated_encoding result ≡ pos (number_of_encoding (encoding_in deltas)) }
-    ensures is { (out : OutPage) → IsOut (encoding_in deltas) out (option_map statistics_view statistics) counts.pairs counts.nulls counts.rows → IsHeader version out body.now.repetition body.now.definition result }
+    ensures encoding { stated_encoding result ≡ number_in encoding }
+    ensures is { (e : PageEncoding) (out : OutPage) → encoding ≡ encoding_name e → IsOut e out (option_map statistics_view statistics) counts.pairs counts.nulls counts.rows → IsHeader version out body.now.repetition body.now.definition result }
 {
     match version {
         Version::V1 => DataPageHeader::V1(DataPageHeaderV1 {
             num_values: counts.pairs as i32,
-            encoding: encoding_number(deltas),
+            encoding: encoding_number(encoding),
             definition_level_encoding: Some(3),
             repetition_level_encoding: Some(3),
             statistics,
@@ -146,7 +151,7 @@ fn page_header(
             num_values: counts.pairs as i32,
             num_nulls: Some(counts.nulls as i32),
             num_rows: counts.rows as i32,
-            encoding: encoding_number(deltas),
+            encoding: encoding_number(encoding),
             definition_levels_byte_length: body.definition as i32,
             repetition_levels_byte_length: body.repetition as i32,
             is_compressed: Some(false),
@@ -162,8 +167,8 @@ fn level_number(level: usize) -> i16
     level as i16
 }
 
-// The leaf with the greatest levels of its path.
-fn descriptor_of(type_: PrimitiveType, nested: &[Nested]) -> Descriptor
+/// The leaf with the greatest levels of its well-formed path.
+pub fn descriptor_of(type_: PrimitiveType, nested: &[Nested]) -> Descriptor
     requires well { IsPath (parts_of nested.now) }
     requires parts { length nested.now ≤ 128 }
     ensures about { result.primitive_type ≡ type_ }
@@ -210,7 +215,8 @@ fn leaf_page(
         nulls: (pairs - measured.values) as u32,
         rows: rows as u32,
     };
-    let header = page_header(form.version, deltas, counts, statistics, &body);
+    let encoding = encoding_in(deltas);
+    let header = page_header(form.version, encoding, counts, statistics, &body);
     let descriptor = descriptor_of(type_, nested);
     Ok(DataPage::new(header, body.buffer, descriptor, Some(rows)))
 }

@@ -1,10 +1,10 @@
 //! How the values of a page are spelled.
-ghost use Rattle.std.specs.Prelude.{◌≡◌, pos, true, false, MatchOption};
+ghost use Rattle.std.specs.Prelude.{◌≡◌, true, false, MatchOption};
 ghost use Rattle.columns_core.specs.Shapes.{base, leaf_type};
 ghost use Rattle.columns_core.specs.View.{type_view};
 ghost use Rattle.columns_slots.specs.Types.{is_null_type};
 ghost use Rattle.pq_tree.specs.Views.{physical_view};
-ghost use Rattle.pq_files.specs.Written.{number_of_encoding};
+ghost use Rattle.pq_pages.specs.DataPages.{number_in};
 ghost use Rattle.write_values.specs.Deltas.{HasDeltas, IsLeafType, IsSpelling, encoding_in, encoding_name, page_encoding};
 
 use columns_base::PhysicalType;
@@ -22,14 +22,30 @@ pub enum Deltas {
     Lengths,
 }
 
-// The number of the encoding of pages (Parquet format, `Encoding`).
-pub fn encoding_number(deltas: Option<Deltas>) -> i32
-    ensures { result ≡ pos (number_of_encoding (encoding_in deltas)) }
+// The number of an encoding (Parquet format, `Encoding`).
+pub fn encoding_number(encoding: Encoding) -> i32
+    ensures { result ≡ number_in encoding }
+{
+    match encoding {
+        Encoding::Plain => 0,
+        Encoding::PlainDictionary => 2,
+        Encoding::Rle => 3,
+        Encoding::BitPacked => 4,
+        Encoding::DeltaBinaryPacked => 5,
+        Encoding::DeltaLengthByteArray => 6,
+        Encoding::DeltaByteArray => 7,
+        Encoding::RleDictionary => 8,
+    }
+}
+
+// The encoding of pages whose values are spelled so.
+pub fn encoding_in(deltas: Option<Deltas>) -> Encoding
+    ensures { result ≡ encoding_name (encoding_in deltas) }
 {
     match deltas {
-        None => 0,
-        Some(Deltas::Numbers32 | Deltas::Numbers64) => 5,
-        Some(Deltas::Lengths) => 6,
+        None => Encoding::Plain,
+        Some(Deltas::Numbers32 | Deltas::Numbers64) => Encoding::DeltaBinaryPacked,
+        Some(Deltas::Lengths) => Encoding::DeltaLengthByteArray,
     }
 }
 
@@ -80,9 +96,5 @@ pub fn page_encoding(
     requires { IsLeafType (type_view data_type.now) }
     ensures { result ≡ encoding_name (page_encoding wants_deltas (leaf_type (type_view data_type.now)) (physical_view physical_type)) }
 {
-    match spelling_of(data_type, physical_type, wants_deltas) {
-        None => Encoding::Plain,
-        Some(Deltas::Numbers32 | Deltas::Numbers64) => Encoding::DeltaBinaryPacked,
-        Some(Deltas::Lengths) => Encoding::DeltaLengthByteArray,
-    }
+    encoding_in(spelling_of(data_type, physical_type, wants_deltas))
 }

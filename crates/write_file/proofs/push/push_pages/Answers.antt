@@ -15,6 +15,7 @@ pages-init g c = record {
     done = [];
     rest = k;
     whole = refl;
+    entries = refl;
     still = h;
     text = [];
     gained = Appends-nil _;
@@ -37,7 +38,7 @@ pages-preserved g c =
       going = λ version leaf k h.
           let old = v.going version leaf k h in
           let next = subst (λ (r : Result DataPageValue Error). GivesNext g.P.ChunkPages.gives version leaf old.rest (Some r) c.next_page.new.self) c.in_ok-page.was (c.in-Some.ensures.page version leaf old.rest old.still) in
-          let page = n.3 version leaf next.0 next.3 in
+          let page = n.3 version leaf old.rest.entries next.0 next.3 in
           counted_as _ _ _ _ _ _ _ _ _ _ _ _ _
           (going_on g.P.ChunkPages.gives version leaf k c.pages.pages c.next_page.new.self _ _ _ c.pages.pushed.bytes c.pages.pushed.pairs c.pages.pushed.pages c.in-Ok.next.bytes c.in-Ok.next.pairs next.0 next.1 n.0 old next.2 next.4 n.1 n.2 page.0 page.1)
           s.0 s.1 (s.2 ∙ omega (arith, c.in-Ok.ensures.one));
@@ -56,21 +57,19 @@ returns-clause-few g c = c.pages.invariant.few
 pub returns-in-Err-clause-refused : goal.returns-in-Err-clause-refused
 returns-in-Err-clause-refused g c = last (λ h. (
   h.0,
-  λ version leaf k gives.
+  λ version leaf k dictionary gives has.
       let old = c.pages.invariant.going version leaf k gives in
       let next = subst (λ (r : Result DataPageValue Error). GivesNext g.P.ChunkPages.gives version leaf old.rest (Some r) c.next_page.new.self) c.in_ok-page.was (c.in-Some.ensures.page version leaf old.rest old.still) in
-      let none = g.P.ChunkPages.no_entries c.args.pages.now version leaf k gives in
-      page_passes g.P.ChunkPages.gives version leaf k _ _ _ _ _ _ next.0 next.1 old next.2 none (h.1 version leaf next.0 next.3),
+      page_passes g.P.ChunkPages.gives version leaf k _ _ _ _ _ _ next.0 next.1 old next.2 dictionary has (h.1 version leaf old.rest.entries next.0 next.3),
 )) c.in-Err.ensures.refused
 
 pub returns-in-Err-with_page-clause-refused : goal.returns-in-Err-with_page-clause-refused
 returns-in-Err-with_page-clause-refused g c = inr (inr (inl (
   c.in-Err-with_page.ensures.refused.0,
-  λ version leaf k gives.
+  λ version leaf k dictionary gives has.
       let old = c.pages.invariant.going version leaf k gives in
       let next = subst (λ (r : Result DataPageValue Error). GivesNext g.P.ChunkPages.gives version leaf old.rest (Some r) c.next_page.new.self) c.in_ok-page.was (c.in-Some.ensures.page version leaf old.rest old.still) in
-      let none = g.P.ChunkPages.no_entries c.args.pages.now version leaf k gives in
       let n = c.in-Ok.ensures.ok in
-      let page = n.3 version leaf next.0 next.3 in
-      sums_pass g.P.ChunkPages.gives version leaf k _ _ _ _ _ _ _ _ next.0 next.1 n.0 old next.2 none n.2 page.0 page.1 c.in-Err-with_page.ensures.refused.1,
+      let page = n.3 version leaf old.rest.entries next.0 next.3 in
+      sums_pass g.P.ChunkPages.gives version leaf k _ _ _ _ _ _ _ _ next.0 next.1 n.0 old next.2 dictionary has n.2 page.0 page.1 c.in-Err-with_page.ensures.refused.1,
 )))

@@ -14,7 +14,7 @@ use Rattle.write_values.specs.Leaf.{leaf_tree, leaf_physical}
 use Rattle.write_values.specs.Deltas.{encoding_in}
 use Rattle.write_values.specs.Pages.{IsColumnPage, out_page, stored_column}
 use Rattle.write_values.specs.Stored.{stored_at}
-use Rattle.write_values.proofs.ServedDeltas.{is_numbered}
+use Rattle.write_values.proofs.ServedDeltas.{is_numbered, named_number}
 use Rattle.write_values.proofs.Made.{denotes, out_is, room_over, room_within, few_values, rows_few}
 use Rattle.write_values.proofs.page.leaf_page.Goals as goal
 
@@ -66,7 +66,7 @@ page_header-header-requires-clause-rows c =
 pub new-requires : goal.new-requires
 new-requires c = record {
   values = rw c.page_header-header.ensures.values (search rules);
-  encoding = ap is_named c.page_header-header.ensures.encoding ∙ is_numbered c.args.deltas;
+  encoding = ap is_named (c.page_header-header.ensures.encoding ∙ named_number c.encoding_in-encoding.result (encoding_in c.args.deltas) c.encoding_in-encoding.ensures) ∙ is_numbered c.args.deltas;
   definition = rw c.descriptor_of-descriptor.ensures.defines (search rules);
   repetition = rw c.descriptor_of-descriptor.ensures.repeats (search rules);
 }
@@ -92,7 +92,7 @@ returns-clause-ok c =
       statistics = st.out;
       has = st.has;
       exact = st.exact;
-      denotes = subst (λ (k : Encoding). Denotes c.args.form.version p (max_repetition (path_way (parts_of nested))) (max_definition (path_way (parts_of nested))) None (out_page k (stored_column a p nested) st.out) (record { header = c.page_header-header.result; buffer = c.in_ok-body.body.buffer.items; descriptor = c.descriptor_of-descriptor.result })) c.requires.spelling.encoding (denotes c.args.form.version e p stored st.out nested c.in_ok-body.body c.page_header-header.result c.descriptor_of-descriptor.result c.requires.well c.in_ok-body.ensures.ok (c.page_header-header.ensures.is _ out) fits);
+      denotes = subst (λ (k : Encoding). Denotes c.args.form.version p (max_repetition (path_way (parts_of nested))) (max_definition (path_way (parts_of nested))) None (out_page k (stored_column a p nested) st.out) (record { header = c.page_header-header.result; buffer = c.in_ok-body.body.buffer.items; descriptor = c.descriptor_of-descriptor.result })) c.requires.spelling.encoding (denotes c.args.form.version e p stored st.out nested c.in_ok-body.body c.page_header-header.result c.descriptor_of-descriptor.result c.requires.well c.in_ok-body.ensures.ok (c.page_header-header.ensures.is e _ c.encoding_in-encoding.ensures out) fits);
       within = fits;
       about = c.descriptor_of-descriptor.ensures.about;
       repeats = c.descriptor_of-descriptor.ensures.repeats;

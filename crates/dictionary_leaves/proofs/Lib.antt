@@ -1,0 +1,4 @@
+pub mod Flat
+pub mod Whole
+pub mod KeySlots
+pub mod Arrays

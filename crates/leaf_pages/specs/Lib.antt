@@ -1,0 +1,4 @@
+pub mod Columns
+pub mod Forms
+pub mod PathLeaf
+pub mod Restated

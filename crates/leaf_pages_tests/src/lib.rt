@@ -1,0 +1,9 @@
+//! Tests of pages of one kind of array, in a crate of their own so that nothing is proved twice.
+#![tactic(auto)]
+
+#[cfg(test)]
+mod arrays;
+#[cfg(test)]
+mod kinds_tests;
+#[cfg(test)]
+mod wanted;
