@@ -41,11 +41,63 @@ pub fn number_at(bytes: &[u8], shift: u32, width: u32) -> u32
     ((low_bytes(bytes) >> shift) % (1 << width)) as u32
 }
 
+// Eight numbers of one bit, the lowest first.
+fn eight_bits(word: u64) -> [u32; 8]
+    ensures { result ≡ digits_of 2 8 word }
+{
+    let second = word / 2;
+    let third = second / 2;
+    let fourth = third / 2;
+    let fifth = fourth / 2;
+    let sixth = fifth / 2;
+    let seventh = sixth / 2;
+    let eighth = seventh / 2;
+    [
+        (word % 2) as u32,
+        (second % 2) as u32,
+        (third % 2) as u32,
+        (fourth % 2) as u32,
+        (fifth % 2) as u32,
+        (sixth % 2) as u32,
+        (seventh % 2) as u32,
+        (eighth % 2) as u32,
+    ]
+}
+
+// Eight numbers of two bits, the lowest first.
+fn eight_pairs(word: u64) -> [u32; 8]
+    ensures { result ≡ digits_of 4 8 word }
+{
+    let second = word / 4;
+    let third = second / 4;
+    let fourth = third / 4;
+    let fifth = fourth / 4;
+    let sixth = fifth / 4;
+    let seventh = sixth / 4;
+    let eighth = seventh / 4;
+    [
+        (word % 4) as u32,
+        (second % 4) as u32,
+        (third % 4) as u32,
+        (fourth % 4) as u32,
+        (fifth % 4) as u32,
+        (sixth % 4) as u32,
+        (seventh % 4) as u32,
+        (eighth % 4) as u32,
+    ]
+}
+
 /// Eight numbers of at most seven bits, the lowest first.
 pub fn eight_of(word: u64, width: u32) -> [u32; 8]
     requires { width ≤ 7 }
     ensures { result ≡ digits_of (2 ^ width) 8 word }
 {
+    if width == 1 {
+        return eight_bits(word);
+    }
+    if width == 2 {
+        return eight_pairs(word);
+    }
     let base: u64 = 1 << width;
     let second = word >> width;
     let third = second >> width;

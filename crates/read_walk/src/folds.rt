@@ -24,15 +24,15 @@ fn greatest(levels: &[u32]) -> u32
     most
 }
 
-// A level that none of these is below.
-fn least(levels: &[u32]) -> u32
-    ensures { (k : ℕ) → k < length levels.now → result ≤ slice_index levels.now k }
+// 0 where no level is below this one. Each level is compared, so that several are at once.
+fn any_below(levels: &[u32], floor: u32) -> u32
+    ensures { result ≡ 0 → (k : ℕ) → k < length levels.now → floor ≤ slice_index levels.now k }
 {
-    let mut few = u32::MAX;
+    let mut any = 0;
     for level in levels {
-        few = few.min(*level);
+        any = any | u32::from(*level < floor);
     }
-    few
+    any
 }
 
 /// Whether no level is above this one.
@@ -49,7 +49,13 @@ pub fn are_within(levels: &[u32], max: usize) -> bool
 pub fn are_from(levels: &[u32], floor: usize) -> bool
     ensures { IsTrue result → (k : ℕ) → k < length levels.now → floor ≤ slice_index levels.now k }
 {
-    floor <= least(levels) as usize
+    if floor == 0 {
+        return true;
+    }
+    if floor >= 0x1_0000_0000 {
+        return false;
+    }
+    any_below(levels, floor as u32) == 0
 }
 
 /// How many of the repetition levels begin a row.
