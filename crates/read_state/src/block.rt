@@ -69,7 +69,7 @@ fn none_hidden(hidden: &[bool]) -> bool
 {
     let mut any = false;
     for one in hidden {
-        any = any || *one;
+        any = any | *one;
     }
     !any
 }
