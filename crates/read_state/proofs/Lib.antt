@@ -7,3 +7,6 @@ pub mod Long
 pub mod Places
 pub mod Empty
 pub mod Validities
+pub mod Compared
+pub mod Picking
+pub mod Listing

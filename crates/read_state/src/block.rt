@@ -10,9 +10,11 @@ ghost use Rattle.read_state.specs.Marks.{marks_of, hides_at, validities};
 
 use crate::boxes::NestedBox;
 use crate::kinds::Nested;
+use crate::lists::push_starts;
 use crate::parts::{bit, both, first_len, pushes};
 use crate::pushes::{more, push_length};
 use crate::stretch::push_to;
+use crate::words::block_words;
 use columns_base::Result;
 use columns_core::MutableBitmap;
 
@@ -124,8 +126,8 @@ fn count_block(reps: &[u32], defs: &[u32], hidden: &[bool], depth: usize, def: u
     count_each(reps, defs, hidden, depth, def)
 }
 
-// Pushes the pairs to a nullable list.
-fn push_optional(
+// Pushes the pairs to a nullable list, one by one.
+fn optional_each(
     lengths: &mut Vec<i64>,
     validity: &mut MutableBitmap,
     reps: &[u32],
@@ -156,8 +158,8 @@ fn push_optional(
     Ok(())
 }
 
-// Pushes the pairs to a required list.
-fn push_valid(
+// Pushes the pairs to a required list, one by one.
+fn valid_each(
     lengths: &mut Vec<i64>,
     reps: &[u32],
     defs: &[u32],
@@ -184,6 +186,81 @@ fn push_valid(
         place += bit(pushes(rep, level, false, depth + 1, def + 1));
     }
     Ok(())
+}
+
+// Whether these are 64 pairs, none beneath a null, and the levels above the part are told by 32 bits.
+fn is_plain(reps: &[u32], hidden: &[bool], depth: usize, def: usize) -> bool
+    ensures size { IsTrue result → length reps.now ≡ 64 }
+    ensures deep { IsTrue result → depth + 1 < 2 ^ 32 }
+    ensures few { IsTrue result → def + 2 < 2 ^ 32 }
+    ensures none { IsTrue result → (k : ℕ) → k < length hidden.now → slice_index_or hidden.now k false ≡ false }
+{
+    if reps.len() != 64 {
+        return false;
+    }
+    if depth.max(def) >= 0xffff_0000 {
+        return false;
+    }
+    none_hidden(hidden)
+}
+
+// Pushes the pairs to a nullable list.
+fn push_optional(
+    lengths: &mut Vec<i64>,
+    validity: &mut MutableBitmap,
+    reps: &[u32],
+    defs: &[u32],
+    hidden: &[bool],
+    depth: usize,
+    def: usize,
+    first: usize,
+) -> Result<()>
+    requires defs { length defs.now ≡ length reps.now }
+    requires hidden { length reps.now ≤ length hidden.now }
+    requires places { first + length reps.now < 2 ^ 64 }
+    requires few { def + 2 < 2 ^ 64 }
+    requires deep { depth + 1 < 2 ^ 64 }
+    ensures ok { OnOk result (kept_list (Some validity.new.0) (starts_of lengths.new.items) ≡ pushed_all (kept_list (Some validity.old.0) (starts_of lengths.old.items)) first depth def (marks_of reps.now defs.now hidden.now)) }
+    ensures err { IfErr result (λ e. e ≡ Error.Memory) }
+{
+    if is_plain(reps, hidden, depth, def) {
+        let (pushed, grown, there) = block_words(reps, defs, depth as u32, def as u32, 2);
+        if pushed | grown == u64::MAX {
+            lengths.reserve(64)?;
+            let (word, count) = push_starts(lengths, pushed, grown, there, first);
+            return validity.extend_from_word(word, count);
+        }
+    }
+    optional_each(lengths, validity, reps, defs, hidden, depth, def, first)
+}
+
+// Pushes the pairs to a required list.
+fn push_valid(
+    lengths: &mut Vec<i64>,
+    reps: &[u32],
+    defs: &[u32],
+    hidden: &[bool],
+    depth: usize,
+    def: usize,
+    first: usize,
+) -> Result<()>
+    requires defs { length defs.now ≡ length reps.now }
+    requires hidden { length reps.now ≤ length hidden.now }
+    requires places { first + length reps.now < 2 ^ 64 }
+    requires few { def + 2 < 2 ^ 64 }
+    requires deep { depth + 1 < 2 ^ 64 }
+    ensures ok { OnOk result (kept_list None (starts_of lengths.new.items) ≡ pushed_all (kept_list None (starts_of lengths.old.items)) first depth def (marks_of reps.now defs.now hidden.now)) }
+    ensures err { IfErr result (λ e. e ≡ Error.Memory) }
+{
+    if is_plain(reps, hidden, depth, def) {
+        let (pushed, grown, there) = block_words(reps, defs, depth as u32, def as u32, 1);
+        if pushed | grown == u64::MAX {
+            lengths.reserve(64)?;
+            push_starts(lengths, pushed, grown, there, first);
+            return Ok(());
+        }
+    }
+    valid_each(lengths, reps, defs, hidden, depth, def, first)
 }
 
 // A word of bits and their number, with one more in front.

@@ -9,11 +9,13 @@ mod boxes;
 mod init;
 mod kinds;
 mod laws;
+mod lists;
 mod nested;
 mod parts;
 mod pushes;
 mod same;
 mod stretch;
+mod words;
 
 pub use boxes::NestedBox;
 pub use init::{InitNested, init_nested};

@@ -3,7 +3,7 @@ use Rattle.read_laws.specs.State.{kept_list}
 use Rattle.read_laws.specs.Block.{pushed_all}
 use Rattle.read_state.specs.Kinds.{starts_of}
 use Rattle.read_state.specs.Marks.{marks_of}
-use Rattle.read_state.proofs.block.push_valid.Given as goal
+use Rattle.read_state.proofs.block.valid_each.Given as goal
 
 abbrev pub invariant-loop-j : goal.invariant-loop-j
 invariant-loop-j l = record {

@@ -1,0 +1,153 @@
+-- A list's places and validities, taken from one set bit of a word to the next.
+use Rattle.std.proofs.Common.{◌≡◌, ℕ, zero, suc, ◌+◌, ◌-◌, ◌*◌, ◌/◌, ◌%◌, ◌^◌, ◌<◌, ◌≤◌, ◌==◌, Bool, true, false, inl, inr, List, [], ◌∷◌, ◌++◌, length, replicate, refl, arith, ap, sym, ◌∙◌, append_assoc, append-nil, add-one, pow-suc}
+use Rattle.std.specs.Int.{bit_at, w64, trailing_zeros}
+use Rattle.std.proofs.lemmas.Bool.{cases_lt}
+use Rattle.std.proofs.lemmas.Nat.{shr-shr, shr_below, mul-le}
+use Rattle.std.proofs.lemmas.Nat.Bits.{bit_at_above, bit_at-trailing_zeros}
+use Rattle.columns_core.specs.Bits.{word_bits}
+use Rattle.columns_core.proofs.Words.{zeros_word}
+use Rattle.read_laws.specs.Step.{bit}
+use Rattle.read_state.specs.Reach.{chosen, places}
+use Rattle.read_state.proofs.Compared.{word-split, word-alike, word-join, length-word, bit-of}
+
+places-passed : (k place : ℕ) (ps gs : List Bool) → places place (replicate k false ++ ps) (replicate k true ++ gs) ≡ places (place + k) ps gs
+unfolding places
+places-passed zero place ps gs = let e : place + 0 ≡ place = omega arith in rw e refl
+places-passed (suc k) place ps gs = let e : place + 1 + k ≡ place + suc k = omega arith in places-passed k (place + 1) ps gs ∙ ap (λ (n : ℕ). places n ps gs) e
+
+chosen-passed : (k : ℕ) (ps vs ws : List Bool) → length vs ≡ k → chosen (replicate k false ++ ps) (vs ++ ws) ≡ chosen ps ws
+unfolding chosen
+chosen-passed zero ps [] ws e = refl
+chosen-passed zero ps (v ∷ vs) ws e = absurd (omega (arith, e))
+chosen-passed (suc k) ps [] ws e = absurd (omega (arith, e))
+chosen-passed (suc k) ps (v ∷ vs) ws e = chosen-passed k ps vs ws (omega (arith, e))
+
+places-none : (n place : ℕ) (gs : List Bool) → places place (replicate n false) gs ≡ []
+unfolding places
+places-none zero place gs = refl
+places-none (suc n) place [] = refl
+places-none (suc n) place (g ∷ gs) = places-none n (place + bit g) gs
+
+chosen-none : (n : ℕ) (vs : List Bool) → chosen (replicate n false) vs ≡ []
+unfolding chosen
+chosen-none zero vs = refl
+chosen-none (suc n) [] = refl
+chosen-none (suc n) (v ∷ vs) = chosen-none n vs
+
+-- What is left of a block: the bits of its last n pairs. What was taken and what is left give all.
+pub record IsListing (first : ℕ) (all : List ℕ) (every : List Bool) (starts : List ℕ) (left more valid place word count len cap : ℕ) : Type 0 where
+  pub n : ℕ
+  pub starts_are : starts ++ places place (word_bits left n) (word_bits more n) ≡ all
+  pub bits_are : word_bits word count ++ chosen (word_bits left n) (word_bits valid n) ≡ every
+  pub covers : (i : ℕ) → i < n → (bit_at left i == 1) ≡ false → (bit_at more i == 1) ≡ true
+  pub below : word < 2 ^ count
+  pub few : count + n ≤ 64
+  pub reach : place + n ≤ first + 64
+  pub left_below : left < 2 ^ n
+  pub room : len + n ≤ cap
+
+pub listing-init : (first : ℕ) (starts : List ℕ) (left more valid len cap : ℕ) → ((i : ℕ) → i < 64 → (bit_at left i == 1) ≡ false → (bit_at more i == 1) ≡ true) → left < 2 ^ 64 → len + 64 ≤ cap → IsListing first (starts ++ places first (word_bits left 64) (word_bits more 64)) (chosen (word_bits left 64) (word_bits valid 64)) starts left more valid first 0 0 len cap
+listing-init first starts left more valid len cap covers below room = record {
+  n = 64;
+  starts_are = refl;
+  bits_are = refl;
+  covers = covers;
+  below = omega arith;
+  few = omega arith;
+  reach = omega arith;
+  left_below = below;
+  room = room;
+}
+
+-- the bits behind a place
+bits-behind : (w k i : ℕ) → bit_at (w / 2 ^ k / 2) i ≡ bit_at w (k + 1 + i)
+bits-behind w k i = ap (λ (x : ℕ). x / 2 ^ i % 2) (shr-shr w k 1) ∙ ap (λ (x : ℕ). x % 2) (shr-shr w (k + 1) i)
+
+halved : (w k n : ℕ) → w < 2 ^ (k + suc n) → w / 2 ^ k / 2 < 2 ^ n
+halved w k n h =
+    let e : k + suc n ≡ n + (k + 1) = omega arith in
+    rw (shr-shr w k 1) (shr_below w n (k + 1) (rw e at h))
+
+module _ (first : ℕ) (all : List ℕ) (every : List Bool) (starts : List ℕ) (left more valid place word count len cap gap : ℕ) (is : IsListing first all every starts left more valid place word count len cap) (some : 0 < left) (fits : left < 2 ^ 64) (g : gap ≡ trailing_zeros w64 left) where
+  set-here : bit_at left gap ≡ 1
+  set-here = rw g ((bit_at-trailing_zeros w64 left some fits).1)
+
+  clear-before : (i : ℕ) → i < gap → bit_at left i ≡ 0
+  clear-before i h = (bit_at-trailing_zeros w64 left some fits).2 i (rw g at h)
+
+  pub gap-inside : gap < is.n
+  gap-inside = elim (cases_lt gap is.n) [
+    | inl h ↦ h
+    | inr h ↦ absurd (omega (arith, set-here, bit_at_above left is.n gap is.left_below h))
+  ]
+
+  split : is.n ≡ gap + suc (is.n - (gap + 1))
+  split = omega (arith, gap-inside)
+
+  left-bits : word_bits left is.n ≡ replicate gap false ++ true ∷ word_bits (left / 2 ^ gap / 2) (is.n - (gap + 1))
+  left-bits =
+      let m : ℕ = is.n - (gap + 1) in
+      let one : (left / 2 ^ gap % 2 == 1) ≡ true = ap (λ (k : ℕ). k == 1) set-here in
+      let none : word_bits left gap ≡ replicate gap false = word-alike gap left false (λ i h. ap (λ (k : ℕ). k == 1) (clear-before i h)) in
+      ap (word_bits left) split ∙ (word-split gap (suc m) left ∙ (ap (λ (bs : List Bool). bs ++ word_bits (left / 2 ^ gap) (suc m)) none ∙ ap (λ (b : Bool). replicate gap false ++ b ∷ word_bits (left / 2 ^ gap / 2) m) one))
+
+  more-bits : word_bits more is.n ≡ replicate gap true ++ (more / 2 ^ gap % 2 == 1) ∷ word_bits (more / 2 ^ gap / 2) (is.n - (gap + 1))
+  more-bits =
+      let m : ℕ = is.n - (gap + 1) in
+      let full : word_bits more gap ≡ replicate gap true = word-alike gap more true (λ i h. is.covers i (omega (arith, h, gap-inside)) (ap (λ (k : ℕ). k == 1) (clear-before i h))) in
+      ap (word_bits more) split ∙ (word-split gap (suc m) more ∙ ap (λ (bs : List Bool). bs ++ word_bits (more / 2 ^ gap) (suc m)) full)
+
+  valid-bits : word_bits valid is.n ≡ word_bits valid gap ++ (valid / 2 ^ gap % 2 == 1) ∷ word_bits (valid / 2 ^ gap / 2) (is.n - (gap + 1))
+  valid-bits = ap (word_bits valid) split ∙ word-split gap (suc (is.n - (gap + 1))) valid
+
+  next-places : places place (word_bits left is.n) (word_bits more is.n) ≡ (place + gap) ∷ places (place + gap + more / 2 ^ gap % 2) (word_bits (left / 2 ^ gap / 2) (is.n - (gap + 1))) (word_bits (more / 2 ^ gap / 2) (is.n - (gap + 1)))
+  unfolding places
+  next-places =
+      let m : ℕ = is.n - (gap + 1) in
+      let ps = word_bits (left / 2 ^ gap / 2) m in
+      let gs = word_bits (more / 2 ^ gap / 2) m in
+      let b : Bool = more / 2 ^ gap % 2 == 1 in
+      ap (λ (bs : List Bool). places place bs (word_bits more is.n)) left-bits
+      ∙ (ap (places place (replicate gap false ++ true ∷ ps)) more-bits
+      ∙ (places-passed gap place (true ∷ ps) (b ∷ gs)
+      ∙ ap (λ (k : ℕ). (place + gap) ∷ places (place + gap + k) ps gs) (bit-of (more / 2 ^ gap % 2) (omega arith))))
+
+  next-chosen : chosen (word_bits left is.n) (word_bits valid is.n) ≡ (valid / 2 ^ gap % 2 == 1) ∷ chosen (word_bits (left / 2 ^ gap / 2) (is.n - (gap + 1))) (word_bits (valid / 2 ^ gap / 2) (is.n - (gap + 1)))
+  unfolding chosen
+  next-chosen =
+      let m : ℕ = is.n - (gap + 1) in
+      let ps = word_bits (left / 2 ^ gap / 2) m in
+      let vs = word_bits (valid / 2 ^ gap / 2) m in
+      let b : Bool = valid / 2 ^ gap % 2 == 1 in
+      ap (λ (bs : List Bool). chosen bs (word_bits valid is.n)) left-bits
+      ∙ (ap (chosen (replicate gap false ++ true ∷ ps)) valid-bits
+      ∙ chosen-passed gap (true ∷ ps) (word_bits valid gap) (b ∷ vs) (length-word valid gap))
+
+  pub listing-next : (starts' : List ℕ) (word' len' cap' : ℕ) → starts' ≡ starts ++ (place + gap) ∷ [] → word' ≡ word + valid / 2 ^ gap % 2 * 2 ^ count → len' ≤ len + 1 → cap ≤ cap' → IsListing first all every starts' (left / 2 ^ gap / 2) (more / 2 ^ gap / 2) (valid / 2 ^ gap / 2) (place + gap + more / 2 ^ gap % 2) word' (count + 1) len' cap'
+  listing-next starts' word' len' cap' s w l k =
+      let m : ℕ = is.n - (gap + 1) in
+      let ps = word_bits (left / 2 ^ gap / 2) m in
+      let low : ℕ = valid / 2 ^ gap % 2 in
+      let one : low < 2 = omega arith in
+      let behind : List ℕ = places (place + gap + more / 2 ^ gap % 2) ps (word_bits (more / 2 ^ gap / 2) m) in
+      let power : 2 ^ (count + 1) ≡ 2 ^ count * 2 = rw add-one (pow-suc 2 count) in
+      let most : low * 2 ^ count ≤ 1 * 2 ^ count = mul-le low (2 ^ count) 1 (2 ^ count) (omega (arith, one)) (omega arith) in
+      let joined : word_bits word' (count + 1) ≡ word_bits word count ++ (low == 1) ∷ [] = ap (λ (k : ℕ). word_bits k (count + 1)) w ∙ (word-join count 1 word low is.below ∙ ap (λ (k : ℕ). word_bits word count ++ (k == 1) ∷ []) (let e : low % 2 ≡ low = omega (arith, one) in e)) in
+      record {
+        n = m;
+        starts_are = ap (λ (xs : List ℕ). xs ++ behind) s ∙ (append_assoc starts ((place + gap) ∷ []) behind ∙ (ap (λ (xs : List ℕ). starts ++ xs) (sym next-places) ∙ is.starts_are));
+        bits_are = ap (λ (bs : List Bool). bs ++ chosen ps (word_bits (valid / 2 ^ gap / 2) m)) joined ∙ (append_assoc (word_bits word count) ((low == 1) ∷ []) (chosen ps (word_bits (valid / 2 ^ gap / 2) m)) ∙ (ap (λ (bs : List Bool). word_bits word count ++ bs) (sym next-chosen) ∙ is.bits_are));
+        covers = λ i h f. ap (λ (k : ℕ). k == 1) (bits-behind more gap i) ∙ is.covers (gap + 1 + i) (omega (arith, h, gap-inside)) (ap (λ (k : ℕ). k == 1) (sym (bits-behind left gap i)) ∙ f);
+        below = rw w (omega (arith, most, power, is.below));
+        few = omega (arith, is.few, gap-inside);
+        reach = omega (arith, is.reach, gap-inside);
+        left_below = halved left gap m (rw split at is.left_below);
+        room = omega (arith, is.room, gap-inside, l, k);
+      }
+
+pub listing-done : (first : ℕ) (all : List ℕ) (every : List Bool) (starts : List ℕ) (left more valid place word count len cap : ℕ) → left ≡ 0 → IsListing first all every starts left more valid place word count len cap → (starts ≡ all) × (word_bits word count ≡ every)
+listing-done first all every starts left more valid place word count len cap z is =
+    let none : word_bits left is.n ≡ replicate is.n false = ap (λ (k : ℕ). word_bits k is.n) z ∙ zeros_word is.n in (
+      sym (append-nil starts) ∙ (ap (λ (xs : List ℕ). starts ++ xs) (sym (ap (λ (bs : List Bool). places place bs (word_bits more is.n)) none ∙ places-none is.n place (word_bits more is.n))) ∙ is.starts_are),
+      sym (append-nil (word_bits word count)) ∙ (ap (λ (bs : List Bool). word_bits word count ++ bs) (sym (ap (λ (bs : List Bool). chosen bs (word_bits valid is.n)) none ∙ chosen-none is.n (word_bits valid is.n))) ∙ is.bits_are),
+    )

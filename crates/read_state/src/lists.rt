@@ -1,0 +1,55 @@
+//! A block of pairs, pushed to a list from one set bit of a word to the next.
+ghost use Rattle.std.specs.Prelude.{◌≡◌, ℕ, ◌+◌, ◌*◌, ◌-◌, ◌<◌, ◌≤◌, ◌^◌, ◌++◌, bit_or, vec_len, vec_capacity};
+ghost use Rattle.columns_core.specs.Bits.{word_bits};
+ghost use Rattle.read_state.specs.Kinds.{starts_of};
+ghost use Rattle.read_state.specs.Reach.{chosen, places};
+
+use crate::pushes::length_of;
+
+// A word of so many bits with one more behind them.
+fn with_bit(word: u64, count: usize, bit: u64) -> u64
+    requires below { word < 2 ^ count }
+    requires few { count < 64 }
+    requires one { bit < 2 }
+    ensures { result ≡ word + bit * 2 ^ count }
+{
+    (bit << count) | word
+}
+
+/// Pushes the places of a block to a list, within room that is there, and gives the validities as a word and their number. `pushed` has a bit
+/// for each pair that pushes to the list, `grown` for each that pushes to the part beneath, which has `first` slots, and `there` for each that
+/// defines the list.
+pub fn push_starts(
+    lengths: &mut Vec<i64>,
+    pushed: u64,
+    grown: u64,
+    there: u64,
+    first: usize,
+) -> (u64, usize)
+    requires room { vec_len lengths.old + 64 ≤ vec_capacity lengths.old }
+    requires either { bit_or pushed grown ≡ 2 ^ 64 - 1 }
+    requires few { first + 64 < 2 ^ 64 }
+    ensures starts { starts_of lengths.new.items ≡ starts_of lengths.old.items ++ places first (word_bits pushed 64) (word_bits grown 64) }
+    ensures bits { word_bits result.0 result.1 ≡ chosen (word_bits pushed 64) (word_bits there 64) }
+    ensures few { result.1 ≤ 64 }
+{
+    let mut left = pushed;
+    let mut more = grown;
+    let mut valid = there;
+    let mut place = first;
+    let mut word = 0;
+    let mut count = 0;
+    while left != 0 {
+        let gap = left.trailing_zeros() as usize;
+        let grows = more >> gap;
+        let slot = valid >> gap;
+        lengths.push(length_of(place + gap)).unwrap();
+        word = with_bit(word, count, slot % 2);
+        count += 1;
+        place = place + gap + (grows % 2) as usize;
+        left = (left >> gap) / 2;
+        more = grows / 2;
+        valid = slot / 2;
+    }
+    (word, count)
+}

@@ -1,0 +1,41 @@
+//! Levels of 64 pairs, compared all at once.
+ghost use Rattle.std.specs.Prelude.{◌≡◌, ◌+◌, ◌<◌, ◌^◌, length, map, nat_le, nat_lt};
+ghost use Rattle.columns_core.specs.Bits.{word_bits};
+ghost use Rattle.read_state.specs.Reach.{reached};
+
+use std::simd::prelude::*;
+
+/// A bit for each of 64 levels, set where it is at most this one.
+pub fn levels_to(levels: &[u32], most: u32) -> u64
+    requires { length levels.now ≡ 64 }
+    ensures { word_bits result 64 ≡ map (λ d. nat_le d most) levels.now }
+{
+    let lanes = Simd::<u32, 64>::from_slice(levels);
+    lanes.simd_le(Simd::<u32, 64>::splat(most)).to_bitmask()
+}
+
+/// A bit for each of 64 levels, set where it is this one or above it.
+pub fn levels_from(levels: &[u32], least: u32) -> u64
+    requires { length levels.now ≡ 64 }
+    ensures { word_bits result 64 ≡ map (λ d. nat_le least d) levels.now }
+{
+    let lanes = Simd::<u32, 64>::from_slice(levels);
+    lanes.simd_ge(Simd::<u32, 64>::splat(least)).to_bitmask()
+}
+
+/// Of each of 64 pairs, as bits: whether it pushes to a list, whether it pushes to the part beneath it, and whether the list is there. No pair
+/// lies beneath a null.
+pub fn block_words(reps: &[u32], defs: &[u32], depth: u32, def: u32, gain: u32) -> (u64, u64, u64)
+    requires reps { length reps.now ≡ 64 }
+    requires defs { length defs.now ≡ 64 }
+    requires deep { depth + 1 < 2 ^ 32 }
+    requires few { def + gain < 2 ^ 32 }
+    requires one { def + 1 < 2 ^ 32 }
+    ensures pushed { word_bits result.0 64 ≡ reached depth def reps.now defs.now }
+    ensures grown { word_bits result.1 64 ≡ reached (depth + 1) (def + gain) reps.now defs.now }
+    ensures there { word_bits result.2 64 ≡ map (λ d. nat_lt def d) defs.now }
+{
+    let pushed = levels_to(reps, depth) & levels_from(defs, def);
+    let grown = levels_to(reps, depth + 1) & levels_from(defs, def + gain);
+    (pushed, grown, levels_from(defs, def + 1))
+}
