@@ -1,4 +1,5 @@
 mod Causes
+mod EncodedPages
 mod FlatForms
 mod OfLeaf
 mod OfValues

@@ -1,4 +1,5 @@
 -- What a page of a column is, in the words of pages.
+use Rattle.std.proofs.Common.{None}
 use Rattle.columns_core.specs.Shapes.{leaf_type}
 use Rattle.columns_slots.specs.Slots.{type_of}
 use Rattle.leaf_pages.specs.Columns.{FitsArray, IsTooWide, IsPageAlong, IsTooLarge, PathColumn, column_pairs, column_physical, column_rows}
@@ -35,6 +36,6 @@ pub large : (c : PathColumn) → IsTooLarge c → IsPastRoom (leaf_type (type_of
 unfolding IsTooLarge
 large c h = h
 
-pub is_page : (o : WriteOptions) (e : Encoding) (c : PathColumn) (page : DataPageValue) → HoldsRows o e (leaf_type (type_of c.array)) (leaf_view c.type_) (column_physical c) (path_way c.parts) (column_rows c) page → IsPageAlong o e c page
+pub is_page : (o : WriteOptions) (e : Encoding) (c : PathColumn) (page : DataPageValue) → HoldsRows o e (leaf_type (type_of c.array)) (leaf_view c.type_) (column_physical c) (path_way c.parts) None (column_rows c) page → IsPageAlong o e c page
 unfolding IsPageAlong
 is_page o e c page h = h

@@ -1,5 +1,5 @@
 -- The column of one leaf array along its path, and the page of it (Parquet format, "Data Pages", "Nested Encoding").
-use Rattle.std.specs.Prelude.{◌≡◌, ◌⊎◌, Bool, List, [], ◌∷◌, true, false}
+use Rattle.std.specs.Prelude.{◌≡◌, ◌⊎◌, Bool, None, List, [], ◌∷◌, true, false}
 use Rattle.columns_base.specs.declared.error.A.TheVariants.{A7, A8}
 use Rattle.columns_base.specs.declared.error.Error.{Error}
 use Rattle.columns_base.specs.declared.error.Error.TheVariants.{InvalidArgumentError}
@@ -72,7 +72,7 @@ IsTooLarge c = IsPastRoom (leaf_type (type_of c.array)) (column_physical c) (col
 
 -- The page holds the rows of the column, in the encoding, with statistics exactly where they are asked for.
 unfoldable pub IsPageAlong : WriteOptions → Encoding → PathColumn → DataPageValue → Type 0
-IsPageAlong o e c page = HoldsRows o e (leaf_type (type_of c.array)) (leaf_view c.type_) (column_physical c) (path_way c.parts) (column_rows c) page
+IsPageAlong o e c page = HoldsRows o e (leaf_type (type_of c.array)) (leaf_view c.type_) (column_physical c) (path_way c.parts) None (column_rows c) page
 
 -- Pages have values of the array's type, no nulls alone, along the path, which is well formed and, as the type, fits the array.
 pub record IsOfValues (c : PathColumn) : Type 0 where

@@ -5,6 +5,7 @@ pub mod binary;
 pub mod boolean;
 mod checked;
 mod conditions;
+mod encoded;
 pub mod fixed_len_bytes;
 mod flat;
 mod page;

@@ -6,4 +6,6 @@ mod arrays;
 #[cfg(test)]
 mod kinds_tests;
 #[cfg(test)]
+mod spelled_tests;
+#[cfg(test)]
 mod wanted;

@@ -19,10 +19,10 @@ use Rattle.typed_groups.specs.Suiting.{AreAllSound, GroupsAreWritten}
 use Rattle.write_groups.specs.Laid.{AreChosen, GroupsAreLaid, style_of}
 
 -- the entries of a column's dictionary, if it has one
-abbrev Entries : Type 0
+abbrev pub Entries : Type 0
 Entries = Option (List (Option Value))
 
-abbrev none_each : List ArrowColumn → List Entries
+abbrev pub none_each : List ArrowColumn → List Entries
 none_each cs = map (λ c. None) cs
 
 none_map : (f : ArrowColumn → ArrowColumn) (cs : List ArrowColumn) → none_each (map f cs) ≡ none_each cs
@@ -43,7 +43,7 @@ each_sound n no_arrays h = tt
 each_sound n (more_arrays c cs) h = (h.0, each_sound n cs h.2)
 
 mutual
-  no_entries : (a : ArrayTree) (b : Bool) → IsSound a → is_served_type (type_of a) ≡ true → entries_in a ≡ none_each (type_columns b (type_of a))
+  pub no_entries : (a : ArrayTree) (b : Bool) → IsSound a → is_served_type (type_of a) ≡ true → entries_in a ≡ none_each (type_columns b (type_of a))
   no_entries (null_array t n) b h s = sym (one_none b t (nulls_leaves (base t) h))
   no_entries (leaf_array t vs m) b h s = sym (one_none b t (values_leaves (base t) h.1))
   no_entries (dictionary_array t ks c m) b h s = absurd (keys_unserved t (type_of c) h.2 s)

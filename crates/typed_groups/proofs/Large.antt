@@ -1,7 +1,8 @@
 -- A page of a chunk that is refused for its room is too large.
-use Rattle.std.proofs.Common.{◌≡◌, ◌⊎◌, inl, inr, ℕ, suc, ◌+◌, false, List, [], ◌∷◌, ◌++◌, length, map, All, None, refl, sym, ap, subst, ◌∙◌, arith, Vec}
+use Rattle.std.proofs.Common.{◌≡◌, ◌⊎◌, inl, inr, ℕ, suc, ◌+◌, true, false, List, [], ◌∷◌, ◌++◌, length, map, All, None, refl, sym, ap, subst, ◌∙◌, arith, Vec}
 use Rattle.std.specs.Global.{Global}
 use Rattle.std.specs.List.{AllByRecursion as Each}
+use Rattle.std.proofs.lemmas.List.{map-append}
 use Rattle.std.proofs.lemmas.List.Elements.{All-from_recursion, recursion_from_All}
 use Rattle.shredding.specs.Parts.{Part}
 use Rattle.shredding.specs.Shape.{Shape, Shapes, shape, IsOf, AreOf, Way, in_struct, ways}
@@ -13,20 +14,21 @@ use Rattle.columns_base.specs.declared.error.V.TheVariants.{V3}
 use Rattle.columns_core.specs.Shapes.{shapes_of, type_shape}
 use Rattle.columns_core.specs.Tree.{TypeTree, field, FieldTrees, no_fields, more_fields}
 use Rattle.columns_slots.specs.Slots.{slots, tree_len, first_len, AreTyped, type_of}
-use Rattle.columns_slots.specs.Tree.{ArrayTree, ArrayTrees, no_arrays, more_arrays}
-use Rattle.nested_paths.specs.Leaves.{array_leaves, node_of}
+use Rattle.columns_slots.specs.Tree.{ArrayTree, null_array, leaf_array, list_array, fixed_list_array, struct_array, dictionary_array, ArrayTrees, no_arrays, more_arrays}
+use Rattle.nested_paths.specs.Leaves.{array_leaves, leaves_in, node_of}
 use Rattle.nested_paths.specs.Paths.{misfit, paths}
 use Rattle.nested_paths.specs.Seen.{AreSeen, read_by, shape_by}
 use Rattle.pq_headline.proofs.RowsOf.{field_of, length_rows}
-use Rattle.pq_headline.specs.Arrays.{array_at, rows_of as chunk_rows, all_entries}
+use Rattle.pq_headline.specs.Arrays.{array_at, rows_of as chunk_rows, all_entries, entries_in}
 use Rattle.pq_headline.specs.Columns.{ArrowColumn, beneath_struct, type_columns, columns_from, schema_columns}
 use Rattle.pq_headline.specs.Output.{SomeIsLarge, Style, PieceIsTooLarge}
 use Rattle.pq_headline.specs.Rows.{field_slots}
+use Rattle.pq_headline.specs.Served.{are_served_fields, is_served_type}
 use Rattle.pq_tree.specs.Tree.{Leaf, Trees, columns_of, leaves, leaves_of}
 use Rattle.pq_tree.specs.declared.types.Encoding.{Encoding}
 use Rattle.schema_to_tree.specs.Table.{schema_of, trees_of}
 use Rattle.typed_arrays.specs.Typed.{AreAlong, TypedColumnsAreOwn, TypedSlotsAreRead, node}
-use Rattle.typed_groups.proofs.Entries.{entries_are_none}
+use Rattle.typed_groups.proofs.Entries.{entries_are_none, no_entries}
 use Rattle.typed_groups.specs.Suiting.{LargePagesAreLarge}
 use Rattle.write_file.specs.Pages.{SomeRefuses}
 use Rattle.write_groups.specs.Columns.{AreGroupColumns}
@@ -34,9 +36,11 @@ use Rattle.write_groups.specs.Given.{RefusesColumn, to_come}
 use Rattle.write_groups.specs.Laid.{AreOwnColumns, style_of}
 use Rattle.write_groups.specs.declared.column.ChunkColumn.{ChunkColumn}
 use Rattle.write_pages.specs.Columns.{AreColumns}
+use Rattle.write_pages.specs.Entries.{Entries, leaf_entries}
 use Rattle.write_pages.specs.Holds.{ToGive}
 use Rattle.write_pages.specs.declared.options.WriteOptions.{WriteOptions}
-use Rattle.typed_groups.proofs.LargeColumns.{IsOfLarge, each_large}
+use Rattle.typed_groups.proofs.LargeColumns.{HaveNoEntries, IsOfLarge, each_large}
+use Rattle.typed_groups.proofs.Leaves.{served_first, served_rest}
 
 -- ---- fields side by side
 
@@ -120,14 +124,44 @@ pub each_first : (f : Shape) (fs : Shapes) (at : Slots → Slots) (place : ℕ) 
 each_first f fs at place [] e h = tt
 each_first f fs at place (r ∷ rows) e h = (subst (IsOf f) (sym (e r)) (first_is f fs (at r) h.0), each_first f fs at place rows e h.1)
 
+-- ---- none of them is a dictionary
+
+-- the entries of an array are those of its leaves
+mutual
+  leaf_entries_in : (a : ArrayTree) → map leaf_entries (array_leaves a) ≡ entries_in a
+  leaf_entries_in (null_array t n) = refl
+  leaf_entries_in (leaf_array t vs m) = refl
+  leaf_entries_in (list_array t os c m) = leaf_entries_in c
+  leaf_entries_in (fixed_list_array t w n c m) = leaf_entries_in c
+  leaf_entries_in (struct_array t cs m) = all_leaf_entries cs
+  leaf_entries_in (dictionary_array t ks c m) = refl
+
+  all_leaf_entries : (cs : ArrayTrees) → map leaf_entries (leaves_in cs) ≡ all_entries cs
+  all_leaf_entries no_arrays = refl
+  all_leaf_entries (more_arrays c cs) = map-append leaf_entries (array_leaves c) (leaves_in cs) ∙ (λ i. leaf_entries_in c i ++ all_leaf_entries cs i)
+
+first_of : Entries → List Entries → Entries
+first_of d [] = d
+first_of d (x ∷ xs) = x
+
+others_of : List Entries → List Entries
+others_of [] = []
+others_of (x ∷ xs) = xs
+
+have_none : (arrays : List ArrayTree) (cs : List ArrowColumn) → map leaf_entries arrays ≡ map (λ c. None) cs → HaveNoEntries arrays
+unfolding first_of others_of
+have_none [] cs e = tt
+have_none (a ∷ arrays) [] e = absurd cc
+have_none (a ∷ arrays) (c ∷ cs) e = (ap (first_of None) e, have_none arrays cs (ap others_of e))
+
 -- ---- field after field
 
 all_large : TypedColumnsAreOwn → TypedSlotsAreRead → (o : WriteOptions) (rows : List Slots) (fs : FieldTrees) (cs : ArrayTrees) (ess : List (List Encoding)) (columns : List ChunkColumn) (place : ℕ) (at : Slots → Slots) (error : Error)
-    → AreGroupColumns o cs (trees_of fs) ess columns → AreTyped fs cs
+    → are_served_fields fs ≡ true → AreGroupColumns o cs (trees_of fs) ess columns → AreTyped fs cs
     → ((row : Slots) (j : ℕ) → slot_at row (place + j) ≡ slot_at (at row) j) → Each (λ row. AreOf (shapes_of fs) (at row)) rows → HaveLen (length rows) cs → ((j : ℕ) → tree_len (array_at j cs) ≡ length rows → field_slots (place + j) rows ≡ slots (array_at j cs))
     → SomeRefuses RefusesColumn columns error → IsOfLarge (style_of o) rows (columns_from false place fs) (leaves_of (trees_of fs)) error
-all_large own read o rows no_fields no_arrays [] columns place at error h typed e are even own_slots r = absurd (subst (λ (ss : List ChunkColumn). SomeRefuses RefusesColumn ss error) h r)
-all_large own read o rows (more_fields (field name t b md) fs) (more_arrays c cs) (es ∷ ess) columns place at error h typed e are even own_slots r =
+all_large own read o rows no_fields no_arrays [] columns place at error served h typed e are even own_slots r = absurd (subst (λ (ss : List ChunkColumn). SomeRefuses RefusesColumn ss error) h r)
+all_large own read o rows (more_fields (field name t b md) fs) (more_arrays c cs) (es ∷ ess) columns place at error served h typed e are even own_slots r =
     let f = h.3 in
     let here : place + 0 ≡ place = omega arith in
     let mine_are : field_slots place rows ≡ slots c = ap (λ (n : ℕ). field_slots n rows) (sym here) ∙ own_slots 0 even.0 in
@@ -138,10 +172,11 @@ all_large own read o rows (more_fields (field name t b md) fs) (more_arrays c cs
     subst (λ (x : TypeTree). AreAlong (ways (shape_by c (node name b x))) (array_leaves c) (type_columns b x)) (sym typed.0) (own c name b f.sound (subst (λ (x : TypeTree). misfit c (node name b x) ≡ None) typed.0 f.fits)) in
     let seen : AreSeen (field_slots place rows) (ways (shape_by c (node name b t))) (paths c (node name b t)) (array_leaves c) = subst (λ (xs : List Slot). AreSeen xs (ways (shape_by c (node name b t))) (paths c (node name b t)) (array_leaves c)) readable f.seen in
     let columns_are = own_beneath place (ways (shape_by c (node name b t))) (array_leaves c) (type_columns b t) along in
+    let none : HaveNoEntries (array_leaves c) = have_none (array_leaves c) (type_columns b (type_of c)) (leaf_entries_in c ∙ no_entries c b f.sound (ap is_served_type (sym typed.0) ∙ served_first name t b md fs served)) in
     let many = as_many o place (field_slots place rows) (leaves (node name b t)) (ways (shape_by c (node name b t))) (paths c (node name b t)) (array_leaves c) es (map to_come h.0) (map (beneath_struct false place) (type_columns b t)) f.are seen columns_are in
     by many
-    (λ k. each_large o place rows (leaves (node name b t)) (ways (shape_by c (node name b t))) (paths c (node name b t)) (array_leaves c) es h.0 (map (beneath_struct false place) (type_columns b t)) error f.are seen columns_are k)
-    (λ k. all_large own read o rows fs cs ess h.1 (suc place) (λ row. rest_of (at row)) error h.4 typed.1
+    (λ k. each_large o place rows (leaves (node name b t)) (ways (shape_by c (node name b t))) (paths c (node name b t)) (array_leaves c) es h.0 (map (beneath_struct false place) (type_columns b t)) error f.are seen columns_are none k)
+    (λ k. all_large own read o rows fs cs ess h.1 (suc place) (λ row. rest_of (at row)) error (served_rest name t b md fs served) h.4 typed.1
     (λ row j. ap (slot_at row) (next place j) ∙ (e row (suc j) ∙ later_at (at row) j)) (each_rest (type_shape b t) (shapes_of fs) at rows are) even.1
     (λ j q. ap (λ (n : ℕ). field_slots n rows) (next place j) ∙ own_slots (suc j) q) k)
     (one_of_both h.0 h.1 error (subst (λ (ss : List ChunkColumn). SomeRefuses RefusesColumn ss error) h.2 r))
@@ -154,10 +189,10 @@ all_large own read o rows (more_fields (field name t b md) fs) (more_arrays c cs
         → IsOfLarge (style_of o) rows (columns_from false place (more_fields (field name t b md) fs)) (leaves_of (trees_of (more_fields (field name t b md) fs))) error
     by n f g (inl k) = of_mine (style_of o) rows (map (beneath_struct false place) (type_columns b t)) (columns_from false (suc place) fs) (leaves (node name b t)) (leaves_of (trees_of fs)) error (f k)
     by n f g (inr k) = of_theirs (style_of o) rows (map (beneath_struct false place) (type_columns b t)) (columns_from false (suc place) fs) (leaves (node name b t)) (leaves_of (trees_of fs)) error n (g k)
-all_large own read o rows no_fields no_arrays (es ∷ ess) columns place at error h typed e are even own_slots r = absurd h
-all_large own read o rows no_fields (more_arrays c cs) ess columns place at error h typed e are even own_slots r = absurd typed
-all_large own read o rows (more_fields (field x t y z) fs) no_arrays ess columns place at error h typed e are even own_slots r = absurd typed
-all_large own read o rows (more_fields (field x t y z) fs) (more_arrays c cs) [] columns place at error h typed e are even own_slots r = absurd h
+all_large own read o rows no_fields no_arrays (es ∷ ess) columns place at error served h typed e are even own_slots r = absurd h
+all_large own read o rows no_fields (more_arrays c cs) ess columns place at error served h typed e are even own_slots r = absurd typed
+all_large own read o rows (more_fields (field x t y z) fs) no_arrays ess columns place at error served h typed e are even own_slots r = absurd typed
+all_large own read o rows (more_fields (field x t y z) fs) (more_arrays c cs) [] columns place at error served h typed e are even own_slots r = absurd h
 
 pub even_len : (cs : ArrayTrees) → AreEven cs → HaveLen (first_len cs) cs
 even_len no_arrays h = tt
@@ -168,7 +203,7 @@ large own read wanted fs g error h columns r =
     let rows = chunk_rows g.chunk in
     let n : first_len g.chunk ≡ length rows = sym (length_rows g.chunk) in
     with_entries
-    (all_large own read g.options rows fs g.chunk (map (λ (es : Vec Encoding Global). es.items) g.encodings.items) g.columns.items 0 (λ row. row) error
+    (all_large own read g.options rows fs g.chunk (map (λ (es : Vec Encoding Global). es.items) g.encodings.items) g.columns.items 0 (λ row. row) error h.served
     (subst (λ (ts : Trees). AreGroupColumns g.options g.chunk ts (map (λ (es : Vec Encoding Global). es.items) g.encodings.items) g.columns.items) h.trees_are columns) h.typed
     (λ row j. ap (slot_at row) (omega arith)) (recursion_from_All (AreOf (shapes_of fs)) rows h.rows_are)
     (subst (λ (k : ℕ). HaveLen k g.chunk) n (even_len g.chunk h.even))

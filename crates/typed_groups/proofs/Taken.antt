@@ -2,6 +2,7 @@
 use Rattle.std.proofs.Common.{false, ◌≡◌, inl, inr, ℕ, ◌≤◌, Bool, true, true≢false, nat_eq, Option, None, Some, List, [], ◌∷◌, length, map, refl, sym, ap, subst, ◌∙◌, arith, Vec}
 use Rattle.std.specs.Global.{Global}
 use Rattle.std.specs.Prelude.{Contains}
+use Rattle.std.proofs.lemmas.Bool.{or_left}
 use Rattle.std.proofs.lemmas.List.{length-map}
 use Rattle.shredding.specs.Parts.{Part, path_way}
 use Rattle.shredding.specs.Along.{along, thin}
@@ -45,7 +46,8 @@ use Rattle.write_pages.proofs.PageTable.{is_allowed}
 use Rattle.write_pages.specs.Columns.{AnyRefused}
 use Rattle.write_groups.specs.Laid.{AreChosen, AreOwnColumns, field_encoding}
 use Rattle.write_values.specs.Deltas.{encoding_name}
-use Rattle.write_pages.specs.Fits.{FitsColumn, is_written_as}
+use Rattle.write_pages.proofs.WrittenForms.{served_no_keys}
+use Rattle.write_pages.specs.Fits.{FitsColumn, is_keyed_in, is_written_along, is_written_as}
 use Rattle.write_pages.specs.Holds.{rows_of}
 use Rattle.write_pages.specs.Refused.{HasWide, IsUnwritten, RefusesPages}
 use Rattle.write_pages.specs.declared.options.WriteOptions.{WriteOptions}
@@ -94,9 +96,13 @@ only_wide :
     → RefusesPages o type_ parts a (named l) error → (error ≡ InvalidArgumentError A7) × IsWide c l rows
 only_wide flat o l c i w rows parts a type_ named error n e h s way kind (inl r) =
     let physical : l.physical ≡ physical_view type_.physical_type = sym (ap (λ k. k.1) e) in
-    absurd (not_unwritten parts (type_of a) (physical_view type_.physical_type) (named l) (subst (λ (p : Physical). is_written_as (named l) (type_of a) p ≡ true) physical (n h.own h.served)) r.1)
-only_wide flat o l c i w rows parts a type_ named error n e h s way kind (inr (inl r)) = absurd (true≢false (sym h.along ∙ r.2))
-only_wide flat o l c i w rows parts a type_ named error n e h s way kind (inr (inr (inl r))) = absurd (r.3 (s.in_bounds, column_fits flat l (field_slots i rows) w parts a type_ e h s))
+    absurd
+    (elim r.1 [
+      | inl k ↦ true≢false (sym k.0 ∙ served_no_keys (base (type_of a)) l.physical h.served)
+      | inr v ↦ not_unwritten parts (type_of a) (physical_view type_.physical_type) (named l) (subst (λ (p : Physical). is_written_as (named l) (type_of a) p ≡ true) physical (n h.own h.served)) v.1
+    ])
+only_wide flat o l c i w rows parts a type_ named error n e h s way kind (inr (inl r)) = absurd (true≢false (sym (or_left (is_written_along parts a) (is_keyed_in (is_flat_path parts) (base (type_of a))) h.along) ∙ r.2))
+only_wide flat o l c i w rows parts a type_ named error n e h s way kind (inr (inr (inl r))) = absurd (r.3 (s.in_bounds, column_fits flat l (field_slots i rows) w parts a type_ e h s, λ k. absurd (true≢false (sym k ∙ served_no_keys (base (type_of a)) l.physical h.served))))
 only_wide flat o l c i w rows parts a type_ named error n e h s way kind (inr (inr (inr r))) = (r.0, wide_column l c i w rows parts a type_ e s way kind r.2)
 
 -- ---- one field

@@ -1,5 +1,5 @@
 -- The dictionary page of a column, where there is one.
-use Rattle.std.proofs.Common.{◌≡◌, ◌⊎◌, ◌<◌, ◌^◌, inl, inr, ℕ, List, [], length, pos, Option, Some, None, refl, sym, ap, subst, arith}
+use Rattle.std.proofs.Common.{◌≡◌, ◌⊎◌, ◌<◌, ◌≤◌, ◌^◌, inl, inr, ℕ, List, [], length, pos, Option, Some, None, refl, sym, ap, subst, arith}
 use Rattle.std.specs.Prelude.{cond, is_some, option_map}
 use Rattle.shredding.specs.Slot.{Value}
 use Rattle.pq_tree.specs.Tree.{Leaf}
@@ -9,7 +9,7 @@ use Rattle.pq_pages.specs.Denotes.{IsDictFor, PagesAreWritten}
 use Rattle.pq_pages.specs.HeaderValue.{IsTooLong}
 use Rattle.pq_pages.specs.declared.page.DictPage.{DictPage}
 use Rattle.pq_pages.specs.declared.page.Page.TheVariants.{Dict}
-use Rattle.write_file.specs.Pages.{IsDictionaryOf, IsHeaded}
+use Rattle.write_file.specs.Pages.{IsDictionaryOf, IsHeaded, entry_count}
 
 pub is_none : (l : Leaf) (entries : Option (List Value)) → IsDictionaryOf l entries None → HasDictionary l entries []
 is_none l None h = refl
@@ -36,6 +36,11 @@ is_short l (Some es) page h p =
 pub passes_of : (l : Leaf) (entries : Option (List Value)) (d : Option DictPage) (page : DictPage) → PagesAreWritten → d ≡ Some page → IsDictionaryOf l entries d → IsTooLong (Dict page) ⊎ ((text : List ℕ) × IsHeaded (Dict page) text × (max_count < length text)) → (text : List ℕ) × HasDictionary l entries text × (max_count < length text)
 passes_of l entries d page law e h (inl p) = absurd (is_short l entries page (subst (λ (x : Option DictPage). IsDictionaryOf l entries x) e h) p)
 passes_of l entries d page law e h (inr (text, is, p)) = (text, is_page l entries page text law (subst (λ (x : Option DictPage). IsDictionaryOf l entries x) e h) is, p)
+
+-- the fields of its header count its entries
+pub few_entries : (l : Leaf) (entries : Option (List Value)) (d : Option DictPage) → IsDictionaryOf l entries d → entry_count entries ≤ max_count
+few_entries l None d h = omega arith
+few_entries l (Some es) d h = omega (arith, h.2.count, h.3)
 
 pub has_entries : (l : Leaf) (entries : Option (List Value)) (d : Option DictPage) → IsDictionaryOf l entries d → is_some d ≡ is_some entries
 has_entries l None d h = ap is_some h

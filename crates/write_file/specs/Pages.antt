@@ -24,6 +24,11 @@ abbrev pub IsDictionaryOf : Leaf → Option (List Value) → Option DictPage →
 IsDictionaryOf l None d = d ≡ None
 IsDictionaryOf l (Some entries) d = (page : DictPage) × (d ≡ Some page) × IsDictFor l.physical entries page × (page.num_values < 2 ^ 31) × (length page.buffer.items < 2 ^ 31)
 
+-- how many entries the dictionary page has, where there is one
+abbrev pub entry_count : Option (List Value) → ℕ
+entry_count None = 0
+entry_count (Some entries) = length entries
+
 -- A data page with pairs that denotes the page of the file, in a column with these entries, and with a body that the fields of a header are not too small for.
 pub record IsGiven (version : Version) (l : Leaf) (entries : Option (List Value)) (o : OutPage) (page : DataPageValue) : Type 0 where
   pub is : IsPageFor version l entries o page

@@ -7,7 +7,7 @@ ghost use Rattle.pq_tree.specs.declared.version.Version.{Version};
 ghost use Rattle.pq_files.specs.Layout.{OutChunk};
 ghost use Rattle.pq_files.specs.Room.{max_count};
 ghost use Rattle.pq_files.specs.Written.{pairs_in, statistics_of};
-ghost use Rattle.write_file.specs.Pages.{GivesNext, IsDictionaryOf, encoding_view};
+ghost use Rattle.write_file.specs.Pages.{GivesNext, IsDictionaryOf, encoding_view, entry_count};
 
 use columns_base::Result;
 use pq_pages::{DataPage, DictPage};
@@ -45,7 +45,7 @@ pub trait ChunkPages {
     fn encoding(&self) -> Encoding
         ensures { (version : Version) (l : Leaf) (c : OutChunk) → gives self.now version l c → All (λ o. encoding_view result ≡ Some o.encoding) c.pages };
 
-    /// The statistics of the whole chunk, where they are written. Of a chunk with more pairs than a file counts nothing is known.
+    /// The statistics of the whole chunk, where they are written. Of a chunk with more pairs or entries than a file counts nothing is known.
     fn statistics(&self) -> &Option<Statistics>
-        ensures { (version : Version) (l : Leaf) (c : OutChunk) → begins self.now version l c → pairs_in c ≤ max_count → option_map statistics_view result.now ≡ option_map statistics_of c.statistics };
+        ensures { (version : Version) (l : Leaf) (c : OutChunk) → begins self.now version l c → pairs_in c ≤ max_count → entry_count c.entries ≤ max_count → option_map statistics_view result.now ≡ option_map statistics_of c.statistics };
 }

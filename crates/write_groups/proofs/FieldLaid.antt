@@ -1,5 +1,5 @@
 -- The columns of a field are laid out by the row rule.
-use Rattle.std.proofs.Common.{ℕ, List, [], ◌∷◌, map, None, subst}
+use Rattle.std.proofs.Common.{ℕ, List, [], ◌∷◌, map, subst}
 use Rattle.shredding.specs.Parts.{Part}
 use Rattle.shredding.specs.Shape.{Way, ways}
 use Rattle.shredding.specs.Slot.{Slot, Slots}
@@ -17,6 +17,7 @@ use Rattle.pq_tree.specs.declared.types.Encoding.{Encoding as RustEncoding}
 use Rattle.pq_tree.specs.declared.version.Version.{Version}
 use Rattle.write_file.specs.Pages.{AllGive}
 use Rattle.write_pages.specs.Columns.{AreColumns}
+use Rattle.write_pages.specs.Entries.{leaf_entries}
 use Rattle.write_pages.specs.declared.options.WriteOptions.{WriteOptions}
 use Rattle.write_groups.proofs.Laid.{laid}
 use Rattle.write_groups.specs.Given.{BeginsColumn, to_come}
@@ -24,11 +25,11 @@ use Rattle.write_groups.specs.Laid.{AreAskedFor, AreOwnColumns, FieldsAreLaid, s
 use Rattle.write_groups.specs.declared.column.ChunkColumn.{ChunkColumn}
 
 each_laid : (o : WriteOptions) (version : Version) (i : ℕ) (rows : List Slots) (ls : List Leaf) (ws : List Way) (ps : List (List Part)) (arrays : List ArrayTree) (es : List RustEncoding) (ss : List ChunkColumn) (chunks : List OutChunk) (cs : List ArrowColumn) (xs : List Encoding)
-    → AreAskedFor cs es xs → AreColumns o (map node_of ls) ps arrays es (map to_come ss) → AreSeen (field_slots i rows) ws ps arrays → AllGive BeginsColumn version ls chunks ss → AreOwnColumns i ws arrays cs
-    → AreLaid (style_of o) rows cs ls xs (map (λ c. None) cs) chunks
+    → AreAskedFor cs (map leaf_entries arrays) es xs → AreColumns o (map node_of ls) ps arrays es (map to_come ss) → AreSeen (field_slots i rows) ws ps arrays → AllGive BeginsColumn version ls chunks ss → AreOwnColumns i ws arrays cs
+    → AreLaid (style_of o) rows cs ls xs (map leaf_entries arrays) chunks
 each_laid o version i rows [] [] [] [] [] [] [] [] [] q h s k own = tt
 each_laid o version i rows (l ∷ ls) (w ∷ ws) (p ∷ ps) (a ∷ arrays) (e ∷ es) (y ∷ ss) (k ∷ chunks) (c ∷ cs) (x ∷ xs) q h s g own =
-    (laid o (node_of l) p a e (to_come y) version l k c i w rows x q.0 h.0 s.0 g.0.0.1 own.0 own.1, each_laid o version i rows ls ws ps arrays es ss chunks cs xs q.1 h.1 s.1 g.2 own.2)
+    (laid o (node_of l) p a e (to_come y) version l k c i w rows x q.0 h.0 s.0 g.0.2 own.0 own.1, each_laid o version i rows ls ws ps arrays es ss chunks cs xs q.1 h.1 s.1 g.2 own.2)
 each_laid o version i rows [] [] [] [] [] [] [] [] (x ∷ xs) q h s k own = absurd q
 each_laid o version i rows (l ∷ ls) (w ∷ ws) (p ∷ ps) (a ∷ arrays) (e ∷ es) (y ∷ ss) (k ∷ chunks) (c ∷ cs) [] q h s g own = absurd q
 each_laid o version i rows [] (w ∷ ws) [] [] [] [] chunks cs xs q h s k own = absurd s

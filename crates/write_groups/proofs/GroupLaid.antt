@@ -1,16 +1,18 @@
 -- A group of arrays is laid out by the row rule.
 use Rattle.std.proofs.Common.{◌≡◌, ℕ, suc, ◌+◌, Bool, true, false, List, [], ◌∷◌, ◌++◌, length, map, All, None, refl, sym, ap, subst, ◌∙◌, arith}
 use Rattle.std.specs.List.{AllByRecursion as Each}
+use Rattle.std.specs.Prelude.{◌&&◌}
 use Rattle.std.proofs.lemmas.Bool.{and_parts}
 use Rattle.std.proofs.lemmas.List.{length-map}
 use Rattle.std.proofs.lemmas.List.Elements.{All-from_recursion, recursion_from_All}
 use Rattle.shredding.specs.Shape.{Shape, Shapes, shape, IsOf, AreOf, Way, in_struct, ways}
 use Rattle.shredding.specs.Slot.{Slot, null, Slots, no_slots, slot, slot_at}
 use Rattle.columns_array.specs.Chunks.{HaveLen}
-use Rattle.columns_core.specs.Shapes.{shapes_of, type_shape}
+use Rattle.columns_core.specs.Shapes.{base, leaf_type, shapes_of, type_shape}
 use Rattle.columns_core.specs.Tree.{TypeTree, field, FieldTrees, no_fields, more_fields}
 use Rattle.columns_slots.specs.Slots.{slots, tree_len, first_len, AreTyped, type_of}
 use Rattle.columns_slots.specs.Tree.{ArrayTree, ArrayTrees, no_arrays, more_arrays}
+use Rattle.columns_slots.specs.Types.{is_leaf}
 use Rattle.nested_paths.specs.Leaves.{array_leaves, node_of}
 use Rattle.nested_paths.specs.Paths.{misfit}
 use Rattle.nested_paths.specs.Seen.{read_by, shape_by}
@@ -29,10 +31,12 @@ use Rattle.schema_to_tree.specs.Table.{trees_of}
 use Rattle.typed_arrays.specs.Typed.{AreAlong, TypedColumnsAreOwn, TypedSlotsAreRead, node}
 use Rattle.write_file.specs.Pages.{AllGive}
 use Rattle.write_pages.specs.Columns.{AreColumns}
+use Rattle.write_pages.specs.Entries.{Entries, leaf_entries}
 use Rattle.write_pages.specs.declared.options.WriteOptions.{WriteOptions}
-use Rattle.write_groups.proofs.Chosen.{chosen-append, own_asked}
+use Rattle.write_groups.proofs.Chosen.{chosen-append, none_each, own_asked}
 use Rattle.write_groups.proofs.FieldLaid.{field_laid}
 use Rattle.write_groups.proofs.Groups.{even_len}
+use Rattle.write_groups.proofs.Unkeyed.{NoKeyNames, names_no_keys, no_dictionaries}
 use Rattle.write_groups.specs.Columns.{AreGroupColumns}
 use Rattle.write_groups.specs.Given.{BeginsColumn, to_come}
 use Rattle.write_groups.specs.Laid.{AreAskedFor, AreChosen, AreOwnColumns, GroupsAreLaid, style_of}
@@ -155,11 +159,17 @@ all_laid own read wanted o version rows (more_fields (field name t b md) fs) (mo
     let own_columns = map (beneath_struct false place) (type_columns b t) in
     let ls = leaves (node name b t) in
     let many : length (type_columns b t) ≡ length ls = along_many _ (array_leaves c) (type_columns b t) along ∙ arrays_many o ls _ (array_leaves c) es h.0 f.are in
-    let names : AreAskedFor own_columns es (all_chosen wanted own_columns ls) =
-    subst (λ (xs : List Asked). AreAskedFor own_columns xs (all_chosen wanted own_columns ls)) (sym asks.0) (own_asked wanted place b t ls (served_first name t b md fs served) many) in
+    let plain_names : NoKeyNames es = subst NoKeyNames (sym asks.0) (names_no_keys (wanted && is_leaf (base t)) (leaf_type t) ls) in
+    let none : map leaf_entries (array_leaves c) ≡ none_each own_columns =
+    no_dictionaries o (map node_of ls) _ c es (map to_come h.0) f.sound f.are plain_names own_columns (length-map (type_columns b t) (beneath_struct false place) ∙ along_many _ (array_leaves c) (type_columns b t) along) in
+    let names : AreAskedFor own_columns (map leaf_entries (array_leaves c)) es (all_chosen wanted own_columns ls) =
+    subst (λ (ds : List Entries). AreAskedFor own_columns ds es (all_chosen wanted own_columns ls)) (sym none)
+    (subst (λ (xs : List Asked). AreAskedFor own_columns (none_each own_columns) xs (all_chosen wanted own_columns ls)) (sym asks.0) (own_asked wanted place b t ls (served_first name t b md fs served) many)) in
     let chosen : all_chosen wanted own_columns ls ++ all_chosen wanted (columns_from false (suc place) fs) (leaves_of (trees_of fs)) ≡ all_chosen wanted (own_columns ++ columns_from false (suc place) fs) (ls ++ leaves_of (trees_of fs)) =
     sym (chosen-append wanted own_columns (columns_from false (suc place) fs) ls (leaves_of (trees_of fs)) (length-map (type_columns b t) (beneath_struct false place) ∙ many)) in
-    let mine = field_laid o c (node name b t) es h.0 version two.first own_columns place rows (all_chosen wanted own_columns ls) names f two.mine readable (own_beneath place _ (array_leaves c) (type_columns b t) along) in
+    let mine : AreLaid (style_of o) rows own_columns ls (all_chosen wanted own_columns ls) (none_each own_columns) two.first =
+    subst (λ (ds : List Entries). AreLaid (style_of o) rows own_columns ls (all_chosen wanted own_columns ls) ds two.first) none
+    (field_laid o c (node name b t) es h.0 version two.first own_columns place rows (all_chosen wanted own_columns ls) names f two.mine readable (own_beneath place _ (array_leaves c) (type_columns b t) along)) in
     let theirs = all_laid own read wanted o version rows fs cs ess h.1 two.others (suc place) (λ row. rest_of (at row)) (served_rest name t b md fs served) asks.1 h.4 two.theirs typed.1
     (λ row j. ap (slot_at row) (next place j) ∙ (e row (suc j) ∙ later_at (at row) j)) (each_rest (type_shape b t) (shapes_of fs) at rows are) even.1
     (λ j q. ap (λ (n : ℕ). field_slots n rows) (next place j) ∙ own_slots (suc j) q) in

@@ -5,20 +5,20 @@ use Rattle.std.proofs.lemmas.List.{take-map, drop-map, length-map}
 use Rattle.shredding.proofs.Along.{seen_along}
 use Rattle.shredding.proofs.Schema.{own_columns}
 use Rattle.shredding.specs.Along.{along, thin}
-use Rattle.shredding.specs.Cut.{cut, pieces}
+use Rattle.shredding.specs.Cut.{cut, pieces, whole}
 use Rattle.shredding.specs.Parts.{Part, leaf_part, list_part, struct_part, path_way}
 use Rattle.shredding.specs.Shape.{LeafType, Way, at_leaf, in_list, in_struct}
 use Rattle.shredding.specs.Shred.{Triple, column}
 use Rattle.shredding.specs.Slot.{Slot, Slots, fields, slot_at, Value}
 use Rattle.columns_core.specs.Shapes.{leaf_type}
 use Rattle.columns_slots.specs.Slots.{type_of}
-use Rattle.pq_files.specs.Layout.{OutPage, AreStoredEntries, plain_length, rows_per_page}
+use Rattle.pq_files.specs.Layout.{OutPage, AreStoredEntries, bounded, plain_length, rows_per_page}
 use Rattle.pq_files.specs.Page.{Encoding, plain, dictionary, delta, delta_length, values_in}
 use Rattle.pq_files.specs.Statistics.{Statistics, HasStatistics}
 use Rattle.pq_files.specs.Stored.{AreStored}
 use Rattle.levels.specs.InBounds.{IsInBounds}
 use Rattle.pq_headline.specs.Columns.{ArrowColumn, is_alone, is_flat}
-use Rattle.pq_headline.specs.Output.{IsPageOfRows}
+use Rattle.pq_headline.specs.Output.{IsPageOfRows, page_rows}
 use Rattle.pq_headline.specs.Rows.{field_slots}
 use Rattle.pq_tree.specs.Physical.{Physical}
 use Rattle.pq_tree.specs.Views.{physical_view}
@@ -26,7 +26,8 @@ use Rattle.pq_tree.specs.declared.types.Encoding.{Encoding as RustEncoding}
 use Rattle.write_values.specs.Deltas.{encoding_name}
 use Rattle.write_pages.proofs.WrittenForms.{written_is}
 use Rattle.write_pages.specs.Fits.{is_flat_path}
-use Rattle.write_pages.specs.Holds.{encoding_view, rows_of, written_encoding}
+use Rattle.write_pages.specs.Entries.{Entries, leaf_entries, stored_list}
+use Rattle.write_pages.specs.Holds.{ArePieces, column_encoding, encoding_view, rows_of, written_encoding}
 use Rattle.write_pages.specs.Rule.{page_limit}
 use Rattle.write_pages.specs.declared.options.WriteOptions.{WriteOptions}
 use Rattle.write_groups.specs.Given.{IsPageOf}
@@ -43,6 +44,24 @@ pieces_map f (suc k) n (x ∷ xs) =
 cut_map : {A B : Type 0} (f : A → B) (n : ℕ) (xs : List A) → cut (map f xs) (Some n) ≡ map (map f) (cut xs (Some n))
 cut_map f n xs = ap (λ k. pieces k n (map f xs)) (length-map xs f) ∙ pieces_map f (length xs) n xs
 
+whole_map : {A B : Type 0} (f : A → B) (xs : List A) → whole (map f xs) ≡ map (map f) (whole xs)
+whole_map f [] = refl
+whole_map f (x ∷ xs) = refl
+
+-- in pieces of so many rows, or as a whole
+parts_map : {A B : Type 0} (f : A → B) (n : Option ℕ) (xs : List A) → cut (map f xs) n ≡ map (map f) (cut xs n)
+parts_map f None xs = whole_map f xs
+parts_map f (Some n) xs = cut_map f n xs
+
+-- how many rows of so many, whose values have so many plain bytes, stand in a page
+abbrev page_cut : ℕ → Entries → ℕ → ℕ → Option ℕ
+page_cut limit None size count = Some (rows_per_page limit size count)
+page_cut limit (Some es) size count = None
+
+page_is : (limit : ℕ) (es : Entries) (size : ℕ) (rows : List Slot) → page_rows limit rows es size ≡ cut rows (page_cut limit es size (length rows))
+page_is limit None size rows = refl
+page_is limit (Some es) size rows = refl
+
 map_twice : {A B C : Type 0} (f : B → C) (g : A → B) (xs : List A) → map f (map g xs) ≡ map (λ x. f (g x)) xs
 map_twice f g [] = refl
 map_twice f g (x ∷ xs) = ap (λ ys. f (g x) ∷ ys) (map_twice f g xs)
@@ -54,14 +73,18 @@ zip_maps P Q f h (p ∷ ps) [] to z = absurd z
 zip_maps P Q f h (p ∷ ps) (o ∷ os) to z = (to p o z.0, zip_maps P Q f h ps os to z.1)
 
 -- statistics of the same column
-pub statistics_moved : (b b' : Bool) (t t' : LeafType) (p p' : Physical) (st : Option Statistics) (xs ys : List Triple) → b ≡ b' → t ≡ t' → p ≡ p' → xs ≡ ys → HasStatistics b t p st xs (values_in xs) → HasStatistics b' t' p' st ys (values_in ys)
-statistics_moved b b' t t' p p' st xs ys i j k l h =
-    subst (λ (x : Bool). HasStatistics x t' p' st ys (values_in ys)) i
-    (subst (λ (x : LeafType). HasStatistics b x p' st ys (values_in ys)) j
-    (subst (λ (x : Physical). HasStatistics b t x st ys (values_in ys)) k (subst (λ (x : List Triple). HasStatistics b t p st x (values_in x)) l h)))
+statistics_moved : (b b' : Bool) (t t' : LeafType) (p p' : Physical) (es es' : Entries) (st : Option Statistics) (xs ys : List Triple) → b ≡ b' → t ≡ t' → p ≡ p' → es ≡ es' → xs ≡ ys → HasStatistics b t p st xs (bounded es xs) → HasStatistics b' t' p' st ys (bounded es' ys)
+statistics_moved b b' t t' p p' es es' st xs ys i j k m l h =
+    subst (λ (x : Bool). HasStatistics x t' p' st ys (bounded es' ys)) i
+    (subst (λ (x : LeafType). HasStatistics b x p' st ys (bounded es' ys)) j
+    (subst (λ (x : Physical). HasStatistics b t x st ys (bounded es' ys)) k
+    (subst (λ (x : Entries). HasStatistics b t p st ys (bounded x ys)) m (subst (λ (x : List Triple). HasStatistics b t p st x (bounded es x)) l h))))
 
-no_entries : (t : LeafType) (p : Physical) (es : Option (List Value)) → es ≡ None → AreStoredEntries t p None es
-no_entries t p es e = subst (λ (x : Option (List Value)). AreStoredEntries t p None x) (sym e) tt
+-- what is stored, and the pieces as a column with these entries has them
+by_pieces : (limit : Option ℕ) (es : Entries) (t : LeafType) (p : Physical) (ts : List Triple) (rows : List Slot) (pieces : List (List Slot)) → ArePieces es limit t p ts rows pieces
+    → (stored : List Triple) × AreStored t p ts stored × (pieces ≡ page_rows (page_limit limit) rows es (plain_length p (values_in stored)))
+by_pieces limit None t p ts rows pieces h = (h.stored, h.are_stored, h.by_rule)
+by_pieces limit (Some es) t p ts rows pieces h = (h.stored, h.are_stored, h.one)
 
 -- ---- a column of a schema
 
@@ -101,8 +124,8 @@ same_encoding : (x y : Encoding) → ◌≡◌ {A = Option Encoding} (Some x) (S
 unfolding or_that
 same_encoding x y e = ap (or_that x) e
 
-asked_is : (c : ArrowColumn) (e : RustEncoding) (x : Encoding) (parts : List Part) (t : LeafType) (i : ℕ) (w : Way) → IsAskedFor c e x → t ≡ leaf_type c.data_type → c.way ≡ in_struct false i w → path_way parts ≡ thin w → IsInBounds parts → written_encoding t parts e ≡ Some x
-asked_is c e x parts t i w h kind way seen well = written_is t parts e x (λ n. h.nulls (sym kind ∙ n)) (λ n. by_way (is_alone w) refl)
+asked_is : (c : ArrowColumn) (e : RustEncoding) (x : Encoding) (parts : List Part) (t : LeafType) (i : ℕ) (w : Way) → IsAskedFor c None e x → t ≡ leaf_type c.data_type → c.way ≡ in_struct false i w → path_way parts ≡ thin w → IsInBounds parts → written_encoding t parts e ≡ Some x
+asked_is c e x parts t i w h kind way seen well = written_is t parts e x (λ n. h.nulls refl (sym kind ∙ n)) (λ n. by_way (is_alone w) refl)
   where
     alone : is_flat c ≡ is_alone w
     alone = ap (λ (v : Way). is_flat (record { way = v; limits = c.limits; data_type = c.data_type })) way
@@ -110,45 +133,61 @@ asked_is c e x parts t i w h kind way seen well = written_is t parts e x (λ n. 
     by_way : (b : Bool) → is_alone w ≡ b → cond (is_flat_path parts) (encoding_view e) (Some plain) ≡ Some x
     by_way true q = ap (λ (k : Bool). cond k (encoding_view e) (Some plain)) (alone_parts parts w well seen q) ∙ (ap encoding_view h.asked ∙ viewed x)
     by_way false q =
-        let none : x ≡ plain = h.nested (alone ∙ q) in
+        let none : x ≡ plain = h.nested refl (alone ∙ q) in
         ap (λ (k : RustEncoding). cond (is_flat_path parts) (encoding_view k) (Some plain)) (h.asked ∙ ap encoding_name none) ∙ (both_plain (is_flat_path parts) ∙ ap Some (sym none))
+
+-- of a dictionary it is that of dictionaries
+encoding_asked : (es : Entries) (c : ArrowColumn) (e : RustEncoding) (x : Encoding) (parts : List Part) (t : LeafType) (i : ℕ) (w : Way) → IsAskedFor c es e x → t ≡ leaf_type c.data_type → c.way ≡ in_struct false i w → path_way parts ≡ thin w → IsInBounds parts → column_encoding es t parts e ≡ Some x
+encoding_asked None c e x parts t i w h kind way seen well = asked_is c e x parts t i w h kind way seen well
+encoding_asked (Some es) c e x parts t i w h kind way seen well = ap Some (sym (h.keys refl))
 
 -- The chunk that a column is, is laid out as the rows of the schema are to be.
 pub laid : ColumnsAreLaid
 laid o node parts a e g version l chunk c i w rows x ask h s k way kind =
     let t = h.type_ in
     let p = h.pages in
+    let es = leaf_entries a in
+    let own = leaf_type (type_of a) in
     let f : Slots → Slot = λ row. along w (slot_at row i) in
     let here : rows_of parts a ≡ map f rows = s.slots ∙ map_twice (along w) (λ row. slot_at row i) rows in
-    let size = plain_length (physical_view t.physical_type) (values_in p.stored) in
     let limit = page_limit o.data_pagesize_limit in
+    let by = by_pieces o.data_pagesize_limit es own (physical_view t.physical_type) (column (path_way parts) (rows_of parts a)) (rows_of parts a) g.pieces p.pieces in
+    let stored : List Triple = by.0 in
+    let size = plain_length (physical_view t.physical_type) (values_in stored) in
     let physical : l.physical ≡ physical_view t.physical_type = k.leaf.physical ∙ p.physical in
     let type_is : g.type ≡ leaf_type c.data_type = p.type ∙ kind in
     let thin_way : g.way ≡ thin w = p.way ∙ s.way in
     let column_is : (q : List Slots) → column g.way (map f q) ≡ column c.way (map fields q) = λ q. ap (λ (x : Way). column x (map f q)) thin_way ∙ (seen_rows w i q ∙ ap (λ (x : Way). column x (map fields q)) (sym way)) in
     let all : column (path_way parts) (rows_of parts a) ≡ column c.way (map fields rows) = ap (λ (x : Way). column x (rows_of parts a)) (sym p.way) ∙ (ap (column g.way) here ∙ column_is rows) in
     let count : length (rows_of parts a) ≡ length (map fields rows) = ap length here ∙ (length-map rows f ∙ sym (length-map rows fields)) in
-    let n = rows_per_page limit size (length (rows_of parts a)) in
-    let given : g.pieces ≡ map (map f) (cut rows (Some n)) = p.pieces ∙ (ap (λ (xs : List Slot). cut xs (Some n)) here ∙ cut_map f n rows) in
-    let asked : cut (map fields rows) (Some (rows_per_page limit (plain_length l.physical (values_in p.stored)) (length (map fields rows)))) ≡ map (map fields) (cut rows (Some n)) =
-    (λ j. cut (map fields rows) (Some (rows_per_page limit (plain_length (physical j) (values_in p.stored)) (sym count j)))) ∙ cut_map fields n rows in
+    let n : Option ℕ = page_cut limit es size (length (rows_of parts a)) in
+    let given : g.pieces ≡ map (map f) (cut rows n) = by.2 ∙ (page_is limit es size (rows_of parts a) ∙ (ap (λ (xs : List Slot). cut xs n) here ∙ parts_map f n rows)) in
+    let asked : page_rows limit (map fields rows) es (plain_length l.physical (values_in stored)) ≡ map (map fields) (cut rows n) =
+    page_is limit es (plain_length l.physical (values_in stored)) (map fields rows) ∙ ((λ j. cut (map fields rows) (page_cut limit es (plain_length (physical j) (values_in stored)) (sym count j))) ∙ parts_map fields n rows) in
     let wanted : g.options.write_statistics ≡ o.write_statistics = ap (λ (x : WriteOptions). x.write_statistics) p.options in
-    let encoding_is : g.encoding ≡ x = same_encoding g.encoding x (sym p.encoding ∙ asked_is c e x parts (leaf_type (type_of a)) i w ask kind way s.way s.in_bounds) in
-    let one : (q : List Slots) (y : OutPage) → IsPageOf g.options.write_statistics g.encoding g.type g.physical g.way (map f q) y → IsPageOfRows (style_of o) x (record { arrow = c; physical = l.physical; entries = None }) (map fields q) y = λ q y z. record {
+    let encoding_is : g.encoding ≡ x = same_encoding g.encoding x (sym p.encoding ∙ encoding_asked es c e x parts own i w ask kind way s.way s.in_bounds) in
+    let one : (q : List Slots) (y : OutPage) → IsPageOf g.options.write_statistics g.encoding g.type g.physical g.way g.entries (map f q) y → IsPageOfRows (style_of o) x (record { arrow = c; physical = l.physical; entries = es }) (map fields q) y = λ q y z. record {
       triples = subst (λ (v : LeafType). AreStored v l.physical (column c.way (map fields q)) y.triples) type_is
           (subst (λ (v : Physical). AreStored g.type v (column c.way (map fields q)) y.triples) (sym k.leaf.physical)
           (subst (λ (ts : List Triple). AreStored g.type g.physical ts y.triples) (column_is q) z.triples));
       encoding = z.encoding ∙ encoding_is;
-      statistics = statistics_moved g.options.write_statistics o.write_statistics g.type (leaf_type c.data_type) g.physical l.physical y.statistics (column g.way (map f q)) (column c.way (map fields q)) wanted type_is (sym k.leaf.physical) (column_is q) z.statistics;
+      statistics =
+          statistics_moved g.options.write_statistics o.write_statistics g.type (leaf_type c.data_type) g.physical l.physical g.entries es y.statistics (column g.way (map f q)) (column c.way (map fields q)) wanted type_is (sym k.leaf.physical) p.entries (column_is q) z.statistics;
     } in
     record {
-      stored = p.stored;
-      are_stored = subst (λ (y : LeafType). AreStored y l.physical (column c.way (map fields rows)) p.stored) kind
-          (subst (λ (y : Physical). AreStored (leaf_type (type_of a)) y (column c.way (map fields rows)) p.stored) (sym physical)
-          (subst (λ (ts : List Triple). AreStored (leaf_type (type_of a)) (physical_view t.physical_type) ts p.stored) all p.are_stored));
-      entries = no_entries (leaf_type c.data_type) l.physical chunk.entries k.entries;
-      pages = subst (λ (ps : List (List Slot)). AllZip (IsPageOfRows (style_of o) x (record { arrow = c; physical = l.physical; entries = None })) ps chunk.pages) (sym asked)
-          (zip_maps (IsPageOf g.options.write_statistics g.encoding g.type g.physical g.way) (IsPageOfRows (style_of o) x (record { arrow = c; physical = l.physical; entries = None })) f fields (cut rows (Some n)) chunk.pages one
-          (subst (λ (ps : List (List Slot)). AllZip (IsPageOf g.options.write_statistics g.encoding g.type g.physical g.way) ps chunk.pages) given k.pages));
-      statistics = statistics_moved g.options.write_statistics o.write_statistics g.type (leaf_type c.data_type) g.physical l.physical chunk.statistics (column g.way g.rows) (column c.way (map fields rows)) wanted type_is (sym k.leaf.physical) (ap (column g.way) (p.rows ∙ here) ∙ column_is rows) k.statistics;
+      stored = stored;
+      are_stored = subst (λ (y : LeafType). AreStored y l.physical (column c.way (map fields rows)) stored) kind
+          (subst (λ (y : Physical). AreStored own y (column c.way (map fields rows)) stored) (sym physical)
+          (subst (λ (ts : List Triple). AreStored own (physical_view t.physical_type) ts stored) all by.1));
+      entries =
+          let same : chunk.entries ≡ stored_list own (physical_view t.physical_type) es = k.entries ∙ (λ j. stored_list (p.type j) (p.physical j) (p.entries j)) in
+          subst (λ (vs : Option (List Value)). AreStoredEntries (leaf_type c.data_type) l.physical es vs) (sym same)
+          (subst (λ (y : LeafType). AreStoredEntries y l.physical es (stored_list own (physical_view t.physical_type) es)) kind
+          (subst (λ (y : Physical). AreStoredEntries own y es (stored_list own (physical_view t.physical_type) es)) (sym physical) p.stored_entries));
+      pages = subst (λ (ps : List (List Slot)). AllZip (IsPageOfRows (style_of o) x (record { arrow = c; physical = l.physical; entries = es })) ps chunk.pages) (sym asked)
+          (zip_maps (IsPageOf g.options.write_statistics g.encoding g.type g.physical g.way g.entries) (IsPageOfRows (style_of o) x (record { arrow = c; physical = l.physical; entries = es })) f fields (cut rows n) chunk.pages one
+          (subst (λ (ps : List (List Slot)). AllZip (IsPageOf g.options.write_statistics g.encoding g.type g.physical g.way g.entries) ps chunk.pages) given k.pages));
+      statistics =
+          statistics_moved g.options.write_statistics o.write_statistics g.type (leaf_type c.data_type) g.physical l.physical g.entries es chunk.statistics (column g.way g.rows) (column c.way (map fields rows)) wanted type_is (sym k.leaf.physical) p.entries
+          (ap (column g.way) (p.rows ∙ here) ∙ column_is rows) k.statistics;
     }

@@ -1,5 +1,8 @@
 mod Lists
+mod Bounded
+mod OnceStored
 mod Pieces
+mod Kept
 mod Chunks
 mod Groups
 mod Next
@@ -10,5 +13,6 @@ mod Written
 mod Same
 mod Laid
 mod FieldLaid
+mod Unkeyed
 mod GroupLaid
 mod Chosen

@@ -1,5 +1,5 @@
 -- A column in pages.
-use Rattle.std.proofs.Common.{◌≡◌, ℕ, zero, suc, ◌+◌, ◌<◌, List, [], ◌∷◌, ◌++◌, length, flat_map, drop, Some, refl, sym, ap, subst, ◌∙◌, All, arith, nat_eq, cond}
+use Rattle.std.proofs.Common.{◌≡◌, ℕ, zero, suc, ◌+◌, ◌<◌, List, [], ◌∷◌, ◌++◌, length, flat_map, drop, Option, Some, refl, sym, ap, subst, ◌∙◌, All, append-nil, arith, nat_eq, cond}
 use Rattle.std.specs.List.{AllZip, AllByRecursion as Each}
 use Rattle.std.proofs.lemmas.Grind.{flat_map-append}
 use Rattle.std.proofs.lemmas.List.{length-take}
@@ -7,21 +7,21 @@ use Rattle.std.proofs.lemmas.List.Elements.{All-from_recursion, filter_map-appen
 use Rattle.std.proofs.lemmas.List.Sums.{count_by-le-length}
 use Rattle.shredding.proofs.Counts.{count_by-cons, counted as rows_are_counted}
 use Rattle.shredding.specs.Laws.{starts_row}
-use Rattle.shredding.specs.Cut.{cut, pieces}
+use Rattle.shredding.specs.Cut.{cut, pieces, whole}
 use Rattle.shredding.specs.Shape.{LeafType}
 use Rattle.shredding.specs.Shred.{Triple, column, shred}
 use Rattle.shredding.specs.Slot.{Slot, Value}
-use Rattle.pq_files.specs.Layout.{OutPage}
+use Rattle.pq_files.specs.Layout.{OutPage, bounded}
 use Rattle.pq_files.specs.Page.{rows_in, values_in}
+use Rattle.pq_files.specs.Statistics.{Statistics, HasStatistics}
 use Rattle.pq_files.specs.Stored.{AreStored, IsStoredTriple}
 use Rattle.pq_tree.specs.Physical.{Physical}
-use Rattle.page_statistics.proofs.Exist.{statistics_exist}
-use Rattle.page_statistics.specs.Spelled.{HasOwnBytes}
+use Rattle.page_statistics.specs.Spelled.{HasOwnBytes, IsExact}
 use Rattle.write_groups.proofs.Lists.{split_zip, zip_length}
 use Rattle.write_groups.specs.Given.{IsPageOf}
 use Rattle.write_pages.specs.Holds.{HaveBytes, ToGive}
 
-abbrev joined : {A : Type 0} → List (List A) → List A
+abbrev pub joined : {A : Type 0} → List (List A) → List A
 joined ps = flat_map (λ p. p) ps
 
 -- ---- rows are counted in what is stored
@@ -49,11 +49,34 @@ pub some_pieces : {A : Type 0} (n : ℕ) (rows : List A) → 0 < length rows →
 some_pieces n [] h = absurd (omega (arith, h))
 some_pieces n (r ∷ rows) h = omega arith
 
+-- all rows as one piece
+pub joined_whole : {A : Type 0} (rows : List A) → joined (whole rows) ≡ rows
+joined_whole [] = refl
+joined_whole (r ∷ rows) = append-nil (r ∷ rows)
+
+pub whole_some : {A : Type 0} (rows : List A) → Each (λ p. 0 < length p) (whole rows)
+whole_some [] = tt
+whole_some (r ∷ rows) = (omega arith, tt)
+
+pub one_piece : {A : Type 0} (rows : List A) → 0 < length rows → 0 < length (whole rows)
+one_piece [] h = absurd (omega (arith, h))
+one_piece (r ∷ rows) h = omega arith
+
+pub whole_each : {A : Type 0} (P : List A → Type 0) (rows : List A) → P rows → Each P (whole rows)
+whole_each P [] h = tt
+whole_each P (r ∷ rows) h = (h, tt)
+
 -- ---- pages
+
+-- there are statistics of a page of these rows, whatever is stored for them
+abbrev pub HasStated : ToGive → List Slot → Type 0
+HasStated g p =
+    (ts : List Triple) → AreStored g.type g.physical (column g.way p) ts → HaveBytes g.type ts
+    → (st : Option Statistics) × HasStatistics g.options.write_statistics g.type g.physical st (column g.way p) (bounded g.entries (column g.way p)) × IsExact g.type g.physical (bounded g.entries (column g.way p)) st
 
 pub record Paged (g : ToGive) (ps : List (List Slot)) (stored : List Triple) : Type 0 where
   pub pages : List OutPage
-  pub are : AllZip (IsPageOf g.options.write_statistics g.encoding g.type g.physical g.way) ps pages
+  pub are : AllZip (IsPageOf g.options.write_statistics g.encoding g.type g.physical g.way g.entries) ps pages
   pub whole : flat_map (λ (o : OutPage). o.triples) pages ≡ stored
 
 page_some : (g : ToGive) (p : List Slot) (ts : List Triple) → 0 < length p → AreStored g.type g.physical (column g.way p) ts → 0 < length ts
@@ -74,15 +97,15 @@ halves_have t xs ys h =
     let both = recursion_from_All (HasOwnBytes t) (values_in xs ++ values_in ys) (subst (λ (vs : List Value). All (HasOwnBytes t) vs) (filter_map-append (λ (x : Triple). x.value) xs ys) h) in
     (All-from_recursion (HasOwnBytes t) (values_in xs) (each_front (HasOwnBytes t) (values_in xs) (values_in ys) both), All-from_recursion (HasOwnBytes t) (values_in ys) (each_behind (HasOwnBytes t) (values_in xs) (values_in ys) both))
 
-pub paged : (g : ToGive) (ps : List (List Slot)) (stored : List Triple) → Each (λ p. 0 < length p) ps → HaveBytes g.type stored → AreStored g.type g.physical (column g.way (joined ps)) stored → Paged g ps stored
-paged g [] [] e b h = record { pages = []; are = tt; whole = refl }
-paged g [] (t ∷ ts) e b h = absurd h
-paged g (p ∷ ps) stored e b h =
+pub paged : (g : ToGive) (ps : List (List Slot)) (stored : List Triple) → Each (λ p. 0 < length p) ps → Each (HasStated g) ps → HaveBytes g.type stored → AreStored g.type g.physical (column g.way (joined ps)) stored → Paged g ps stored
+paged g [] [] e k b h = record { pages = []; are = tt; whole = refl }
+paged g [] (t ∷ ts) e k b h = absurd h
+paged g (p ∷ ps) stored e k b h =
     let parts = subst (λ (xs : List Triple). AllZip (IsStoredTriple g.type g.physical) xs stored) (flat_map-append (λ (s : Slot). shred g.way s 0 0 0) p (joined ps)) h in
     let two = split_zip (IsStoredTriple g.type g.physical) (column g.way p) (column g.way (joined ps)) stored parts in
     let bs = halves_have g.type two.0 two.1 (subst (λ (xs : List Triple). HaveBytes g.type xs) two.2 b) in
-    let st = statistics_exist g.options.write_statistics g.type g.physical (column g.way p) two.0 two.3 bs.0 in
-    let rest = paged g ps two.1 e.1 bs.1 two.4 in
+    let st = k.0 two.0 two.3 bs.0 in
+    let rest = paged g ps two.1 e.1 k.1 bs.1 two.4 in
     record {
       pages = record { triples = two.0; encoding = g.encoding; statistics = st.0 } ∷ rest.pages;
       are = (record { triples = two.3; have_bytes = bs.0; encoding = refl; statistics = st.1; exact = st.2; some = page_some g p two.0 e.0 two.3 }, rest.are);

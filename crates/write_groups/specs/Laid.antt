@@ -1,5 +1,5 @@
 -- How the columns of a group are laid out (Parquet format, "Data Pages", "Column chunks").
-use Rattle.std.specs.Prelude.{◌≡◌, ℕ, Bool, cond, ◌&&◌, All, List, [], ◌∷◌, map, None, true, false}
+use Rattle.std.specs.Prelude.{◌≡◌, ℕ, Bool, cond, ◌&&◌, All, List, [], ◌∷◌, map, is_some, None, true, false}
 use Rattle.shredding.specs.Parts.{Part}
 use Rattle.shredding.specs.Shape.{AreOf, nothing, Way, in_struct, ways}
 use Rattle.shredding.specs.Slot.{Slots, fields}
@@ -8,7 +8,7 @@ use Rattle.columns_slots.specs.Slots.{slots, AreTyped, type_of}
 use Rattle.columns_slots.specs.Tree.{ArrayTree}
 use Rattle.nested_paths.specs.Seen.{IsSeen, read_by, shape_by}
 use Rattle.pq_files.specs.Layout.{OutChunk, OutGroup, delta_of}
-use Rattle.pq_files.specs.Page.{Encoding, plain}
+use Rattle.pq_files.specs.Page.{Encoding, plain, dictionary}
 use Rattle.pq_headline.specs.Columns.{ArrowColumn, is_flat, schema_columns}
 use Rattle.pq_headline.specs.Output.{Style, IsLaid, AreLaid, IsLaidGroup, all_chosen}
 use Rattle.pq_headline.specs.Served.{are_served_fields}
@@ -17,6 +17,7 @@ use Rattle.pq_tree.specs.Tree.{Leaf, Tree, Trees, no_trees, tree, columns_of, le
 use Rattle.pq_tree.specs.declared.types.Encoding.{Encoding as RustEncoding}
 use Rattle.pq_tree.specs.declared.version.Version.{Version}
 use Rattle.write_pages.specs.Columns.{IsColumn, LeafNode}
+use Rattle.write_pages.specs.Entries.{Entries, leaf_entries}
 use Rattle.write_pages.specs.Holds.{ToGive}
 use Rattle.write_pages.specs.Rule.{page_limit}
 use Rattle.write_pages.specs.declared.options.WriteOptions.{WriteOptions}
@@ -38,16 +39,18 @@ use Rattle.write_groups.specs.declared.column.ChunkColumn.{ChunkColumn}
 abbrev pub style_of : WriteOptions → Style
 style_of o = record { page_limit = page_limit o.data_pagesize_limit; statistics = o.write_statistics }
 
--- Pages of the column are asked for in this encoding, by its name: PLAIN where the column is not flat or has no values.
-pub record IsAskedFor (c : ArrowColumn) (e : RustEncoding) (x : Encoding) : Type 0 where
+-- Pages of the column, with these entries where it has a dictionary, are asked for in this encoding, by its name: in that of dictionaries where it has one, and else in PLAIN
+-- where the column is not flat or has no values.
+pub record IsAskedFor (c : ArrowColumn) (entries : Entries) (e : RustEncoding) (x : Encoding) : Type 0 where
   pub asked : e ≡ encoding_name x
-  pub nested : is_flat c ≡ false → x ≡ plain
-  pub nulls : leaf_type c.data_type ≡ nothing → x ≡ plain
+  pub keys : is_some entries ≡ true → x ≡ dictionary
+  pub nested : is_some entries ≡ false → is_flat c ≡ false → x ≡ plain
+  pub nulls : is_some entries ≡ false → leaf_type c.data_type ≡ nothing → x ≡ plain
 
-abbrev pub AreAskedFor : List ArrowColumn → List RustEncoding → List Encoding → Type 0
-AreAskedFor [] [] [] = Unit {0}
-AreAskedFor (c ∷ cs) (e ∷ es) (x ∷ xs) = IsAskedFor c e x × AreAskedFor cs es xs
-AreAskedFor _ _ _ = ⊥
+abbrev pub AreAskedFor : List ArrowColumn → List Entries → List RustEncoding → List Encoding → Type 0
+AreAskedFor [] [] [] [] = Unit {0}
+AreAskedFor (c ∷ cs) (d ∷ ds) (e ∷ es) (x ∷ xs) = IsAskedFor c d e x × AreAskedFor cs ds es xs
+AreAskedFor _ _ _ _ = ⊥
 
 -- the encoding that is chosen for a leaf of a field of the type: where deltas are wanted and the leaf is the field's own the one that its type
 -- allows, else PLAIN
@@ -62,12 +65,12 @@ AreChosen wants_deltas (more_fields (field name t is_nullable metadata) fs) (tre
 AreChosen wants_deltas _ _ _ = ⊥
 
 -- A column whose path is what is seen of the slots of field i in some rows, and which gives a chunk: the chunk is laid out, in the encoding that is
--- asked for and by the row rule, as the rows' column along the way beneath the schema's own struct.
+-- asked for, with the entries of the array and by the row rule, or in one page where there are some, as the rows' column along the way beneath the schema's own struct.
 abbrev pub ColumnsAreLaid : Type 0
 ColumnsAreLaid =
     (o : WriteOptions) (node : LeafNode) (parts : List Part) (a : ArrayTree) (e : RustEncoding) (g : ToGive) (version : Version) (l : Leaf) (chunk : OutChunk) (c : ArrowColumn) (i : ℕ) (w : Way) (rows : List Slots) (x : Encoding)
-    → IsAskedFor c e x → IsColumn o node parts a e g → IsSeen (field_slots i rows) w parts a → GivesChunk version l chunk g → c.way ≡ in_struct false i w → leaf_type (type_of a) ≡ leaf_type c.data_type
-    → IsLaid (style_of o) x (record { arrow = c; physical = l.physical; entries = None }) (map fields rows) chunk
+    → IsAskedFor c (leaf_entries a) e x → IsColumn o node parts a e g → IsSeen (field_slots i rows) w parts a → GivesChunk version l chunk g → c.way ≡ in_struct false i w → leaf_type (type_of a) ≡ leaf_type c.data_type
+    → IsLaid (style_of o) x (record { arrow = c; physical = l.physical; entries = leaf_entries a }) (map fields rows) chunk
 
 -- for each way of the field at a place, with the array of its leaf, the column of the schema
 abbrev pub AreOwnColumns : ℕ → List Way → List ArrayTree → List ArrowColumn → Type 0
@@ -79,8 +82,8 @@ AreOwnColumns i _ _ _ = ⊥
 abbrev pub FieldsAreLaid : Type 0
 FieldsAreLaid =
     (o : WriteOptions) (a : ArrayTree) (t : Tree) (es : List RustEncoding) (columns : List ChunkColumn) (version : Version) (chunks : List OutChunk) (cs : List ArrowColumn) (i : ℕ) (rows : List Slots) (xs : List Encoding)
-    → AreAskedFor cs es xs → AreFieldColumns o a t es columns → AllGive BeginsColumn version (leaves t) chunks columns → slots (read_by a t) ≡ field_slots i rows → AreOwnColumns i (ways (shape_by a t)) (array_leaves a) cs
-    → AreLaid (style_of o) rows cs (leaves t) xs (map (λ c. None) cs) chunks
+    → AreAskedFor cs (map leaf_entries (array_leaves a)) es xs → AreFieldColumns o a t es columns → AllGive BeginsColumn version (leaves t) chunks columns → slots (read_by a t) ≡ field_slots i rows → AreOwnColumns i (ways (shape_by a t)) (array_leaves a) cs
+    → AreLaid (style_of o) rows cs (leaves t) xs (map leaf_entries (array_leaves a)) chunks
 
 -- The group that the columns of a chunk give is laid out, in the encodings that are chosen and without dictionaries, as the rows of the chunk are to be, where
 -- the arrays have the types of the fields and one length, their rows are rows of the schema, and they are written by its trees, all of which is served.

@@ -8,7 +8,7 @@ use pq_tree::{Encoding, Statistics};
 use write_file::ChunkPages;
 use write_pages::PageIter;
 
-/// The pages of a column, without a dictionary. After an error it gives nothing.
+/// The pages of a column: the dictionary page first, where it has one. After an error it gives nothing.
 #[derive(Drop)]
 pub struct ChunkColumn {
     pub pages: PageIter,
@@ -44,11 +44,25 @@ impl ChunkPages for ChunkColumn {
     ghost refuses = { RefusesColumn };
 
     fn dictionary_page(&mut self) -> Result<Option<DictPage>> {
-        Ok(None)
+        if !self.pages.owes_dictionary() {
+            return Ok(None);
+        }
+        match self.pages.next_page() {
+            Some(Ok(Page::Dict(page))) => Ok(Some(page)),
+            Some(Ok(Page::Data(_))) => unreachable!(),
+            None => unreachable!(),
+            Some(Err(error)) => {
+                self.has_failed = true;
+                Err(error)
+            }
+        }
     }
 
     fn next_page(&mut self) -> Option<Result<DataPage>> {
         if self.has_failed {
+            return None;
+        }
+        if self.pages.owes_dictionary() {
             return None;
         }
         match self.pages.next_page() {

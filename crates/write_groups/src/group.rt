@@ -102,15 +102,17 @@ fn are_so_many(chunk: &Chunk, encodings: &Vec<Vec<Encoding>>, fields: &Vec<Parqu
     encodings.len() == count && fields.len() == count
 }
 
-/// The columns of the chunk, each array written by the tree at its place, in the encodings of its leaves. Pages are made when they are written.
+/// The columns of the chunk, each array written by the tree at its place, in the encodings of its leaves: a dictionary as a dictionary page and one
+/// data page of its keys. Pages are made when they are written.
 ///
 /// # Errors
 ///
 /// - `InvalidArgumentError(A8)`: the numbers of arrays, lists of encodings and trees differ; an array and its tree do not go together (as
 ///   `array_to_columns` says), or its encodings are not as many as its leaves.
 /// - `NotYetImplemented(N7)`: a tree nests past 128.
-/// - `NotYetImplemented(N4)`: a flat column in another encoding than PLAIN and the deltas that its type may have.
-/// - `NotYetImplemented(N5)`: values of a leaf's type are not written in such a column.
+/// - `NotYetImplemented(N4)`: a dictionary in another encoding than the two of dictionaries, or another flat column in another encoding than PLAIN
+///   and the deltas that its type may have.
+/// - `NotYetImplemented(N5)`: values of a leaf's type, or a dictionary of such entries, are not written in such a column.
 /// - `InvalidArgumentError(A7)`: a decimal is past what its physical type holds.
 /// - `Memory`: memory ran out.
 pub fn row_group_iter(

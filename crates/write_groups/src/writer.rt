@@ -144,7 +144,7 @@ impl<W: Sink + Drop> FileWriter<W> {
     /// - `InvalidArgumentError(A8)`: the file has ended; or the trees are not those of the schema, the arrays do not have its types, or the version of
     ///   pages or whether there are statistics is not as the writer has it.
     /// - `WriteFault`: the sink failed. `Memory`: memory ran out.
-    /// - `Overflow(V3)`: the room of a page passes 2^31 - 1; or the rows of the file, the level pairs of a column or the bytes of the pages pass 2^63 - 1.
+    /// - `Overflow(V3)`: the room of a page, also of a dictionary page, passes 2^31 - 1; or the rows of the file, the level pairs of a column or the bytes of the pages pass 2^63 - 1.
     pub fn write(&mut self, row_group: RowGroupIter) -> Result<()>
         ensures ok { (before : Option (List ℕ)) (groups : List OutGroup) → IsWriting W.taken before self.old groups → HasColumns row_group → OnOk result (Adds W.taken before groups row_group self.old self.new) }
         ensures schema { self.new.file.schema ≡ self.old.file.schema }

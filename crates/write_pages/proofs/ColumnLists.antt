@@ -18,7 +18,9 @@ use Rattle.pq_tree.specs.Tree.{Tree, leaf, group}
 use Rattle.pq_tree.specs.TreeViews.{leaf_view}
 use Rattle.write_pages.specs.declared.options.WriteOptions.{WriteOptions}
 use Rattle.write_pages.specs.Columns.{AnyRefused, AreColumns, LeafNode, PushesColumn, RefusesColumn}
-use Rattle.write_pages.specs.Holds.{IsPagesOf, PageState, to_give}
+use Rattle.write_pages.specs.declared.pages.PageIter.{PageIter}
+use Rattle.write_pages.specs.Given.{to_give}
+use Rattle.write_pages.specs.Holds.{IsPagesOf}
 use Rattle.write_pages.specs.Refused.{AreWritten}
 use Rattle.std.specs.Prelude.{None}
 
@@ -46,7 +48,7 @@ module _ (o : WriteOptions) (types : List PrimitiveType) (paths : List (Vec Nest
   pub refused_here : (x : Error) → RefusesColumn o (leaf_node type_) (parts_of path.items) (boxed array.now) e x → AnyRefused o (map leaf_node (drop i types)) (all_parts (drop i paths)) (shown (drop i arrays)) (drop i es) x
   refused_here x h = refused x (inl h)
 
-pub is_column : (o : WriteOptions) (other type_ : PrimitiveType) (parts : List Part) (a : ArrayTree) (e : Encoding) (old new : List PageState) (s : PageState) → leaf_view other ≡ leaf_view type_ → new ≡ old ++ (s ∷ []) → AreWritten o other parts a e → IsPagesOf o other parts a e (to_give s) → PushesColumn o type_ parts a e old new
+pub is_column : (o : WriteOptions) (other type_ : PrimitiveType) (parts : List Part) (a : ArrayTree) (e : Encoding) (old new : List PageIter) (s : PageIter) → leaf_view other ≡ leaf_view type_ → new ≡ old ++ (s ∷ []) → AreWritten o other parts a e → IsPagesOf o other parts a e (to_give s) → PushesColumn o type_ parts a e old new
 is_column o other type_ parts a e old new s q p w h = record {
   pages = s;
   pushed = p;

@@ -1,7 +1,13 @@
 pub mod AlongPath
 pub mod ArrayColumns
+pub mod ColumnForms
 pub mod ColumnLists
+pub mod DictionaryColumns
+pub mod DictionaryRows
+pub mod EntryRows
 pub mod HiddenPaths
+pub mod KeyedArrays
+pub mod KeyedStored
 pub mod Looked
 pub mod Moved
 pub mod PageRows
@@ -10,5 +16,6 @@ pub mod PiecesLeft
 pub mod RowRule
 pub mod StoredOnce
 pub mod StoredBytes
+pub mod ValuePages
 pub mod WidePieces
 pub mod WrittenForms

@@ -1,5 +1,5 @@
 -- What a page of a path holds of the rows of its array.
-use Rattle.std.proofs.Common.{◌≡◌, ◌⊎◌, ◌↔◌, ◌<◌, ◌-◌, ◌^◌, ℕ, min, Bool, true, Option, suc, List, [], ◌∷◌, length, refl, sym, ap, subst, ◌∙◌, inl, inr}
+use Rattle.std.proofs.Common.{◌≡◌, ◌⊎◌, ◌↔◌, ◌<◌, ◌-◌, ◌^◌, ℕ, min, Bool, true, Option, None, suc, List, [], ◌∷◌, length, refl, sym, ap, subst, ◌∙◌, inl, inr}
 use Rattle.std.specs.Prelude.{Result, Ok, Err, IfOk}
 use Rattle.shredding.specs.Parts.{path_way, path_slots}
 use Rattle.shredding.specs.Shred.{Triple, column}
@@ -78,7 +78,7 @@ module _ (a : ArrayTree) (p : Physical) (nested : List Nested) (s : IsSound a) (
   rows_stored h = subst (λ (xs : List Triple). AreStored (leaf_type (type_of a)) p xs (stored_column a p nested)) column_is h
 
   pub holds_rows : (o : WriteOptions) (with_deltas : Bool) (type_ : PrimitiveType) (page : DataPageValue) → AreStored (leaf_type (type_of a)) p (value_column a nested) (stored_column a p nested) → IsColumnPage (form_of o with_deltas) a p type_ nested page
-      → HoldsRows o (page_encoding with_deltas (leaf_type (type_of a)) p) (leaf_type (type_of a)) (leaf_view type_) p (path_way (parts_of nested)) (path_slots (leaf_slot a) (parts_of nested)) page
+      → HoldsRows o (page_encoding with_deltas (leaf_type (type_of a)) p) (leaf_type (type_of a)) (leaf_view type_) p (path_way (parts_of nested)) None (path_slots (leaf_slot a) (parts_of nested)) page
   holds_rows o with_deltas type_ page are h = record {
     out = out_page (page_encoding with_deltas (leaf_type (type_of a)) p) (stored_column a p nested) h.statistics;
     denotes = h.denotes;

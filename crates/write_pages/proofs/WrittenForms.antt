@@ -1,18 +1,19 @@
 -- The encodings in which pages are written.
-use Rattle.std.proofs.Common.{◌≡◌, ◌≢◌, ℕ, Bool, true, false, true≢false, cond, Some, List, refl, sym, ap, inl, inr}
+use Rattle.std.proofs.Common.{◌≡◌, ◌≢◌, ℕ, Bool, true, false, true≢false, cond, Some, List, refl, sym, ap, ◌∙◌, inl, inr}
 use Rattle.std.specs.Prelude.{◌&&◌}
 use Rattle.shredding.specs.Parts.{Part}
 use Rattle.shredding.specs.Shape.{LeafType, nothing, truths, text, binary, signed, unsigned, fixed_bytes, decimal, months, days}
 use Rattle.columns_core.specs.Shapes.{base, leaf_type}
-use Rattle.columns_core.specs.Tree.{TypeTree, t_decimal, t_fixed_size_binary, t_interval, t_null, t_boolean, t_int8, t_int16, t_int32, t_int64, t_uint8, t_uint16, t_uint32, t_uint64, t_timestamp, t_date32, t_date64, t_time32, t_time64, t_duration, t_binary, t_large_binary, t_utf8, t_large_utf8, t_extension}
+use Rattle.columns_core.specs.Tree.{TypeTree, t_decimal, t_fixed_size_binary, t_interval, t_null, t_boolean, t_int8, t_int16, t_int32, t_int64, t_uint8, t_uint16, t_uint32, t_uint64, t_timestamp, t_date32, t_date64, t_time32, t_time64, t_duration, t_binary, t_large_binary, t_utf8, t_large_utf8, t_dictionary, t_extension}
+use Rattle.columns_core.specs.declared.types.IntegerType.{IntegerType}
 use Rattle.columns_core.specs.declared.types.IntervalUnit.TheVariants.{YearMonth, DayTime}
 use Rattle.columns_slots.specs.Types.{is_boolean}
-use Rattle.pq_tree.specs.Physical.{Physical, boolean, int32, int64, byte_array, fixed}
+use Rattle.pq_tree.specs.Physical.{Physical, boolean, int32, int64, int96, float, double, byte_array, fixed}
 use Rattle.pq_tree.specs.declared.types.Encoding.{Encoding as RustEncoding}
 use Rattle.pq_tree.specs.declared.types.Encoding.TheVariants as E
 use Rattle.pq_files.specs.Layout.{delta_of}
 use Rattle.pq_files.specs.Page.{Encoding, plain, delta, delta_length}
-use Rattle.schema_to_tree.specs.Encodes.{is_delta, is_strings}
+use Rattle.schema_to_tree.specs.Encodes.{is_delta, is_dictionary, is_strings}
 use Rattle.write_values.specs.Deltas.{page_encoding}
 use Rattle.write_values.specs.Served.{is_decimal, is_small, is_wide, is_string, is_fixed, is_served}
 use Rattle.write_values.proofs.ServedTypes.{either}
@@ -71,6 +72,21 @@ wide_no_string (t_duration u) e = refl
 wide_no_string t_uint32 e = refl
 wide_no_string t_uint64 e = refl
 wide_no_string t e = absurd (true≢false (sym e))
+
+-- values that are written alone are of no dictionary
+keys_unserved : (k : IntegerType) (u : TypeTree) (s : Bool) (p : Physical) → is_served (t_dictionary k u s) p ≡ false
+keys_unserved k u s boolean = refl
+keys_unserved k u s int32 = refl
+keys_unserved k u s int64 = refl
+keys_unserved k u s int96 = refl
+keys_unserved k u s float = refl
+keys_unserved k u s double = refl
+keys_unserved k u s byte_array = refl
+keys_unserved k u s (fixed n) = refl
+
+pub served_no_keys : (t : TypeTree) (p : Physical) → is_served t p ≡ true → is_dictionary t ≡ false
+served_no_keys (t_dictionary k u s) p e = absurd (true≢false (sym e ∙ keys_unserved k u s p))
+served_no_keys t p e = refl
 
 -- ---- the encoding by the leaf type
 
@@ -154,11 +170,11 @@ module _ (l : LeafType) (n : l ≢ nothing) (t : TypeTree) where
   flat p E.Plain s h = refl
   flat p E.DeltaBinaryPacked s h = numbers p s h
   flat p E.DeltaLengthByteArray s h = strings p s h
-  flat p E.PlainDictionary s h = absurd (h refl)
+  flat p E.PlainDictionary s h = absurd (h (served_no_keys (base t) p s))
   flat p E.Rle s h = absurd (h refl)
   flat p E.BitPacked s h = absurd (h refl)
   flat p E.DeltaByteArray s h = absurd (h refl)
-  flat p E.RleDictionary s h = absurd (h refl)
+  flat p E.RleDictionary s h = absurd (h (served_no_keys (base t) p s))
 
 -- the encoding of the pages of a column that are written
 pub deltas_written : (t : TypeTree) (p : Physical) (parts : List Part) (e : RustEncoding) → ¬ IsUnwritten parts t p e → is_served (base t) p ≡ true → written_encoding (leaf_type t) parts e ≡ Some (page_encoding (wants_deltas parts e) (leaf_type t) p)

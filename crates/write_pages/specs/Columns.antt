@@ -9,7 +9,9 @@ use Rattle.pq_tree.specs.declared.types.PrimitiveType.{PrimitiveType}
 use Rattle.pq_tree.specs.Physical.{Physical}
 use Rattle.pq_tree.specs.Types.{Info}
 use Rattle.write_pages.specs.declared.options.WriteOptions.{WriteOptions}
-use Rattle.write_pages.specs.Holds.{IsPagesOf, PageState, ToGive, to_give}
+use Rattle.write_pages.specs.declared.pages.PageIter.{PageIter}
+use Rattle.write_pages.specs.Given.{to_give}
+use Rattle.write_pages.specs.Holds.{IsPagesOf, ToGive}
 use Rattle.write_pages.specs.Refused.{AreWritten, RefusesPages}
 
 -- what a leaf of a tree says of itself: its node, and its physical type
@@ -44,7 +46,7 @@ AreShort [] = Unit {0}
 AreShort (parts ∷ paths) = (length parts ≤ 128) × AreShort paths
 
 -- the pages of a column come behind those of others
-pub record PushesColumn (o : WriteOptions) (type_ : PrimitiveType) (parts : List Part) (a : ArrayTree) (e : Encoding) (old new : List PageState) : Type 0 where
-  pub pages : PageState
+pub record PushesColumn (o : WriteOptions) (type_ : PrimitiveType) (parts : List Part) (a : ArrayTree) (e : Encoding) (old new : List PageIter) : Type 0 where
+  pub pages : PageIter
   pub pushed : new ≡ old ++ (pages ∷ [])
   pub column : IsColumn o (leaf_node type_) parts a e (to_give pages)

@@ -1,5 +1,8 @@
+pub mod Entries
 pub mod Fits
+pub mod Given
 pub mod Holds
+pub mod Keyed
 pub mod Nulls
 pub mod Refused
 pub mod Rule

@@ -13,7 +13,7 @@ ghost use Rattle.nested_paths.specs.Taken.{all_parts, shown};
 ghost use Rattle.pq_tree.specs.Tree.{leaves};
 ghost use Rattle.pq_tree.specs.TreeViews.{tree_view};
 ghost use Rattle.write_pages.specs.Columns.{AnyRefused, AreColumns, AreShort, PushesColumn, RefusesColumn};
-ghost use Rattle.write_pages.specs.Holds.{to_give};
+ghost use Rattle.write_pages.specs.Given.{to_give};
 
 use crate::options::WriteOptions;
 use crate::pages::{PageIter, array_to_pages};

@@ -4,7 +4,8 @@ ghost use Rattle.shredding.specs.Along.{IsAlong};
 ghost use Rattle.shredding.specs.Parts.{path_way, slot_count};
 ghost use Rattle.columns_base.specs.declared.error.Error.TheVariants.{Memory};
 ghost use Rattle.columns_array.specs.Boxed.{boxed};
-ghost use Rattle.columns_slots.specs.Slots.{tree_len};
+ghost use Rattle.columns_slots.specs.Slots.{cut, tree_len};
+ghost use Rattle.nested_slice.specs.CutPath.{cut_parts, leaf_rows};
 ghost use Rattle.levels.specs.InBounds.{IsInBounds};
 ghost use Rattle.levels.specs.Nested.{parts_of};
 ghost use Rattle.levels.specs.Ranges.{leaf_count_or};
@@ -58,6 +59,8 @@ pub fn cut_column(
     requires leaf { tree_len (boxed array.now) ≡ leaf_count_or 0 (parts_of nested.now) }
     requires rows { first + count ≤ slot_count (parts_of nested.now) }
     ensures ok { IfOk result (IsCutColumn (boxed array.now) (parts_of nested.now) first count) }
+    ensures tree { IfOk result (λ c. boxed c.array ≡ cut (boxed array.now) (leaf_rows (parts_of nested.now) first count).0 (leaf_rows (parts_of nested.now) first count).1) }
+    ensures path { IfOk result (λ c. parts_of c.nested.items ≡ cut_parts (parts_of nested.now) first count) }
     ensures err { IfErr result (λ e. e ≡ Memory) }
 {
     cut_leaves_are_seen();

@@ -25,6 +25,7 @@ ghost use Rattle.write_pages.specs.Holds.{is_delta_encoding, rows_of, wants_delt
 ghost use Rattle.write_pages.specs.Refused.{IsUnwritten};
 
 use crate::cut_column::cut_column;
+use crate::keys::is_dictionary;
 use crate::nulls::{is_null, seen_path};
 use columns_array::ArrayBox;
 use columns_core::{A, DataType, Error, IntervalUnit, N, Result};
@@ -35,9 +36,9 @@ use schema_to_tree::can_encode;
 use std::alloc::Global;
 use write_values::{is_decimal, is_served};
 
-const MISFIT: Error = Error::InvalidArgumentError(A::A8);
+pub const MISFIT: Error = Error::InvalidArgumentError(A::A8);
 
-fn is_flat(nested: &[Nested]) -> bool
+pub fn is_flat(nested: &[Nested]) -> bool
     ensures { result ≡ is_flat_path (parts_of nested.now) }
 {
     nested.len() == 1
@@ -64,6 +65,7 @@ fn is_written_as(data_type: &DataType, physical_type: PhysicalType, encoding: En
 {
     match encoding {
         Encoding::Plain => true,
+        Encoding::PlainDictionary | Encoding::RleDictionary => is_dictionary(data_type),
         Encoding::DeltaLengthByteArray => allows_deltas(data_type, encoding),
         Encoding::DeltaBinaryPacked => {
             !is_fixed(physical_type) && allows_deltas(data_type, encoding)
@@ -140,7 +142,7 @@ pub fn check_written(
 }
 
 // Whether the leaf of a path may be null.
-fn is_leaf_optional(nested: &[Nested]) -> bool
+pub fn is_leaf_optional(nested: &[Nested]) -> bool
     ensures { result ≡ is_leaf_optional (parts_of nested.now) }
 {
     let mut parts = nested;
@@ -154,7 +156,7 @@ fn is_leaf_optional(nested: &[Nested]) -> bool
 }
 
 // Whether the leaf of a tree may be null.
-fn is_optional(type_: &PrimitiveType) -> bool
+pub fn is_optional(type_: &PrimitiveType) -> bool
     ensures { result ≡ is_optional (leaf_view type_.now) }
 {
     type_.field_info.repetition != Repetition::Required

@@ -3,7 +3,13 @@
 
 mod columns;
 mod cut_column;
+pub mod dictionary;
 mod fit;
+mod keyed_column;
+mod keyed_fit;
+mod keyed_pages;
+mod keys;
+mod leaf_pages;
 mod nulls;
 mod options;
 mod page;
@@ -12,6 +18,8 @@ mod rule;
 
 pub use columns::array_to_columns;
 pub use fit::is_written_in;
+pub use keyed_pages::DictionaryPages;
+pub use leaf_pages::LeafPages;
 pub use options::WriteOptions;
 pub use page::array_to_page;
 pub use pages::{PageIter, array_to_pages};

@@ -1,5 +1,5 @@
 //! One page of a path.
-ghost use Rattle.std.specs.Prelude.{◌≡◌, ◌⊎◌, ◌≤◌, true, false, length, All, IfOk, OnOk, IfErr, Some};
+ghost use Rattle.std.specs.Prelude.{◌≡◌, ◌⊎◌, ◌≤◌, true, false, length, All, IfOk, OnOk, IfErr, Some, None};
 ghost use Rattle.shredding.specs.Along.{IsAlong};
 ghost use Rattle.shredding.specs.Parts.{IsPath, path_way, path_slots};
 ghost use Rattle.shredding.specs.Shred.{column};
@@ -52,7 +52,7 @@ pub fn page_of_rows(
     requires nulls { TellsNulls (boxed array.now) (parts_of nested.now) }
     requires served { is_served (base (type_of (boxed array.now))) (physical_view type_.physical_type) ≡ true }
     requires held { ¬ HasWide (leaf_type (type_of (boxed array.now))) (physical_view type_.physical_type) (column (path_way (parts_of nested.now)) (path_slots (leaf_slot (boxed array.now)) (parts_of nested.now))) }
-    ensures ok { IfOk result (HoldsRows options (page_encoding with_deltas (leaf_type (type_of (boxed array.now))) (physical_view type_.physical_type)) (leaf_type (type_of (boxed array.now))) (leaf_view type_) (physical_view type_.physical_type) (path_way (parts_of nested.now)) (path_slots (leaf_slot (boxed array.now)) (parts_of nested.now))) }
+    ensures ok { IfOk result (HoldsRows options (page_encoding with_deltas (leaf_type (type_of (boxed array.now))) (physical_view type_.physical_type)) (leaf_type (type_of (boxed array.now))) (leaf_view type_) (physical_view type_.physical_type) (path_way (parts_of nested.now)) None (path_slots (leaf_slot (boxed array.now)) (parts_of nested.now))) }
     ensures too_large { ComesWhere (Overflow V3) (IsPastRoom (leaf_type (type_of (boxed array.now))) (physical_view type_.physical_type) (column (path_way (parts_of nested.now)) (path_slots (leaf_slot (boxed array.now)) (parts_of nested.now)))) result }
     ensures err { IfErr result (λ e. (e ≡ Memory) ⊎ (e ≡ Overflow V3)) }
 {
@@ -80,7 +80,7 @@ fn seen_page(
     requires reached { All (IsAlong (path_way (parts_of nested.now))) (path_slots (leaf_slot (boxed array.now)) (parts_of nested.now)) }
     requires served { is_served (base (type_of (boxed array.now))) (physical_view type_.physical_type) ≡ true }
     requires held { ¬ HasWide (leaf_type (type_of (boxed array.now))) (physical_view type_.physical_type) (column (path_way (parts_of nested.now)) (path_slots (leaf_slot (boxed array.now)) (parts_of nested.now))) }
-    ensures ok { IfOk result (HoldsRows options (page_encoding with_deltas (leaf_type (type_of (boxed array.now))) (physical_view type_.physical_type)) (leaf_type (type_of (boxed array.now))) (leaf_view type_) (physical_view type_.physical_type) (path_way (parts_of nested.now)) (path_slots (leaf_slot (boxed array.now)) (parts_of nested.now))) }
+    ensures ok { IfOk result (HoldsRows options (page_encoding with_deltas (leaf_type (type_of (boxed array.now))) (physical_view type_.physical_type)) (leaf_type (type_of (boxed array.now))) (leaf_view type_) (physical_view type_.physical_type) (path_way (parts_of nested.now)) None (path_slots (leaf_slot (boxed array.now)) (parts_of nested.now))) }
     ensures too_large { ComesWhere (Overflow V3) (IsPastRoom (leaf_type (type_of (boxed array.now))) (physical_view type_.physical_type) (column (path_way (parts_of nested.now)) (path_slots (leaf_slot (boxed array.now)) (parts_of nested.now)))) result }
     ensures err { IfErr result (λ e. (e ≡ Memory) ⊎ (e ≡ Overflow V3)) }
 {
@@ -114,10 +114,10 @@ pub fn check_held(array: &ArrayBox, physical_type: PhysicalType, nested: &[Neste
 ///
 /// # Errors
 ///
-/// - `NotYetImplemented(N4)` exactly where the page is not written so: a flat path in another encoding than PLAIN and the deltas that the type may
-///   have (`is_written_as`).
+/// - `NotYetImplemented(N4)` exactly where the page is not written so: a flat path in another encoding than PLAIN, the deltas that the type may
+///   have, and those of dictionaries where it is one (`is_written_as`).
 /// - `NotYetImplemented(N5)` exactly where it is, and values of the array's type are not written in such a column (`is_written_in`): fixed byte
-///   strings, decimals and intervals are in flat ones alone.
+///   strings, decimals and intervals are in flat ones alone, and a dictionary's page stands behind a dictionary page.
 /// - `InvalidArgumentError(A7)` exactly where neither is so, and a decimal is past what its physical type holds.
 /// - `Overflow(V3)` exactly where nothing of this is so, and the room of the page passes 2^31 - 1.
 /// - `Memory`.
@@ -132,7 +132,7 @@ pub fn array_to_page(
     requires well { IsPath (parts_of nested.now) }
     requires parts { length nested.now ≤ 128 }
     requires fits { FitsColumn (parts_of nested.now) (path_slots (leaf_slot (boxed array.now)) (parts_of nested.now)) (leaf_view type_) (physical_view type_.physical_type) (boxed array.now) }
-    ensures ok { IfOk result (λ p. (page : DataPageValue) × (p ≡ Data page) × (e : PageEncoding) × (written_encoding (leaf_type (type_of (boxed array.now))) (parts_of nested.now) encoding ≡ Some e) × HoldsRows options e (leaf_type (type_of (boxed array.now))) (leaf_view type_) (physical_view type_.physical_type) (path_way (parts_of nested.now)) (path_slots (leaf_slot (boxed array.now)) (parts_of nested.now)) page) }
+    ensures ok { IfOk result (λ p. (page : DataPageValue) × (p ≡ Data page) × (e : PageEncoding) × (written_encoding (leaf_type (type_of (boxed array.now))) (parts_of nested.now) encoding ≡ Some e) × HoldsRows options e (leaf_type (type_of (boxed array.now))) (leaf_view type_) (physical_view type_.physical_type) (path_way (parts_of nested.now)) None (path_slots (leaf_slot (boxed array.now)) (parts_of nested.now)) page) }
     ensures form { ComesWhere (NotYetImplemented N4) (IsUnwritten (parts_of nested.now) (type_of (boxed array.now)) (physical_view type_.physical_type) encoding) result }
     ensures unserved { ComesWhere (NotYetImplemented N5) ((¬ IsUnwritten (parts_of nested.now) (type_of (boxed array.now)) (physical_view type_.physical_type) encoding) × (is_written_along (parts_of nested.now) (boxed array.now) ≡ false)) result }
     ensures too_wide { ComesWhere (InvalidArgumentError A7) ((¬ IsUnwritten (parts_of nested.now) (type_of (boxed array.now)) (physical_view type_.physical_type) encoding) × (is_written_along (parts_of nested.now) (boxed array.now) ≡ true) × HasWide (leaf_type (type_of (boxed array.now))) (physical_view type_.physical_type) (column (path_way (parts_of nested.now)) (path_slots (leaf_slot (boxed array.now)) (parts_of nested.now)))) result }

@@ -6,6 +6,8 @@ mod arrays;
 #[cfg(test)]
 mod column_tests;
 #[cfg(test)]
+mod dictionary_tests;
+#[cfg(test)]
 mod shapes;
 #[cfg(test)]
 mod table_tests;

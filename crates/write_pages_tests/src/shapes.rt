@@ -92,12 +92,14 @@ pub fn options(version: Version) -> WriteOptions {
     }
 }
 
+// The pages of the column of the shape.
 fn pages(
     alloc: Global,
     array: &ArrayBox,
     physical_type: PhysicalType,
     shape: Shape,
     version: Version,
+    encoding: Encoding,
 ) -> Result<PageIter> {
     let path = path(alloc, shape)?;
     // a path of a schema is no deeper
@@ -105,13 +107,24 @@ fn pages(
         return Err(Error::InvalidArgumentError(A::A8));
     }
     let type_ = leaf(alloc, physical_type)?;
-    array_to_pages(
+    array_to_pages(alloc, array, type_, &path, options(version), encoding)
+}
+
+/// The pages of the dictionary's column of the shape.
+pub fn pages_along(
+    alloc: Global,
+    array: &ArrayBox,
+    physical_type: PhysicalType,
+    shape: Shape,
+    version: Version,
+) -> Result<PageIter> {
+    pages(
         alloc,
         array,
-        type_,
-        &path,
-        options(version),
-        Encoding::Plain,
+        physical_type,
+        shape,
+        version,
+        Encoding::RleDictionary,
     )
 }
 
@@ -163,16 +176,14 @@ fn states(header: &DataPageHeader, shape: Shape, wanted: Wanted<'_>) -> bool {
     }
 }
 
-// Whether the column of the shape is one page of the wanted bytes, and both state what is wanted.
-fn is_written_so(
+/// Whether the next page is the last one, has the wanted bytes behind its levels, and it and the column state what is wanted.
+pub fn ends_so(
     alloc: Global,
-    array: &ArrayBox,
-    physical_type: PhysicalType,
+    pages: &mut PageIter,
     wanted: Wanted<'_>,
     shape: Shape,
     version: Version,
 ) -> Result<bool> {
-    let mut pages = pages(alloc, array, physical_type, shape, version)?;
     let column = are_stated(pages.statistics(), shape, wanted);
     let body = body(alloc, wanted.plain, shape, version)?;
     match pages.next_page() {
@@ -185,6 +196,19 @@ fn is_written_so(
         Some(Err(error)) => Err(error),
         _ => Ok(false),
     }
+}
+
+// Whether the column of the shape is one page of the wanted bytes, and both state what is wanted.
+fn is_written_so(
+    alloc: Global,
+    array: &ArrayBox,
+    physical_type: PhysicalType,
+    wanted: Wanted<'_>,
+    shape: Shape,
+    version: Version,
+) -> Result<bool> {
+    let mut pages = pages(alloc, array, physical_type, shape, version, Encoding::Plain)?;
+    ends_so(alloc, &mut pages, wanted, shape, version)
 }
 
 /// Whether the flat column is written as wanted in both versions.
@@ -238,7 +262,14 @@ pub fn is_unserved(
     shape: Shape,
 ) -> bool {
     matches!(
-        pages(alloc, array, physical_type, shape, Version::V1),
+        pages(
+            alloc,
+            array,
+            physical_type,
+            shape,
+            Version::V1,
+            Encoding::Plain
+        ),
         Err(Error::NotYetImplemented(columns_base::N::N5))
     )
 }

@@ -85,15 +85,15 @@ each_present : (w : Way) (ts : List Triple) → Each (IsWithin w) ts → Each (�
 each_present w [] h = tt
 each_present w (t ∷ ts) h = (h.0.present, each_present w ts h.1)
 
--- The text of the values in a column with these entries stands behind the level sections.
-pub denotes_in : (version : Version) (e : Encoding) (p : Physical) (entries : Option (List Value)) (stored : ℕ → Value) (st : Option Statistics) (nested : List Nested) (levels buffer text : List ℕ) (r d : ℕ) (header : DataPageHeader) (about : Descriptor) → IsPath (parts_of nested)
+-- The text of the values in a column with these entries stands behind the level sections, within the page's room.
+pub denotes_within : (version : Version) (e : Encoding) (p : Physical) (entries : Option (List Value)) (stored : ℕ → Value) (st : Option Statistics) (nested : List Nested) (levels buffer text : List ℕ) (r d : ℕ) (header : DataPageHeader) (about : Descriptor) → IsPath (parts_of nested)
     → AppendsSections version (path_way (parts_of nested)) (nested_column stored nested) [] levels (r, d) → buffer ≡ levels ++ text
     → ((l : Leaf) → l.physical ≡ p → IsWrittenSpelled e l entries text (map stored (path_places (parts_of nested))))
-    → length text ≤ plain_length p (map stored (path_places (parts_of nested))) + (11 * length (map stored (path_places (parts_of nested))) + 310)
+    → length buffer ≤ room (length (nested_column stored nested)) (plain_length p (values_in (nested_column stored nested)))
     → IsHeader version (out_page e (nested_column stored nested) st) r d header
     → room (length (nested_column stored nested)) (plain_length p (values_in (nested_column stored nested))) ≤ max_size
     → Denotes version p (shred.max_repetition (path_way (parts_of nested))) (shred.max_definition (path_way (parts_of nested))) entries (out_page e (nested_column stored nested) st) (record { header = header; buffer = buffer; descriptor = about })
-denotes_in version e p entries stored st nested levels buffer text r d header about well s whole_is spelled size_is h fits =
+denotes_within version e p entries stored st nested levels buffer text r d header about well s whole_is spelled most h fits =
     let parts = parts_of nested in
     let w = path_way parts in
     let ts = nested_column stored nested in
@@ -105,10 +105,6 @@ denotes_in version e p entries stored st nested levels buffer text r d header ab
     let whole : buffer ≡ (s.repetition ++ s.definition) ++ text = whole_is ∙ ap (λ (t : List ℕ). t ++ text) s.parts in
     let sizes_r : r ≡ length s.repetition = ap (λ (x : ℕ × ℕ). x.0) s.sizes_are in
     let sizes_d : d ≡ length s.definition = ap (λ (x : ℕ × ℕ). x.1) s.sizes_are in
-    let bytes : length text ≤ plain_length p (values_in ts) + (11 * length (values_in ts) + 310) = subst (λ (us : List Value). length text ≤ plain_length p us + (11 * length us + 310)) vs size_is in
-    let few : length (values_in ts) ≤ length ts = omega (arith, nulls_and_values ts) in
-    let size : length buffer ≡ length s.repetition + length s.definition + length text = ap length whole ∙ (length-append (s.repetition ++ s.definition) text ∙ omega (arith, length-append s.repetition s.definition)) in
-    let most : length buffer ≤ room (length ts) (plain_length p (values_in ts)) = omega (arith, size, s.tight, bytes, few) in
     record {
       is = λ l leaf. record {
         definition = d;
@@ -135,6 +131,24 @@ denotes_in version e p entries stored st nested levels buffer text r d header ab
       within = most;
       fits = omega (arith, most, fits);
     }
+
+-- The same of a text with at most 11 bytes a value and 310 beside the plain spelling.
+pub denotes_in : (version : Version) (e : Encoding) (p : Physical) (entries : Option (List Value)) (stored : ℕ → Value) (st : Option Statistics) (nested : List Nested) (levels buffer text : List ℕ) (r d : ℕ) (header : DataPageHeader) (about : Descriptor) → IsPath (parts_of nested)
+    → AppendsSections version (path_way (parts_of nested)) (nested_column stored nested) [] levels (r, d) → buffer ≡ levels ++ text
+    → ((l : Leaf) → l.physical ≡ p → IsWrittenSpelled e l entries text (map stored (path_places (parts_of nested))))
+    → length text ≤ plain_length p (map stored (path_places (parts_of nested))) + (11 * length (map stored (path_places (parts_of nested))) + 310)
+    → IsHeader version (out_page e (nested_column stored nested) st) r d header
+    → room (length (nested_column stored nested)) (plain_length p (values_in (nested_column stored nested))) ≤ max_size
+    → Denotes version p (shred.max_repetition (path_way (parts_of nested))) (shred.max_definition (path_way (parts_of nested))) entries (out_page e (nested_column stored nested) st) (record { header = header; buffer = buffer; descriptor = about })
+denotes_in version e p entries stored st nested levels buffer text r d header about well s whole_is spelled size_is h fits =
+    let ts = nested_column stored nested in
+    let vs : map stored (path_places (parts_of nested)) ≡ values_in ts = sym (values_are_at_places stored nested) in
+    let whole : buffer ≡ (s.repetition ++ s.definition) ++ text = whole_is ∙ ap (λ (t : List ℕ). t ++ text) s.parts in
+    let bytes : length text ≤ plain_length p (values_in ts) + (11 * length (values_in ts) + 310) = subst (λ (us : List Value). length text ≤ plain_length p us + (11 * length us + 310)) vs size_is in
+    let few : length (values_in ts) ≤ length ts = omega (arith, nulls_and_values ts) in
+    let size : length buffer ≡ length s.repetition + length s.definition + length text = ap length whole ∙ (length-append (s.repetition ++ s.definition) text ∙ omega (arith, length-append s.repetition s.definition)) in
+    let most : length buffer ≤ room (length ts) (plain_length p (values_in ts)) = omega (arith, size, s.tight, bytes, few) in
+    denotes_within version e p entries stored st nested levels buffer text r d header about well s whole_is spelled most h fits
 
 pub denotes : (version : Version) (e : Encoding) (p : Physical) (stored : ℕ → Value) (st : Option Statistics) (nested : List Nested) (body : Body) (header : DataPageHeader) (d : Descriptor) → IsPath (parts_of nested)
     → IsBody version e p nested stored body → IsHeader version (out_page e (nested_column stored nested) st) body.repetition body.definition header

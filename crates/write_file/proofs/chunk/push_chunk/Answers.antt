@@ -11,7 +11,7 @@ use Rattle.pq_tree.specs.Views.{statistics_view}
 use Rattle.std.specs.Prelude.{Bool, cond, is_some, string_bytes}
 use Rattle.shredding.specs.Slot.{Value}
 use Rattle.write_file.proofs.Encoded.{first_is, all_are}
-use Rattle.write_file.proofs.Dictionaries.{has_entries, offset_is}
+use Rattle.write_file.proofs.Dictionaries.{few_entries, has_entries, offset_is}
 use Rattle.write_file.proofs.Reasons.{both}
 use Rattle.write_file.proofs.chunk.push_chunk.Goals as goal
 
@@ -58,7 +58,7 @@ returns-clause-ok g c = λ version l k physical names begins some.
     let dictionary : c.dictionary_offset.result ≡ option_map (λ (entries : List Value). pos c.args.start) k.entries = c.dictionary_offset.ensures ∙ (ap (λ (b : Bool). cond b (Some (pos c.args.start)) None) has ∙ offset_is c.args.start k.entries) in
     let stated : SFits w64 (pos c.in-Ok-push_column.placed.pairs) = subst (SFits w64) c.stated-2.ensures fits_pairs in
     let counted : pairs_in k ≤ max_count = omega (arith, stated, p.7) in
-    let statistics : option_map statistics_view c.in_ok-statistics.statistics ≡ option_map statistics_of k.statistics = c.in_ok-statistics.ensures.ok ∙ c.statistics.ensures version l k begins counted in (
+    let statistics : option_map statistics_view c.in_ok-statistics.statistics ≡ option_map statistics_of k.statistics = c.in_ok-statistics.ensures.ok ∙ c.statistics.ensures version l k begins counted (few_entries l k.entries _ d.0) in (
       text,
       w,
       p.2,

@@ -6,7 +6,8 @@ use Rattle.nested_paths.specs.Leaves.{leaf_node}
 use Rattle.pq_tree.specs.declared.types.Encoding.TheVariants as E
 use Rattle.nested_paths.specs.Taken.{all_parts, shown}
 use Rattle.write_pages.specs.Columns.{AreColumns, RefusesColumn}
-use Rattle.write_pages.specs.Holds.{ToGive, to_give}
+use Rattle.write_pages.specs.Given.{to_give}
+use Rattle.write_pages.specs.Holds.{ToGive}
 use Rattle.write_pages.proofs.ColumnLists.{front_at, front_of, none_more, refused_here}
 use Rattle.write_pages.proofs.columns.pages_of_all.Goals as goal
 

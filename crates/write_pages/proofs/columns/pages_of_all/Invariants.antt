@@ -3,7 +3,8 @@ use Rattle.columns_base.specs.declared.error.Error.{Error}
 use Rattle.nested_paths.specs.Leaves.{leaf_node}
 use Rattle.nested_paths.specs.Taken.{all_parts, shown}
 use Rattle.write_pages.specs.Columns.{AnyRefused, AreColumns, AreShort}
-use Rattle.write_pages.specs.Holds.{ToGive, to_give}
+use Rattle.write_pages.specs.Given.{to_give}
+use Rattle.write_pages.specs.Holds.{ToGive}
 use Rattle.write_pages.proofs.columns.pages_of_all.Given as goal
 
 abbrev pub invariant-loop-i : goal.invariant-loop-i

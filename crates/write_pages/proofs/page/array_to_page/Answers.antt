@@ -1,4 +1,4 @@
-use Rattle.std.proofs.Common.{Bool, refl, subst}
+use Rattle.std.proofs.Common.{Bool, None, refl, subst}
 use Rattle.std.proofs.lemmas.Result.{err_from_is_err_and}
 use Rattle.columns_base.specs.declared.error.Error.TheVariants.{NotYetImplemented, Overflow}
 use Rattle.columns_base.specs.declared.error.N.TheVariants.{N4}
@@ -28,7 +28,7 @@ returns-clause-ok c =
     let t = type_of (boxed c.args.array.now) in
     let p = physical_view c.args.type_.physical_type in
     let written = deltas_written t p (parts_of c.args.nested.now) c.args.encoding c.in_ok-check_written.ensures.ok.0 (fits_served (is_flat_path (parts_of c.args.nested.now)) (base t) p c.in_ok-check_written.ensures.ok.1 c.requires.fits.physical) in
-    let page = subst (λ (b : Bool). HoldsRows c.args.options (page_encoding b (leaf_type t) p) (leaf_type t) (leaf_view c.args.type_) p (path_way (parts_of c.args.nested.now)) (path_slots (leaf_slot (boxed c.args.array.now)) (parts_of c.args.nested.now)) c.in_ok-page.page) c.wants_deltas-with_deltas.ensures c.in_ok-page.ensures.ok in
+    let page = subst (λ (b : Bool). HoldsRows c.args.options (page_encoding b (leaf_type t) p) (leaf_type t) (leaf_view c.args.type_) p (path_way (parts_of c.args.nested.now)) None (path_slots (leaf_slot (boxed c.args.array.now)) (parts_of c.args.nested.now)) c.in_ok-page.page) c.wants_deltas-with_deltas.ensures c.in_ok-page.ensures.ok in
     (c.in_ok-page.page, refl, page_encoding (wants_deltas (parts_of c.args.nested.now) c.args.encoding) (leaf_type t) p, written, page)
 
 pub check_held-requires-clause-served : goal.check_held-requires-clause-served

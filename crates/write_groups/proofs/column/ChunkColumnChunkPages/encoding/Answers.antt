@@ -9,4 +9,4 @@ use Rattle.write_groups.proofs.column.ChunkColumnChunkPages.encoding.Goals as go
 pub returns : goal.returns
 returns c = λ version l k h.
     let g = to_come c.args.self.now in
-    subst (λ (e : Encoding). All (λ (o : OutPage). encoding_view e ≡ Some o.encoding) k.pages) (sym c.encoding.ensures) (all_so g.options.write_statistics g.encoding g.type g.physical g.way g.pieces k.pages h.1.pages)
+    subst (λ (e : Encoding). All (λ (o : OutPage). encoding_view e ≡ Some o.encoding) k.pages) (sym c.encoding.ensures) (all_so g.options.write_statistics g.encoding g.type g.physical g.way g.entries g.pieces k.pages h.2.pages)
