@@ -1,4 +1,13 @@
 pub mod Flat
 pub mod Whole
 pub mod KeySlots
+pub mod KeyPieces
 pub mod Arrays
+pub mod NextPiece
+pub mod Unmade
+pub mod Chunks
+pub mod Opening
+pub mod Opened
+pub mod FirstPage
+pub mod Served
+pub mod Going

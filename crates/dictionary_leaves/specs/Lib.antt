@@ -1,3 +1,9 @@
 pub mod Flat
 pub mod Entries
 pub mod KeySlots
+pub mod KeyColumns
+pub mod Pieces
+pub mod EntryTypes
+pub mod Dictionaries
+pub mod First
+pub mod Stages

@@ -1,9 +1,16 @@
-//! The parts of which columns of dictionary types are read with their entries kept: the array of the entries of a dictionary page, and the keys of
-//! the numbers of their column (Parquet format, "Dictionary Page"; Arrow columnar format, "Dictionary-encoded Layout").
+//! The columns of dictionary types, read with their entries kept (Parquet format, "Dictionary Page"; Arrow columnar format, "Dictionary-encoded
+//! Layout").
 #![tactic(auto)]
 
+mod column;
 mod entries;
+mod entry_type;
+mod first_page;
+mod key_column;
 mod keys;
+mod kinds;
+mod next;
 
+pub use column::DictionaryColumn;
 pub use entries::entry_array;
 pub use keys::{KeyNumber, kept_keys};
