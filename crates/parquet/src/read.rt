@@ -1,5 +1,7 @@
 //! A file's footer, the pages of its column chunks, and its columns as arrays (Parquet format, "Column chunks"; Dremel paper, "Record assembly").
 
+pub mod dictionaries;
+
 pub use assembly::{ArrayIter, column_iter_to_arrays};
 pub use leaf_iters::{binary, boolean, dict_indices_decoder, null, primitive, simple};
 pub use page_validity::{

@@ -20,5 +20,7 @@ pub use pq_pages::write_page_header;
 pub use pq_tree::{CompressionOptions, Encoding, ParquetStatistics, Statistics, Version};
 pub use row_groups::RowGroupIterator;
 pub use write_groups::{FileWriter, RowGroupIter, row_group_iter};
-pub use write_pages::{PageIter, WriteOptions, array_to_columns, array_to_page, array_to_pages};
+pub use write_pages::{
+    PageIter, WriteOptions, array_to_columns, array_to_page, array_to_pages, dictionary,
+};
 pub use write_statistics::{build_statistics, ord_binary};

@@ -1,0 +1,3 @@
+pub mod Types
+pub mod Iters
+pub mod Readers
