@@ -1,5 +1,8 @@
 -- Plain numbers among nulls.
-use Rattle.std.proofs.Common.{◌≡◌, ℕ, ◌+◌, ◌-◌, ◌*◌, ◌/◌, ◌%◌, ◌<◌, ◌≤◌, ◌==◌, ℤ, Bool, true, false, Option, Some, None, List, [], ◌∷◌, ◌++◌, map, length, take, drop, refl, arith, ap, sym, subst, ◌∙◌, append-nil, length-append}
+use Rattle.std.proofs.Common.{◌≡◌, ℕ, zero, suc, ◌+◌, ◌-◌, ◌*◌, ◌/◌, ◌%◌, ◌^◌, ◌<◌, ◌≤◌, ◌==◌, ℤ, Bool, true, false, Option, Some, None, List, [], ◌∷◌, ◌++◌, map, length, take, drop, refl, arith, ap, sym, subst, ◌∙◌, append-nil, append_assoc, length-append}
+use Rattle.std.specs.Int.{bit_at, w64, trailing_zeros}
+use Rattle.std.proofs.lemmas.Nat.{shr-shr}
+use Rattle.std.proofs.lemmas.Nat.Bits.{bit_at_lowest, bit_at-suc, bit_at-trailing_zeros}
 use Rattle.std.proofs.lemmas.List.{map-append, length-map}
 use Rattle.columns_core.specs.Bits.{word_bits}
 use Rattle.shredding.specs.Slot.{Value, number, Slot, null, value}
@@ -8,6 +11,17 @@ use Rattle.read_leaf.specs.Numbers.{plain_numbers, stored_numbers, number_slots,
 use Rattle.read_leaf.proofs.NumberSlots.{slots-more, taken-front}
 use Rattle.read_leaf.proofs.Reading.{IsReading, nothing-read, one-read, one-outside, enough-left}
 use Rattle.read_leaf.proofs.SetBits.{length-bits, next-bit, ones-append, spread-append}
+
+pub take_on : {X : Type 0} (xs : List X) (i n : ℕ) → take (i + n) xs ≡ take i xs ++ take n (drop i xs)
+take_on xs zero n = let e : 0 + n ≡ n = omega arith in ap (λ (k : ℕ). take k xs) e
+take_on {X} [] (suc i) n = nothing (suc i + n) ∙ sym (nothing n)
+  where
+    nothing : (k : ℕ) → ◌≡◌ {A = List X} (take k []) []
+    nothing zero = refl
+    nothing (suc k) = refl
+take_on {X} (x ∷ xs) (suc i) n =
+    let e : suc i + n ≡ suc (i + n) = omega arith in
+    ap (λ (k : ℕ). take k (x ∷ xs)) e ∙ ap (λ (ys : List X). x ∷ ys) (take_on xs i n)
 
 module _ (loaded : ℤ → Option ℤ) (spelled : List ℕ → ℤ) (size : ℕ) where
   -- so many slots made, of n; the word has the bits of the others
@@ -105,6 +119,52 @@ module _ (loaded : ℤ → Option ℤ) (spelled : List ℕ → ℤ) (size : ℕ)
         stand = ap (number_slots xs) (sym all) ∙ (m.stand ∙ ap (λ (bs : List Bool). spread bs (map number m.numbers)) all);
         pushed = refl;
       }
+
+  took-none : (b : Bool) (rest : List ℕ) (z : ℤ) → b ≡ false → TookOne loaded spelled size b rest rest z
+  took-none b rest z e = rw e refl
+
+  took-one : (b : Bool) (rest rest' : List ℕ) (z : ℤ) → b ≡ true → loaded (spelled (take size rest)) ≡ Some z → rest' ≡ drop size rest → TookOne loaded spelled size b rest rest' z
+  took-one b rest rest' z e l r = rw e (l, r)
+
+  -- slots of which no bit is set
+  pub mixing-skips : (valid n k i word : ℕ) (bytes rest : List ℕ) (xs ys : List ℤ) → i + k ≤ n → length ys ≡ k → ((j : ℕ) → j < k → bit_at word j ≡ 0) → IsMixing valid n i word bytes rest xs → IsMixing valid n (i + k) (word / 2 ^ k) bytes rest (xs ++ ys)
+  mixing-skips valid n zero i word bytes rest xs [] l e h m =
+      let a : i + 0 ≡ i = omega arith in
+      let b : word / 2 ^ 0 ≡ word = omega arith in
+      rw (a, b, append-nil xs) m
+  mixing-skips valid n zero i word bytes rest xs (y ∷ ys) l e h m = absurd (omega (arith, e))
+  mixing-skips valid n (suc k) i word bytes rest xs [] l e h m = absurd (omega (arith, e))
+  mixing-skips valid n (suc k) i word bytes rest xs (y ∷ ys) l e h m =
+      let low : (word % 2 == 1) ≡ false = ap (λ (r : ℕ). r == 1) (sym (bit_at_lowest word) ∙ h 0 (omega arith)) in
+      let one = mixing-more valid n i word bytes rest rest xs (xs ++ y ∷ []) y (omega (arith, l)) m (took-none (word % 2 == 1) rest y low) refl in
+      let more = mixing-skips valid n k (i + 1) (word / 2) bytes rest (xs ++ y ∷ []) ys (omega (arith, l)) (omega (arith, e)) (λ j b. sym (bit_at-suc word j) ∙ h (suc j) (omega (arith, b))) one in
+      let c : i + 1 + k ≡ i + suc k = omega arith in
+      let p : 1 + k ≡ suc k = omega arith in
+      let d : word / 2 / 2 ^ k ≡ word / 2 ^ suc k = shr-shr word 1 k ∙ ap (λ (j : ℕ). word / 2 ^ j) p in
+      rw (c, d, append_assoc xs (y ∷ []) ys) at more
+
+  -- up to the next bit that is set
+  module _ (valid n i word gap : ℕ) (bytes rest : List ℕ) (xs ys : List ℤ) (some : 0 < word) (fits : word < 2 ^ 64) (g : gap ≡ trailing_zeros w64 word) (l : i + gap < n) (e : length ys ≡ gap) (m : IsMixing valid n i word bytes rest xs) where
+    at-bit : IsMixing valid n (i + gap) (word / 2 ^ gap) bytes rest (xs ++ ys)
+    at-bit = mixing-skips valid n gap i word bytes rest xs ys (omega (arith, l)) e (λ j h. (bit_at-trailing_zeros w64 word some fits).2 j (rw g at h)) m
+
+    odd : (word / 2 ^ gap % 2 == 1) ≡ true
+    odd =
+        let one : bit_at word gap ≡ 1 = rw g ((bit_at-trailing_zeros w64 word some fits).1) in
+        ap (λ (r : ℕ). r == 1) one
+
+    pub set-enough : size * ones (word_bits valid n) ≤ length bytes → size ≤ length rest
+    set-enough enough = mixing-enough valid n (i + gap) (word / 2 ^ gap) bytes rest (xs ++ ys) l enough at-bit odd
+
+    pub set-outside : loaded (spelled (take size rest)) ≡ None → OneIsOutside loaded spelled size (ones (word_bits valid n)) bytes
+    set-outside none = mixing-outside valid n (i + gap) (word / 2 ^ gap) bytes rest (xs ++ ys) l at-bit odd none
+
+    pub set-more : (rest' : List ℕ) (xs' : List ℤ) (z : ℤ) → loaded (spelled (take size rest)) ≡ Some z → rest' ≡ drop size rest → xs' ≡ (xs ++ ys) ++ z ∷ [] → IsMixing valid n (i + gap + 1) (word / 2 ^ gap / 2) bytes rest' xs'
+    set-more rest' xs' z one r p = mixing-more valid n (i + gap) (word / 2 ^ gap) bytes rest rest' (xs ++ ys) xs' z l at-bit (took-one (word / 2 ^ gap % 2 == 1) rest rest' z odd one r) p
+
+  -- no bit is left
+  pub mixing-rest : (valid n i word : ℕ) (bytes rest : List ℕ) (xs ys zs : List ℤ) → i ≤ n → length ys ≡ n - i → ((j : ℕ) → j < n - i → bit_at word j ≡ 0) → zs ≡ xs ++ ys → IsMixing valid n i word bytes rest xs → TookMixed loaded spelled size (word_bits valid n) bytes rest [] zs
+  mixing-rest valid n i word bytes rest xs ys zs l e h p m = rw p (mixing-done valid n (i + (n - i)) (word / 2 ^ (n - i)) bytes rest (xs ++ ys) (omega (arith, l)) (mixing-skips valid n (n - i) i word bytes rest xs ys (omega (arith, l)) e h m))
 
   -- what is decoded
   pub mixed-decoded : (bits : List Bool) (bytes rest : List ℕ) (zs zs' : List ℤ) (bs bs' : List Bool) → 0 < size → ones bits ≤ length bytes / size → length zs ≡ length bs → TookMixed loaded spelled size bits bytes rest zs zs' → bs' ≡ bs ++ bits → DecodesMixed bits (stored_numbers loaded spelled size bytes) (stored_numbers loaded spelled size rest) (number_slots zs bs) (number_slots zs' bs')

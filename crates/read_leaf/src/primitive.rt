@@ -173,30 +173,8 @@ fn append_numbers<'a, T: FromStored<P>, P: StoredNumber>(
     }
 }
 
-// Writes the next number to the place, where one stands there, and gives the bytes behind it; none where it is none of the leaf.
-#[inline(always)]
-fn fill_place<'a, T: FromStored<P>, P: StoredNumber>(
-    place: &mut T,
-    bytes: &'a [u8],
-    is_valid: bool,
-) -> Option<&'a [u8]>
-    requires { is_valid ≡ true → P.byte_count ≤ list_length bytes.now }
-    ensures { MatchOption result ((is_valid ≡ true) × (T.loaded (P.spelled (take P.byte_count bytes.now)) ≡ None)) (λ rest. TookOne T.loaded P.spelled P.byte_count is_valid bytes.now rest.now (T.loaded_number place.new)) }
-{
-    if !is_valid {
-        return Some(bytes);
-    }
-    match load::<T, P>(bytes) {
-        Some(number) => {
-            *place = number;
-            Some(skip(bytes, P::width()))
-        }
-        None => None,
-    }
-}
-
 // Writes the next numbers to the places of which the bits are set, the lowest first, and gives the bytes behind them; none where one of them is
-// none of the leaf.
+// none of the leaf. It goes from one set bit to the next, so that no branch depends on which are set.
 fn fill_mixed<'a, T: FromStored<P>, P: StoredNumber>(
     places: &mut [T],
     bytes: &'a [u8],
@@ -207,12 +185,19 @@ fn fill_mixed<'a, T: FromStored<P>, P: StoredNumber>(
 {
     let mut rest = bytes;
     let mut bits = valid;
-    for place in places.iter_mut() {
-        match fill_place::<T, P>(place, rest, bits % 2 == 1) {
-            Some(behind) => rest = behind,
+    let mut at = 0;
+    while bits != 0 {
+        let gap = bits.trailing_zeros() as usize;
+        if places.len() - at <= gap {
+            return Some(rest);
+        }
+        match load::<T, P>(rest) {
+            Some(number) => places[at + gap] = number,
             None => return None,
         }
-        bits /= 2;
+        rest = skip(rest, P::width());
+        bits = (bits >> gap) / 2;
+        at += gap + 1;
     }
     Some(rest)
 }

@@ -1,13 +1,15 @@
 -- Words of bits: what compares 64 levels, and what picks by a word.
-use Rattle.std.proofs.Common.{◌≡◌, ℕ, zero, suc, ◌+◌, ◌-◌, ◌*◌, ◌/◌, ◌%◌, ◌^◌, ◌<◌, ◌≤◌, ◌==◌, ◌&&◌, Bool, true, false, true≢false, cond, nat_le, leb, w32, bit_and, bit_or, min, max, List, [], ◌∷◌, ◌++◌, map, length, replicate, refl, arith, ap, sym, ◌∙◌, pow-suc, mul_assoc}
+use Rattle.std.proofs.Common.{◌≡◌, ℕ, zero, suc, ◌+◌, ◌-◌, ◌*◌, ◌/◌, ◌%◌, ◌^◌, ◌<◌, ◌≤◌, ◌==◌, ◌&&◌, Bool, true, false, true≢false, inl, inr, cond, nat_le, nat_eq, leb, eqb, w32, bit_and, bit_or, min, max, List, [], ◌∷◌, ◌++◌, map, length, replicate, get_or, refl, arith, ap, sym, ◌∙◌, pow-suc, mul_assoc}
 use Rattle.std.proofs.lemmas.Nat.{shr-shr, and_shr}
 use Rattle.std.proofs.lemmas.Nat.Bits.{bit_at_lowest, bit_at-suc, bit_at_and, bit_at_or, bit_at_ones, bit_at-lt}
 use Rattle.std.specs.Int.{bit_at}
 use lib.Lanes.{mask_l, zip2, top}
 use mir.Val.{bits, hbits}
 use Rattle.std.proofs.lemmas.Simd.{bitmask_splat, tops_compared, mask_l-mod}
-use Rattle.std.proofs.lemmas.List.{length-map}
+use Rattle.std.proofs.lemmas.List.{length-map, get_or-map}
+use Rattle.std.proofs.lemmas.Bool.Decides.{leb_tells}
 use Rattle.columns_core.specs.Bits.{word_bits}
+use Rattle.columns_core.proofs.Words.{ones_word}
 use Rattle.read_laws.specs.Step.{bit}
 use Rattle.read_state.specs.Reach.{reached}
 
@@ -34,10 +36,26 @@ mask-word f xs n word l e = ap (λ (k : ℕ). word_bits k n) e ∙ (ap (word_bit
 pub mask-to : (most n : ℕ) (xs : List ℕ) → length xs ≡ n → n ≤ 64 → word_bits (mask_l (map (top (hbits w32)) (zip2 (λ a b. cond (leb a b) (2 ^ bits w32 - 1) 0) xs (replicate n most))) % 2 ^ 64) n ≡ map (λ d. nat_le d most) xs
 mask-to most n xs l short = mask-word (λ d. nat_le d most) xs n _ l (bitmask_splat w32 leb xs n most l short)
 
+pub mask-at : (level n : ℕ) (xs : List ℕ) → length xs ≡ n → n ≤ 64 → word_bits (mask_l (map (top (hbits w32)) (zip2 (λ a b. cond (eqb a b) (2 ^ bits w32 - 1) 0) xs (replicate n level))) % 2 ^ 64) n ≡ map (λ d. nat_eq d level) xs
+mask-at level n xs l short = mask-word (λ d. nat_eq d level) xs n _ l (bitmask_splat w32 eqb xs n level l short)
+
 pub mask-from : (least n : ℕ) (xs : List ℕ) → length xs ≡ n → n ≤ 64 → word_bits (mask_l (map (top (hbits w32)) (zip2 (λ a b. cond (leb a b) (2 ^ bits w32 - 1) 0) (replicate n least) xs)) % 2 ^ 64) n ≡ map (λ d. nat_le least d) xs
 mask-from least n xs l short =
     let f : ℕ → Bool = λ d. nat_le least d in
     mask-word f xs n _ l (ap (λ (ms : List Bool). mask_l ms % 2 ^ 64) (tops_compared w32 leb (replicate n least) xs ∙ (ap (λ (k : ℕ). zip2 leb (replicate k least) xs) (sym l) ∙ splat-first least xs)) ∙ mask_l-mod (map f xs) 64 (omega (arith, length-map xs f, l, short)))
+
+-- no level is below 0
+from-zero : (d : ℕ) → nat_le 0 d ≡ true
+from-zero d = elim (leb_tells 0 d) [ inl h ↦ h.0 | inr h ↦ absurd (omega (arith, h.1)) ]
+
+all-from-zero : (n : ℕ) (xs : List ℕ) → length xs ≡ n → map (λ d. nat_le 0 d) xs ≡ replicate n true
+all-from-zero zero [] e = refl
+all-from-zero zero (x ∷ xs) e = absurd (omega (arith, e))
+all-from-zero (suc n) [] e = absurd (omega (arith, e))
+all-from-zero (suc n) (x ∷ xs) e = ap (λ (b : Bool). b ∷ map (λ d. nat_le 0 d) xs) (from-zero x) ∙ ap (λ (bs : List Bool). true ∷ bs) (all-from-zero n xs (omega (arith, e)))
+
+pub mask-zero : (least n : ℕ) (xs : List ℕ) → least ≡ 0 → length xs ≡ n → n ≤ 64 → word_bits 18446744073709551615 n ≡ map (λ d. nat_le least d) xs
+mask-zero least n xs z l short = ones_word n short ∙ (sym (all-from-zero n xs l) ∙ ap (λ (k : ℕ). map (λ d. nat_le k d) xs) (sym z))
 
 -- ---- words in parts
 pub word-split : (n m word : ℕ) → word_bits word (n + m) ≡ word_bits word n ++ word_bits (word / 2 ^ n) m
@@ -106,11 +124,11 @@ tail-of : List Bool → List Bool
 tail-of [] = []
 tail-of (b ∷ bs) = bs
 
-heads : (b c : Bool) (bs cs : List Bool) → b ∷ bs ≡ c ∷ cs → b ≡ c
+pub heads : (b c : Bool) (bs cs : List Bool) → b ∷ bs ≡ c ∷ cs → b ≡ c
 unfolding head-of
 heads b c bs cs e = ap head-of e
 
-tails : (b c : Bool) (bs cs : List Bool) → b ∷ bs ≡ c ∷ cs → bs ≡ cs
+pub tails : (b c : Bool) (bs cs : List Bool) → b ∷ bs ≡ c ∷ cs → bs ≡ cs
 unfolding tail-of
 tails b c bs cs e = ap tail-of e
 
@@ -134,3 +152,24 @@ other-bit (suc (suc a)) b h e f = absurd (omega (arith, h))
 
 pub either-bit : (a b i : ℕ) → bit_or a b ≡ 2 ^ 64 - 1 → i < 64 → (bit_at a i == 1) ≡ false → (bit_at b i == 1) ≡ true
 either-bit a b i e h f = other-bit (bit_at a i) (bit_at b i) (bit_at-lt a i) (sym (bit_at_or a b i) ∙ (ap (λ (k : ℕ). bit_at k i) e ∙ bit_at_ones 64 i h)) f
+
+-- ---- what a word tells of one level
+pub word-at : (n w i : ℕ) → i < n → get_or (word_bits w n) i false ≡ (bit_at w i == 1)
+word-at zero w i h = absurd (omega (arith, h))
+word-at (suc n) w zero h = ap (λ (k : ℕ). k == 1) (sym (bit_at_lowest w))
+word-at (suc n) w (suc i) h = word-at n (w / 2) i (omega (arith, h)) ∙ ap (λ (k : ℕ). k == 1) (sym (bit_at-suc w i))
+
+pub word-tells : (f : ℕ → Bool) (xs : List ℕ) (n w i : ℕ) → length xs ≡ n → i < n → word_bits w n ≡ map f xs → (bit_at w i == 1) ≡ f (get_or xs i 0)
+word-tells f xs n w i l h e = sym (word-at n w i h) ∙ (ap (λ (bs : List Bool). get_or bs i false) e ∙ get_or-map f xs i 0 false (omega (arith, l, h)))
+
+pub both-bits : (a b i : ℕ) → (bit_at (bit_and a b) i == 1) ≡ true → ((bit_at a i == 1) ≡ true) × ((bit_at b i == 1) ≡ true)
+both-bits a b i e = both (bit_at a i) (bit_at b i) (bit_at-lt a i) (bit_at-lt b i) (ap (λ (k : ℕ). k == 1) (sym (bit_at_and a b i)) ∙ e)
+  where
+    both : (x y : ℕ) → x < 2 → y < 2 → (min x y == 1) ≡ true → ((x == 1) ≡ true) × ((y == 1) ≡ true)
+    both zero zero p q f = absurd (true≢false (sym f))
+    both zero (suc zero) p q f = absurd (true≢false (sym f))
+    both zero (suc (suc y)) p q f = absurd (omega (arith, q))
+    both (suc zero) zero p q f = absurd (true≢false (sym f))
+    both (suc zero) (suc zero) p q f = (refl, refl)
+    both (suc zero) (suc (suc y)) p q f = absurd (omega (arith, q))
+    both (suc (suc x)) y p q f = absurd (omega (arith, p))

@@ -24,3 +24,4 @@ pub use kinds::{
 };
 pub use laws::states_begin_empty;
 pub use nested::NestedState;
+pub use words::{levels_at, levels_from, levels_to};

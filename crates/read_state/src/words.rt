@@ -1,5 +1,5 @@
 //! Levels of 64 pairs, compared all at once.
-ghost use Rattle.std.specs.Prelude.{◌≡◌, ◌+◌, ◌<◌, ◌^◌, length, map, nat_le, nat_lt};
+ghost use Rattle.std.specs.Prelude.{◌≡◌, ◌+◌, ◌<◌, ◌^◌, length, map, nat_eq, nat_le, nat_lt};
 ghost use Rattle.columns_core.specs.Bits.{word_bits};
 ghost use Rattle.read_state.specs.Reach.{reached};
 
@@ -19,8 +19,20 @@ pub fn levels_from(levels: &[u32], least: u32) -> u64
     requires { length levels.now ≡ 64 }
     ensures { word_bits result 64 ≡ map (λ d. nat_le least d) levels.now }
 {
+    if least == 0 {
+        return u64::MAX;
+    }
     let lanes = Simd::<u32, 64>::from_slice(levels);
     lanes.simd_ge(Simd::<u32, 64>::splat(least)).to_bitmask()
+}
+
+/// A bit for each of 64 levels, set where it is this one.
+pub fn levels_at(levels: &[u32], level: u32) -> u64
+    requires { length levels.now ≡ 64 }
+    ensures { word_bits result 64 ≡ map (λ d. nat_eq d level) levels.now }
+{
+    let lanes = Simd::<u32, 64>::from_slice(levels);
+    lanes.simd_eq(Simd::<u32, 64>::splat(level)).to_bitmask()
 }
 
 /// Of each of 64 pairs, as bits: whether it pushes to a list, whether it pushes to the part beneath it, and whether the list is there. No pair

@@ -1,5 +1,5 @@
 -- Eight packed numbers from a bit of the first byte on.
-use Rattle.std.proofs.Common.{◌≡◌, ℕ, ◌+◌, ◌-◌, ◌*◌, ◌/◌, ◌^◌, ◌<◌, ◌≤◌, List, ◌++◌, length, take, drop, refl, sym, ap, ◌∙◌, arith}
+use Rattle.std.proofs.Common.{◌≡◌, ℕ, ◌+◌, ◌-◌, ◌*◌, ◌/◌, ◌^◌, ◌<◌, ◌≤◌, List, [], ◌∷◌, ◌++◌, set, length, take, drop, refl, sym, ap, ◌∙◌, arith}
 use Rattle.std.proofs.Math.Nat.{add-mul-div_left, mul_assoc}
 use Rattle.std.proofs.lemmas.Nat.{pow-add, pow_pos, shr-shr}
 use Rattle.std.proofs.lemmas.List.{length-take, take-append-drop, take-append-le, take_all, length-drop}
@@ -44,6 +44,18 @@ pub front_eight : (w m : ℕ) (front rest : List ℕ) → front ≡ digits_of (2
 front_eight w m front rest e =
     let size : length (digits_of (2 ^ w) 8 m) ≡ 8 = length-digits (2 ^ w) 8 m in
     rw e (take-append-le 8 (digits_of (2 ^ w) 8 m) rest (omega (arith, size)) ∙ take_all 8 (digits_of (2 ^ w) 8 m) (omega (arith, size)))
+
+-- eight numbers written one after another
+pub eight_put : (a b c d e f g h : ℕ) (xs : List ℕ) → 8 ≤ length xs → set (set (set (set (set (set (set (set xs 0 a) 1 b) 2 c) 3 d) 4 e) 5 f) 6 g) 7 h ≡ a ∷ b ∷ c ∷ d ∷ e ∷ f ∷ g ∷ h ∷ drop 8 xs
+eight_put a b c d e f g h (x0 ∷ x1 ∷ x2 ∷ x3 ∷ x4 ∷ x5 ∷ x6 ∷ x7 ∷ xs) l = refl
+eight_put a b c d e f g h [] l = absurd (omega (arith, l))
+eight_put a b c d e f g h (x0 ∷ []) l = absurd (omega (arith, l))
+eight_put a b c d e f g h (x0 ∷ x1 ∷ []) l = absurd (omega (arith, l))
+eight_put a b c d e f g h (x0 ∷ x1 ∷ x2 ∷ []) l = absurd (omega (arith, l))
+eight_put a b c d e f g h (x0 ∷ x1 ∷ x2 ∷ x3 ∷ []) l = absurd (omega (arith, l))
+eight_put a b c d e f g h (x0 ∷ x1 ∷ x2 ∷ x3 ∷ x4 ∷ []) l = absurd (omega (arith, l))
+eight_put a b c d e f g h (x0 ∷ x1 ∷ x2 ∷ x3 ∷ x4 ∷ x5 ∷ []) l = absurd (omega (arith, l))
+eight_put a b c d e f g h (x0 ∷ x1 ∷ x2 ∷ x3 ∷ x4 ∷ x5 ∷ x6 ∷ []) l = absurd (omega (arith, l))
 
 -- there are enough bytes, of the first eight too, and behind eight numbers
 pub enough-eight : (w s standing : ℕ) (xs : List ℕ) → w ≤ 7 → s < 8 → 8 ≤ standing → s + w * standing ≤ 8 * length xs → (s + w * 8 ≤ 8 * length (take 8 xs)) × (w ≤ length xs) × (s + w * (standing - 8) ≤ 8 * length (drop w xs))

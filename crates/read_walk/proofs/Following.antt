@@ -1,12 +1,18 @@
 -- Pairs that may follow one another.
-use Rattle.std.proofs.Common.{◌≡◌, inl, inr, ℕ, zero, suc, ◌+◌, ◌<◌, ◌≤◌, Option, Some, None, List, [], ◌∷◌, length, replicate, drop, get_or, refl, arith, ap, add-one}
+use Rattle.std.proofs.Common.{◌≡◌, ◌⊎◌, inl, inr, ℕ, zero, suc, ◌+◌, ◌-◌, ◌*◌, ◌/◌, ◌%◌, ◌^◌, ◌<◌, ◌≤◌, ◌==◌, Bool, true, false, true≢false, nat_eq, nat_le, bit_and, bit_or, Option, Some, None, List, [], ◌∷◌, map, length, replicate, drop, get_or, refl, arith, ap, sym, subst, ◌∙◌, add-one}
+use Rattle.std.specs.Int.{bit_at, from_bool}
+use Rattle.std.proofs.lemmas.Bool.Decides.{leb_tells, eqb_tells}
+use Rattle.std.proofs.lemmas.Nat.Bits.{bit_at_lowest, bit_at-suc}
+use Rattle.columns_core.specs.Bits.{word_bits}
+use Rattle.columns_core.proofs.Words.{low_bit}
+use Rattle.read_state.proofs.Compared.{word-tells, both-bits, either-bit}
 use Rattle.std.proofs.Math.Seq.{drop-cons}
 use Rattle.columns_base.specs.declared.error.Error.{Error}
 use Rattle.shredding.specs.Shape.{Way, at_leaf, in_list, in_struct}
 use Rattle.shredding.specs.Shred.{max_repetition, max_definition}
 use Rattle.shredding.specs.Local.{inside}
 use Rattle.read_laws.proofs.Stretches.{up-bit}
-use Rattle.read_walk.specs.Order.{zipped, MayCome, Follows, WhyNot, OneMayNot, PlainlyFollow}
+use Rattle.read_walk.specs.Order.{zipped, MayCome, Follows, WhyNot, OneMayNot, level_before, IsInside, PlainlyFollow}
 use Rattle.read_walk.specs.Pairs.{Pair}
 
 -- a list deeper down lies inside more
@@ -37,33 +43,84 @@ pub none-follow : (w : Way) (before : Option ℕ) (reps defs : List ℕ) → rep
 none-follow w before reps defs e = rw e tt
 
 -- ---- pairs that plainly may
-rows-follow : (w : Way) (before : Option ℕ) (reps defs : List ℕ) → length defs ≡ length reps → ((k : ℕ) → k < length reps → (get_or reps k 0 ≤ max_repetition w) × (get_or defs k 0 ≤ max_definition w)) → ((k : ℕ) → k < length reps → get_or reps k 0 ≡ 0) → Follows w before (zipped reps defs)
-rows-follow w before [] defs e within rows = tt
-rows-follow w before (r ∷ reps) [] e within rows = absurd (omega (arith, e))
-rows-follow w before (r ∷ reps) (d ∷ defs) e within rows =
-    let here = within 0 (omega arith) in
-    let row : r ≡ 0 = rows 0 (omega arith) in
-    (here.0, here.1, row-comes w before r d row, rows-follow w (Some d) reps defs (omega (arith, e)) (λ k h. within (suc k) (omega (arith, h))) (λ k h. rows (suc k) (omega (arith, h))))
-  where
-    row-comes : (w : Way) (before : Option ℕ) (r d : ℕ) → r ≡ 0 → MayCome w before (r, d)
-    row-comes w None r d e = e
-    row-comes w (Some b) r d e = (rw e (omega arith), rw e (omega arith))
+comes : (w : Way) (before : Option ℕ) (r d floor : ℕ) → floor ≡ inside w (max_repetition w) → r ≤ max_repetition w → (r ≡ 0) ⊎ ((floor ≤ d) × IsInside floor before) → MayCome w before (r, d)
+comes w None r d floor f m (inl z) = z
+comes w None r d floor f m (inr i) = absurd i.1
+comes w (Some b) r d floor f m (inl z) = (rw z (omega arith), rw z (omega arith))
+comes w (Some b) r d floor f m (inr i) = let more = inside-more w r (max_repetition w) m in (omega (arith, more, f, i.1), omega (arith, more, f, i.0))
 
-items-follow : (w : Way) (level floor : ℕ) (reps defs : List ℕ) → floor ≡ inside w (max_repetition w) → floor ≤ level → length defs ≡ length reps → ((k : ℕ) → k < length reps → (get_or reps k 0 ≤ max_repetition w) × (get_or defs k 0 ≤ max_definition w)) → ((k : ℕ) → k < length reps → floor ≤ get_or defs k 0) → Follows w (Some level) (zipped reps defs)
-items-follow w level floor [] defs f h e within deep = tt
-items-follow w level floor (r ∷ reps) [] f h e within deep = absurd (omega (arith, e))
-items-follow w level floor (r ∷ reps) (d ∷ defs) f h e within deep =
-    let here = within 0 (omega arith) in
-    let low : floor ≤ d = deep 0 (omega arith) in
-    let most = inside-more w r (max_repetition w) here.0 in
-    (here.0, here.1, (omega (arith, most, f, h), omega (arith, most, f, low)), items-follow w d floor reps defs f low (omega (arith, e)) (λ k b. within (suc k) (omega (arith, b))) (λ k b. deep (suc k) (omega (arith, b))))
+one-later : (before : Option ℕ) (d : ℕ) (defs : List ℕ) (k : ℕ) → level_before before (d ∷ defs) (suc k) ≡ level_before (Some d) defs k
+one-later before d defs zero = refl
+one-later before d defs (suc k) = refl
 
 pub plainly : (w : Way) (before : Option ℕ) (reps defs : List ℕ) (lists top floor : ℕ) → length defs ≡ length reps → lists ≡ max_repetition w → top ≡ max_definition w → floor ≡ inside w (max_repetition w) → PlainlyFollow before reps defs lists top floor → Follows w before (zipped reps defs)
-plainly w before reps defs lists top floor e l t f p =
-    let within = rw (l, t) at p.0 in
-    elim p.1 [
-      | inl rows ↦ rows-follow w before reps defs e within rows
-      | inr items ↦ rw items.0.1 (items-follow w items.0.0 floor reps defs f items.0.2 e within items.1)
+plainly w before [] defs lists top floor e l t f p = tt
+plainly w before (r ∷ reps) [] lists top floor e l t f p = absurd (omega (arith, e))
+plainly w before (r ∷ reps) (d ∷ defs) lists top floor e l t f p =
+    let here = p 0 (omega arith) in
+    let rep : r ≤ max_repetition w = omega (arith, here.0, l) in (
+      rep,
+      omega (arith, here.1, t),
+      comes w before r d floor f rep here.2,
+      plainly w (Some d) reps defs lists top floor (omega (arith, e)) l t f (λ k h.
+          let q = p (suc k) (omega (arith, h)) in
+          (q.0, q.1, elim q.2 [ inl z ↦ inl z | inr i ↦ inr (i.0, subst (IsInside floor) (one-later before d defs k) i.1) ])),
+    )
+
+-- by words of 64 pairs
+behind-bit : (x c k : ℕ) → c < 2 → k < 64 → (bit_at (x % 2 ^ 63 * 2 + c) k == 1) ≡ true → ((k ≡ 0) × (c ≡ 1)) ⊎ ((j : ℕ) × (k ≡ j + 1) × ((bit_at x j == 1) ≡ true))
+behind-bit x c zero l h e =
+    let low : bit_at (x % 2 ^ 63 * 2 + c) 0 ≡ c = bit_at_lowest (x % 2 ^ 63 * 2 + c) ∙ omega (arith, l) in
+    inl (refl, one c l (ap (λ (k : ℕ). k == 1) (sym low) ∙ e))
+  where
+    one : (c : ℕ) → c < 2 → (c == 1) ≡ true → c ≡ 1
+    one zero l e = absurd (true≢false (sym e))
+    one (suc zero) l e = refl
+    one (suc (suc c)) l e = absurd (omega (arith, l))
+behind-bit x c (suc j) l h e =
+    let half : (x % 2 ^ 63 * 2 + c) / 2 ≡ x % 2 ^ 63 = omega (arith, l) in
+    let there : bit_at (x % 2 ^ 63 * 2 + c) (suc j) ≡ bit_at x j = bit_at-suc (x % 2 ^ 63 * 2 + c) j ∙ (ap (λ (y : ℕ). bit_at y j) half ∙ low_bit x 63 j (omega (arith, h))) in
+    inr (j, omega arith, ap (λ (k : ℕ). k == 1) (sym there) ∙ e)
+
+from-tells : (least d : ℕ) → nat_le least d ≡ true → least ≤ d
+from-tells least d e = elim (leb_tells least d) [ inl h ↦ h.1 | inr h ↦ absurd (true≢false (sym e ∙ h.0)) ]
+
+-- a pair by the words: whether it begins a row, whether it lies inside, and whether the one before it does
+word-pair : (reps defs : List ℕ) (floor rows inner c k : ℕ) → length reps ≡ 64 → length defs ≡ 64 → c < 2 → word_bits rows 64 ≡ map (λ d. nat_le d 0) reps → word_bits inner 64 ≡ map (λ d. nat_le floor d) defs → bit_or rows (bit_and inner (inner % 2 ^ 63 * 2 + c)) ≡ 2 ^ 64 - 1 → k < 64 →
+    (get_or reps k 0 ≡ 0) ⊎ ((floor ≤ get_or defs k 0) × (((k ≡ 0) × (c ≡ 1)) ⊎ ((j : ℕ) × (k ≡ j + 1) × (floor ≤ get_or defs j 0))))
+word-pair reps defs floor rows inner c k m n l r i all h = by (bit_at rows k == 1) refl
+  where
+    by : (b : Bool) → (bit_at rows k == 1) ≡ b → (get_or reps k 0 ≡ 0) ⊎ ((floor ≤ get_or defs k 0) × (((k ≡ 0) × (c ≡ 1)) ⊎ ((j : ℕ) × (k ≡ j + 1) × (floor ≤ get_or defs j 0))))
+    by true e =
+        let row : get_or reps k 0 ≤ 0 = from-tells (get_or reps k 0) 0 (sym (word-tells (λ d. nat_le d 0) reps 64 rows k m h r) ∙ e) in
+        inl (omega (arith, row))
+    by false e =
+        let two = both-bits inner (inner % 2 ^ 63 * 2 + c) k (either-bit rows (bit_and inner (inner % 2 ^ 63 * 2 + c)) k all h e) in
+        let here : floor ≤ get_or defs k 0 = from-tells floor (get_or defs k 0) (sym (word-tells (λ d. nat_le floor d) defs 64 inner k n h i) ∙ two.0) in
+        inr (
+          here,
+          elim (behind-bit inner c k l h two.1) [
+            | inl first ↦ inl first
+            | inr later ↦ inr (later.0, later.1, from-tells floor (get_or defs later.0 0) (sym (word-tells (λ d. nat_le floor d) defs 64 inner later.0 n (omega (arith, later.1, h)) i) ∙ later.2))
+          ],
+        )
+
+carried-few : (b : Bool) → from_bool b < 2
+carried-few true = omega arith
+carried-few false = omega arith
+
+carried-one : (b : Bool) → from_bool b ≡ 1 → b ≡ true
+carried-one true e = refl
+carried-one false e = absurd (omega (arith, e))
+
+pub chain-pair : (reps defs : List ℕ) (floor rows inner c k : ℕ) (carried : Bool) → length reps ≡ 64 → length defs ≡ 64 → c ≡ from_bool carried → word_bits rows 64 ≡ map (λ d. nat_le d 0) reps → word_bits inner 64 ≡ map (λ d. nat_le floor d) defs → nat_eq (bit_or rows (bit_and inner (inner % 2 ^ 63 * 2 + c))) (2 ^ 64 - 1) ≡ true → k < 64 →
+    (get_or reps k 0 ≡ 0) ⊎ ((floor ≤ get_or defs k 0) × (((k ≡ 0) × (carried ≡ true)) ⊎ ((j : ℕ) × (k ≡ j + 1) × (floor ≤ get_or defs j 0))))
+chain-pair reps defs floor rows inner c k carried m n f r i e h =
+    let all : bit_or rows (bit_and inner (inner % 2 ^ 63 * 2 + c)) ≡ 2 ^ 64 - 1 = elim (eqb_tells (bit_or rows (bit_and inner (inner % 2 ^ 63 * 2 + c))) (2 ^ 64 - 1)) [ inl x ↦ x.1 | inr x ↦ absurd (true≢false (sym e ∙ x.0)) ] in
+    let few : c < 2 = rw f (carried-few carried) in
+    elim (word-pair reps defs floor rows inner c k m n few r i all h) [
+      | inl z ↦ inl z
+      | inr q ↦ inr (q.0, elim q.1 [ inl z ↦ inl (z.0, carried-one carried (sym f ∙ z.1)) | inr later ↦ inr later ])
     ]
 
 -- ---- equal pairs

@@ -9,3 +9,4 @@ pub mod Refusing
 pub mod Walking
 pub mod Zips
 pub mod Mixing
+pub mod Counting

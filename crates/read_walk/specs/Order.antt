@@ -1,5 +1,5 @@
 -- Which pairs may follow one another (Dremel paper, section 4.3).
-use Rattle.std.specs.Prelude.{◌≡◌, ◌⊎◌, ℕ, ◌<◌, ◌≤◌, Option, Some, None, List, [], ◌∷◌, ◌++◌, length, slice_index}
+use Rattle.std.specs.Prelude.{◌≡◌, ◌⊎◌, ℕ, zero, suc, ◌<◌, ◌≤◌, Option, Some, None, List, [], ◌∷◌, ◌++◌, length, slice_index}
 use Rattle.columns_base.specs.declared.error.Error.{Error}
 use Rattle.columns_base.specs.declared.error.Error.TheVariants.{OutOfSpec}
 use Rattle.columns_base.specs.declared.error.S.TheVariants.{S4, S5, S10}
@@ -57,8 +57,17 @@ pub record OneMayNot (w : Way) (before : Option ℕ) (ps : List Pair) (e : Error
   pub parts : ps ≡ front ++ (pair ∷ back)
   pub why : WhyNot w (last_level before front) pair e
 
--- no level is above its greatest, and either all pairs begin rows, or all and the one before them lie inside the innermost list
+-- the definition level of the pair before that at a place
+abbrev pub level_before : Option ℕ → List ℕ → ℕ → Option ℕ
+level_before before defs zero = before
+level_before before defs (suc k) = Some (slice_index defs k)
+
+-- there was a pair, inside the innermost list
+abbrev pub IsInside : ℕ → Option ℕ → Type 0
+IsInside floor None = ⊥
+IsInside floor (Some level) = floor ≤ level
+
+-- no level is above its greatest, and each pair begins a row, or it and the one before it lie inside the innermost list
 abbrev pub PlainlyFollow : Option ℕ → List ℕ → List ℕ → ℕ → ℕ → ℕ → Type 0
 PlainlyFollow before reps defs lists top floor =
-    ((k : ℕ) → k < length reps → (slice_index reps k ≤ lists) × (slice_index defs k ≤ top))
-    × (((k : ℕ) → k < length reps → slice_index reps k ≡ 0) ⊎ (((level : ℕ) × (before ≡ Some level) × (floor ≤ level)) × ((k : ℕ) → k < length reps → floor ≤ slice_index defs k)))
+    (k : ℕ) → k < length reps → (slice_index reps k ≤ lists) × (slice_index defs k ≤ top) × ((slice_index reps k ≡ 0) ⊎ ((floor ≤ slice_index defs k) × IsInside floor (level_before before defs k)))

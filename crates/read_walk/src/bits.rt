@@ -1,5 +1,5 @@
 //! Numbers of a few bits in packed bytes.
-ghost use Rattle.std.specs.Prelude.{◌≡◌, ◌+◌, ◌*◌, ◌/◌, ◌%◌, ◌^◌, ◌<◌, ◌≤◌, length, take, drop};
+ghost use Rattle.std.specs.Prelude.{◌≡◌, ◌+◌, ◌*◌, ◌/◌, ◌%◌, ◌^◌, ◌<◌, ◌≤◌, ◌++◌, length, take, drop};
 ghost use Rattle.pq_numbers.specs.Bits.{digits_of};
 ghost use Rattle.pq_numbers.specs.Texts.{number_of};
 
@@ -41,9 +41,10 @@ pub fn number_at(bytes: &[u8], shift: u32, width: u32) -> u32
     ((low_bytes(bytes) >> shift) % (1 << width)) as u32
 }
 
-// Eight numbers of one bit, the lowest first.
-fn eight_bits(word: u64) -> [u32; 8]
-    ensures { result ≡ digits_of 2 8 word }
+// Eight numbers of one bit in the front of the memory, the lowest first.
+fn put_bits(out: &mut [u32], word: u64)
+    requires { 8 ≤ length out.old }
+    ensures { out.new ≡ digits_of 2 8 word ++ drop 8 out.old }
 {
     let second = word / 2;
     let third = second / 2;
@@ -52,21 +53,20 @@ fn eight_bits(word: u64) -> [u32; 8]
     let sixth = fifth / 2;
     let seventh = sixth / 2;
     let eighth = seventh / 2;
-    [
-        (word % 2) as u32,
-        (second % 2) as u32,
-        (third % 2) as u32,
-        (fourth % 2) as u32,
-        (fifth % 2) as u32,
-        (sixth % 2) as u32,
-        (seventh % 2) as u32,
-        (eighth % 2) as u32,
-    ]
+    out[0] = (word % 2) as u32;
+    out[1] = (second % 2) as u32;
+    out[2] = (third % 2) as u32;
+    out[3] = (fourth % 2) as u32;
+    out[4] = (fifth % 2) as u32;
+    out[5] = (sixth % 2) as u32;
+    out[6] = (seventh % 2) as u32;
+    out[7] = (eighth % 2) as u32;
 }
 
-// Eight numbers of two bits, the lowest first.
-fn eight_pairs(word: u64) -> [u32; 8]
-    ensures { result ≡ digits_of 4 8 word }
+// Eight numbers of two bits in the front of the memory, the lowest first.
+fn put_pairs(out: &mut [u32], word: u64)
+    requires { 8 ≤ length out.old }
+    ensures { out.new ≡ digits_of 4 8 word ++ drop 8 out.old }
 {
     let second = word / 4;
     let third = second / 4;
@@ -75,29 +75,22 @@ fn eight_pairs(word: u64) -> [u32; 8]
     let sixth = fifth / 4;
     let seventh = sixth / 4;
     let eighth = seventh / 4;
-    [
-        (word % 4) as u32,
-        (second % 4) as u32,
-        (third % 4) as u32,
-        (fourth % 4) as u32,
-        (fifth % 4) as u32,
-        (sixth % 4) as u32,
-        (seventh % 4) as u32,
-        (eighth % 4) as u32,
-    ]
+    out[0] = (word % 4) as u32;
+    out[1] = (second % 4) as u32;
+    out[2] = (third % 4) as u32;
+    out[3] = (fourth % 4) as u32;
+    out[4] = (fifth % 4) as u32;
+    out[5] = (sixth % 4) as u32;
+    out[6] = (seventh % 4) as u32;
+    out[7] = (eighth % 4) as u32;
 }
 
-/// Eight numbers of at most seven bits, the lowest first.
-pub fn eight_of(word: u64, width: u32) -> [u32; 8]
-    requires { width ≤ 7 }
-    ensures { result ≡ digits_of (2 ^ width) 8 word }
+// Eight numbers of at most seven bits in the front of the memory, the lowest first.
+fn put_numbers(out: &mut [u32], word: u64, width: u32)
+    requires room { 8 ≤ length out.old }
+    requires narrow { width ≤ 7 }
+    ensures { out.new ≡ digits_of (2 ^ width) 8 word ++ drop 8 out.old }
 {
-    if width == 1 {
-        return eight_bits(word);
-    }
-    if width == 2 {
-        return eight_pairs(word);
-    }
     let base: u64 = 1 << width;
     let second = word >> width;
     let third = second >> width;
@@ -106,16 +99,27 @@ pub fn eight_of(word: u64, width: u32) -> [u32; 8]
     let sixth = fifth >> width;
     let seventh = sixth >> width;
     let eighth = seventh >> width;
-    [
-        (word % base) as u32,
-        (second % base) as u32,
-        (third % base) as u32,
-        (fourth % base) as u32,
-        (fifth % base) as u32,
-        (sixth % base) as u32,
-        (seventh % base) as u32,
-        (eighth % base) as u32,
-    ]
+    out[0] = (word % base) as u32;
+    out[1] = (second % base) as u32;
+    out[2] = (third % base) as u32;
+    out[3] = (fourth % base) as u32;
+    out[4] = (fifth % base) as u32;
+    out[5] = (sixth % base) as u32;
+    out[6] = (seventh % base) as u32;
+    out[7] = (eighth % base) as u32;
+}
+
+/// Eight numbers of at most seven bits in the front of the memory, the lowest first.
+pub fn put_eight(out: &mut [u32], word: u64, width: u32)
+    requires room { 8 ≤ length out.old }
+    requires narrow { width ≤ 7 }
+    ensures { out.new ≡ digits_of (2 ^ width) 8 word ++ drop 8 out.old }
+{
+    match width {
+        1 => put_bits(out, word),
+        2 => put_pairs(out, word),
+        _ => put_numbers(out, word, width),
+    }
 }
 
 /// The number that at most four bytes spell.

@@ -1,13 +1,14 @@
 //! The values of a block of pairs.
-ghost use Rattle.std.specs.Prelude.{◌≡◌, ℕ, ◌+◌, ◌*◌, ◌^◌, ◌<◌, ◌≤◌, List, ◌∷◌, ◌++◌, OnOk, IfErr, length, map, nat_eq, replicate, take, drop};
+ghost use Rattle.std.specs.Prelude.{◌≡◌, ℕ, ◌+◌, ◌*◌, ◌/◌, ◌%◌, ◌^◌, ◌<◌, ◌≤◌, List, ◌∷◌, ◌++◌, OnOk, IfErr, length, replicate, drop};
 ghost use Rattle.columns_core.specs.Bits.{word_bits};
 ghost use Rattle.read_laws.specs.Step.{bit};
+ghost use Rattle.read_state.specs.Reach.{chosen};
 ghost use Rattle.read_walk.specs.Gives.{Decoded, called, mixed};
 ghost use Rattle.read_walk.specs.Values.{CannotDecode};
 
-use crate::folds::are_from;
 use crate::traits::NestedDecoder;
 use columns_base::Result;
+use read_state::{levels_at, levels_from};
 
 // 1 for true, 0 for false.
 fn one_if(set: bool) -> u64
@@ -47,51 +48,29 @@ fn mixed_bits(levels: &[u32], floor: usize, top: usize) -> (u64, usize)
     (word, count)
 }
 
-// The bit of a place, where it is set.
-fn placed(set: bool, place: usize) -> u32
-    requires { place < 32 }
-    ensures { result ≡ bit set * 2 ^ place }
+// A word without the bit at a place: those above it move down.
+fn without_bit(word: u64, at: usize) -> u64
+    requires { at < 64 }
+    ensures { result ≡ word % 2 ^ at + word / 2 ^ at / 2 * 2 ^ at }
 {
-    if set { 1 << place } else { 0 }
+    word % (1 << at) + ((word >> at) / 2) * (1 << at)
 }
 
-// A bit for each of 32 levels, set where it is `top`. A fixed number without an exit, so that several are looked at together.
-fn top_bits(levels: &[u32], top: u32) -> u32
-    requires { length levels.now ≡ 32 }
-    ensures bits { word_bits result 32 ≡ map (λ d. nat_eq d top) levels.now }
-    ensures below { result < 2 ^ 32 }
+// The bits of a word beside the set bits of another, and their number.
+fn picked_bits(set: u64, word: u64) -> (u64, usize)
+    ensures bits { word_bits result.0 result.1 ≡ chosen (word_bits set 64) (word_bits word 64) }
+    ensures few { result.1 ≤ 64 }
 {
-    let mut word = 0;
-    for i in 0..32 {
-        word = placed(levels[i] == top, i) | word;
+    let mut left = set;
+    let mut picked = word;
+    let mut count = 64;
+    while (left.trailing_ones() as usize) < count {
+        let at = left.trailing_ones() as usize;
+        left = without_bit(left, at);
+        picked = without_bit(picked, at);
+        count -= 1;
     }
-    word
-}
-
-// The first 32 levels.
-fn first_half(levels: &[u32]) -> &[u32]
-    requires { length levels.now ≡ 64 }
-    ensures { result.now ≡ take 32 levels.now }
-{
-    &levels[..32]
-}
-
-// The levels behind them.
-fn second_half(levels: &[u32]) -> &[u32]
-    requires { length levels.now ≡ 64 }
-    ensures { result.now ≡ drop 32 levels.now }
-{
-    &levels[32..]
-}
-
-// A bit for each of 64 levels, set where it is `top`.
-fn top_word(levels: &[u32], top: u32) -> u64
-    requires { length levels.now ≡ 64 }
-    ensures { word_bits result 64 ≡ map (λ d. nat_eq d top) levels.now }
-{
-    let low = top_bits(first_half(levels), top);
-    let high = top_bits(second_half(levels), top);
-    u64::from(low) + u64::from(high) * 0x1_0000_0000
+    (picked, count)
 }
 
 // A bit for each level from `floor` on, set where it is `top`, the lowest for the first, and how many these are.
@@ -100,8 +79,11 @@ fn mixed_word(levels: &[u32], floor: usize, top: usize) -> (u64, usize)
     ensures bits { word_bits result.0 result.1 ≡ mixed floor top levels.now }
     ensures few { result.1 ≤ 64 }
 {
-    if levels.len() == 64 && top < 0x1_0000_0000 && are_from(levels, floor) {
-        return (top_word(levels, top as u32), 64);
+    if levels.len() == 64 && floor.max(top) < 0x1_0000_0000 {
+        return picked_bits(
+            levels_from(levels, floor as u32),
+            levels_at(levels, top as u32),
+        );
     }
     mixed_bits(levels, floor, top)
 }

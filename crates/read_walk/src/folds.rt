@@ -2,6 +2,8 @@
 ghost use Rattle.std.specs.Prelude.{◌≡◌, ℕ, ◌<◌, ◌≤◌, IsTrue, length, slice_index};
 ghost use Rattle.read_walk.specs.Pairs.{rows_in};
 
+use read_state::levels_at;
+
 /// The bits that any of the levels has.
 pub fn all_bits(levels: &[u32]) -> u32
     ensures { (k : ℕ) → k < length levels.now → slice_index levels.now k ≤ result }
@@ -63,6 +65,9 @@ pub fn count_zeros(reps: &[u32]) -> usize
     requires few { length reps.now ≤ 64 }
     ensures { result ≡ rows_in reps.now }
 {
+    if reps.len() == 64 {
+        return levels_at(reps, 0).count_ones() as usize;
+    }
     let mut count: u32 = 0;
     for i in 0..reps.len() {
         count += u32::from(reps[i] == 0);

@@ -7,7 +7,7 @@ ghost use Rattle.read_walk.specs.Order.{zipped, Follows, MayCome, WhyNot, OneMay
 
 use crate::folds::{all_bits, are_from, are_within};
 use columns_base::{Error, Result, S};
-use read_state::NestedState;
+use read_state::{NestedState, levels_from, levels_to};
 
 // Whether a pair that repeats and the one before it lie inside the list that it repeats in.
 fn check_repeated(nested: &NestedState, before: usize, rep: usize, level: usize) -> Result<()>
@@ -128,7 +128,19 @@ fn reaches(before: Option<usize>, level: usize) -> bool
     }
 }
 
-// Whether the pairs plainly may come: they begin rows, or all lie inside the innermost list.
+// Whether each of 64 pairs begins a row, or lies inside the innermost list behind one that does; `carried` tells of the pair before them.
+fn is_chain(reps: &[u32], defs: &[u32], floor: u32, carried: bool) -> bool
+    requires reps { length reps.now ≡ 64 }
+    requires defs { length defs.now ≡ 64 }
+    ensures { IsTrue result → (k : ℕ) → k < 64 → (slice_index reps.now k ≡ 0) ⊎ ((floor ≤ slice_index defs.now k) × (((k ≡ 0) × IsTrue carried) ⊎ ((j : ℕ) × (k ≡ j + 1) × (floor ≤ slice_index defs.now j)))) }
+{
+    let rows = levels_to(reps, 0);
+    let inner = levels_from(defs, floor);
+    let behind = inner % 0x8000_0000_0000_0000 * 2 + u64::from(carried);
+    rows | (inner & behind) == u64::MAX
+}
+
+// Whether the pairs plainly may come: each begins a row, or lies inside the innermost list behind one that does.
 fn plainly_follow(
     before: Option<usize>,
     reps: &[u32],
@@ -145,6 +157,9 @@ fn plainly_follow(
     }
     if !are_within(defs, top) {
         return false;
+    }
+    if reps.len() == 64 && floor < 0x1_0000_0000 {
+        return is_chain(reps, defs, floor as u32, reaches(before, floor));
     }
     if all_bits(reps) == 0 {
         return true;

@@ -4,7 +4,7 @@ ghost use Rattle.pq_runs.specs.Hybrid.{fault, given, hybrid};
 ghost use Rattle.pq_runs.specs.Taking.{IsRun, IsRepeatedRun, IsPackedRun, NoRun};
 ghost use Rattle.read_walk.specs.LevelRuns.{runs_left, IsReading, IsFilled};
 
-use crate::bits::{eight_of, low_bytes, number_at, skip, whole_number};
+use crate::bits::{low_bytes, number_at, put_eight, skip, whole_number};
 use columns_base::{Error, Result, S};
 use pq_runs::hybrid_rle::{Decoder, Run};
 
@@ -181,9 +181,7 @@ fn take_eight<'a>(levels: &mut LevelRuns<'a>, out: &mut [u32])
     ensures left { runs_left levels.old ≡ given (take 8 out.new) ++ runs_left levels.new }
 {
     let width = levels.runs.num_bits;
-    let numbers = eight_of(low_bytes(levels.packed) >> levels.shift, width);
-    let front = &mut out[..8];
-    front.copy_from_slice(&numbers);
+    put_eight(out, low_bytes(levels.packed) >> levels.shift, width);
     levels.packed = skip(levels.packed, width as usize);
     levels.standing -= 8;
     levels.left -= 8;

@@ -1,4 +1,4 @@
-use Rattle.std.proofs.Common.{◌≡◌, ◌/◌, ℕ, drop, ap, arith, ◌∙◌, inl, inr, ◌^◌}
+use Rattle.std.proofs.Common.{◌≡◌, ◌/◌, ℕ, take, drop, ap, arith, ◌∙◌, inl, inr, ◌^◌}
 use Rattle.pq_numbers.specs.Bits.{digits_of}
 use Rattle.pq_numbers.specs.Texts.{number_of}
 use Rattle.pq_numbers.proofs.Bytes.{are-drop}
@@ -29,6 +29,6 @@ unfolding runs_left
 returns-clause-left c =
     let s = c.args.levels.now in
     let e = enough-eight s.runs.num_bits s.shift s.standing s.packed.now c.requires.narrow c.requires.is.small c.requires.some c.requires.is.enough in
-    let numbers : c.eight_of-numbers.result ≡ digits_of (2 ^ s.runs.num_bits) 8 (number_of s.packed.now / 2 ^ s.shift) = c.eight_of-numbers.ensures ∙ (ap (λ (x : ℕ). digits_of (2 ^ s.runs.num_bits) 8 (x / 2 ^ s.shift)) c.low_bytes.ensures ∙ eight-are s.runs.num_bits s.shift s.packed.now e.0) in
-    let front = front_eight s.runs.num_bits (number_of s.packed.now / 2 ^ s.shift) c.copy_from_slice.new.self (drop 8 c.args.out.now) (c.copy_from_slice.ensures.after ∙ numbers) in
+    let numbers : digits_of (2 ^ s.runs.num_bits) 8 (c.low_bytes.result / 2 ^ s.shift) ≡ digits_of (2 ^ s.runs.num_bits) 8 (number_of s.packed.now / 2 ^ s.shift) = ap (λ (x : ℕ). digits_of (2 ^ s.runs.num_bits) 8 (x / 2 ^ s.shift)) c.low_bytes.ensures ∙ eight-are s.runs.num_bits s.shift s.packed.now e.0 in
+    let front = ap (take 8) c.put_eight.ensures ∙ front_eight s.runs.num_bits (number_of s.packed.now / 2 ^ s.shift) (digits_of (2 ^ s.runs.num_bits) 8 (c.low_bytes.result / 2 ^ s.shift)) (drop 8 c.args.out.now) numbers in
     rw (c.requires.none, c.skip-levels.ensures, front) (eight_taken s.runs.num_bits s.left s.number s.standing s.shift s.packed.now s.runs.values.now c.requires.some (omega (arith, c.requires.is.within)) c.requires.is.are)
