@@ -7,4 +7,4 @@ pub use read_nested::{fronts_agree, lists_keep_slots, structs_keep_slots};
 pub use schema_key::{attached_is_inferred, attached_schema_is_inferred};
 pub use schema_map::{fitting_fields_agree, leaves_are_counted, written_fields_fit};
 pub use shredding::{columns_join, rows_are_counted, rows_are_unique, rows_exist};
-pub use write_groups::groups_are_laid;
+pub use write_groups::{groups_are_laid, rows_are_read};

@@ -13,7 +13,7 @@ use Rattle.sample_sizes.specs.Laws.{AreEachSound, ArraysHaveNoEntries, CountsHol
 use Rattle.sample_sizes.specs.Rows.{AreGroupsOfRows, AreRows, IsRow}
 use Rattle.typed_groups.specs.Suiting.{AreAllSound, LargePagesAreLarge}
 use Rattle.write_counts.specs.Passing.{GroupPasses}
-use Rattle.write_groups.specs.Laid.{GroupsAreLaid, style_of}
+use Rattle.write_groups.specs.Laid.{ServedGroupsAreLaid, style_of}
 use Rattle.sample_run.proofs.Refusals.{suiting}
 use Rattle.sample_run.proofs.Rows.{columns_typed, rows_of_columns}
 use Rattle.sample_run.proofs.Written.{group_of}
@@ -93,11 +93,11 @@ one_group groups n few = (groups (sample_rows n ∷ []) (record { count = n; few
 are_rows : (rows : List Slots) → AreGroupsOfRows (rows ∷ []) → AreRows rows
 are_rows rows h = record { are = (recursion_from_All (All IsRow) (rows ∷ []) h.are).0; few = omega (arith, h.few) }
 
-laid_out : (laid : GroupsAreLaid) (chunk : ArrayTrees) (arrays : AreSampleArrays chunk) (out : OutGroup) → IsGroupFor sample_tree written_options chunk out → IsLaidOut sample_style (sample_rows arrays.0) out
+laid_out : (laid : ServedGroupsAreLaid) (chunk : ArrayTrees) (arrays : AreSampleArrays chunk) (out : OutGroup) → IsGroupFor sample_tree written_options chunk out → IsLaidOut sample_style (sample_rows arrays.0) out
 laid_out laid chunk arrays out h = let r = group_of laid arrays.0 chunk out arrays.1 arrays.2 h in record { encodings = _; entries = r.entries; none = r.none; laid = r.laid }
 
 no_counts :
-    (laid : GroupsAreLaid) (groups : SamplesAreGroups) (counts : CountsHold) (old : FileWriter PlainSink) (chunk : ArrayTrees) (g : RowGroupIter) (out : OutGroup)
+    (laid : ServedGroupsAreLaid) (groups : SamplesAreGroups) (counts : CountsHold) (old : FileWriter PlainSink) (chunk : ArrayTrees) (g : RowGroupIter) (out : OutGroup)
     → IsFreshWriter old → IsSampleGroup chunk g → IsGroupOf (fields_in old) g out → GroupPasses old.options.version (columns_of (schema_of (fields_in old))) [] out → ⊥
 no_counts laid groups counts old chunk g out f h is passes =
     counts sample_style old.options.version [] (sample_rows h.arrays.0) [] [] out (one_group groups h.arrays.0 h.arrays.1) tt (laid_out laid chunk h.arrays out (group_for old chunk g out f h is))
@@ -117,7 +117,7 @@ no_page groups none small chunk g h large =
     (subst (λ cs. PieceIsTooLarge (style_of g.options) sample_fields (rows_of cs) (all_entries cs)) h.chunk_is large))
 
 pub put_refused :
-    (laid : GroupsAreLaid) (pages : LargePagesAreLarge) (groups : SamplesAreGroups) (none : ArraysHaveNoEntries) (small : NoPageIsLarge) (counts : CountsHold) (old new : FileWriter PlainSink) (chunk : ArrayTrees) (g : RowGroupIter) (e : Error)
+    (laid : ServedGroupsAreLaid) (pages : LargePagesAreLarge) (groups : SamplesAreGroups) (none : ArraysHaveNoEntries) (small : NoPageIsLarge) (counts : CountsHold) (old new : FileWriter PlainSink) (chunk : ArrayTrees) (g : RowGroupIter) (e : Error)
     → IsFreshWriter old → IsSampleGroup chunk g → ((e ≡ InvalidArgumentError A8) × (¬ Takes old g)) ⊎ Refuses (λ _. 0) [] g old new e → e ≡ Memory
 put_refused laid pages groups none small counts old new chunk g e f h (inl a) = absurd (a.1 (takes old chunk g f h))
 put_refused laid pages groups none small counts old new chunk g e f h (inr (inl m)) = m
@@ -131,7 +131,7 @@ put_refused laid pages groups none small counts old new chunk g e f h (inr (inr 
 abbrev OneFooter : List OutGroup → ℕ
 OneFooter outs = footer_room (planned_footer (schema_of sample_fields) (schema_entry (plain_bytes sample_tree) ∷ []) outs)
 
-has_room : (laid : GroupsAreLaid) (groups : SamplesAreGroups) (room : FootersHaveRoom) (chunk : ArrayTrees) (outs : List OutGroup) → AreSampleArrays chunk → AreGroupsFor sample_tree written_options chunk outs → OneFooter outs ≤ max_size
+has_room : (laid : ServedGroupsAreLaid) (groups : SamplesAreGroups) (room : FootersHaveRoom) (chunk : ArrayTrees) (outs : List OutGroup) → AreSampleArrays chunk → AreGroupsFor sample_tree written_options chunk outs → OneFooter outs ≤ max_size
 has_room laid groups room chunk outs arrays (inl none) =
     subst (λ os. OneFooter os ≤ max_size) (sym none.1) (room sample_style [] [] (record { are = All-from_recursion (All IsRow) [] tt; groups = omega arith; few = omega arith }) tt)
 has_room laid groups room chunk outs arrays (inr one) =
@@ -142,7 +142,7 @@ abbrev IsPastEnd : SchemaTree → List OutGroup → Type 0
 IsPastEnd s outs = (max_size < length (plain_bytes s)) ⊎ (max_size < footer_room (planned_footer (schema_of s.fields) (schema_entry (plain_bytes s) ∷ []) outs))
 
 pub end_refused :
-    (laid : GroupsAreLaid) (groups : SamplesAreGroups) (short : SchemaIsSmall) (room : FootersHaveRoom) (chunk : ArrayTrees) (w : FileWriter PlainSink) (h : HasPut chunk w) (e : Error)
+    (laid : ServedGroupsAreLaid) (groups : SamplesAreGroups) (short : SchemaIsSmall) (room : FootersHaveRoom) (chunk : ArrayTrees) (w : FileWriter PlainSink) (h : HasPut chunk w) (e : Error)
     → (e ≡ Memory) ⊎ ((e ≡ WriteFault) × Rose 0 0) ⊎ ((e ≡ Overflow V3) × IsPastEnd (schema_view w.file.schema) h.groups) → e ≡ Memory
 end_refused laid groups short room chunk w h e (inl m) = m
 end_refused laid groups short room chunk w h e (inr (inl f)) = absurd (omega (arith, f.1))

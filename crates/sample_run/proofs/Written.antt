@@ -16,7 +16,7 @@ use Rattle.schema_key.specs.Key.{schema_entry}
 use Rattle.schema_to_tree.specs.Table.{schema_of}
 use Rattle.unique_rows.specs.Held.{AreRowsIn, HasWays}
 use Rattle.unique_rows.specs.Rewritten.{HasNoDictionary}
-use Rattle.write_groups.specs.Laid.{GroupsAreLaid, style_of}
+use Rattle.write_groups.specs.Laid.{ServedGroupsAreLaid, style_of}
 use Rattle.write_pages.specs.declared.options.WriteOptions.{WriteOptions}
 use Rattle.shredding.specs.Shape.{AreOf}
 use Rattle.columns_core.specs.Shapes.{shapes_of}
@@ -32,7 +32,7 @@ pub no_dictionary : HasNoDictionary sample_fields
 no_dictionary = All-from_recursion (λ c. is_dictionary c.data_type ≡ false) (schema_columns sample_fields) (refl, (refl, (refl, tt)))
 
 -- ---- the group, laid out
-pub group_of : (laid : GroupsAreLaid) (n : ℕ) (chunk : ArrayTrees) (out : OutGroup) → n ≤ 1000000 → AreColumns n chunk → IsGroupFor sample_tree written_options chunk out → AreRowsIn sample_style sample_fields (sample_rows n) out
+pub group_of : (laid : ServedGroupsAreLaid) (n : ℕ) (chunk : ArrayTrees) (out : OutGroup) → n ≤ 1000000 → AreColumns n chunk → IsGroupFor sample_tree written_options chunk out → AreRowsIn sample_style sample_fields (sample_rows n) out
 group_of laid n chunk out few h g =
     let columns : AreColumns n g.group.chunk = subst (AreColumns n) (sym g.chunk_is) h in
     let rows = rows_of_columns n g.group.chunk columns in
@@ -46,7 +46,7 @@ group_of laid n chunk out few h g =
           (subst (λ rs. IsLaidGroup (style_of g.group.options) rs (schema_columns sample_fields) (columns_of (schema_of sample_fields)) (all_chosen false (schema_columns sample_fields) (columns_of (schema_of sample_fields))) (map (λ c. None) (schema_columns sample_fields)) out) rows l);
     }
 
-pub sample_written : (laid : GroupsAreLaid) (n : ℕ) (chunk : ArrayTrees) (bytes : List ℕ) → 0 < n → n ≤ 1000000 → AreColumns n chunk → IsFileOfChunk (Some []) (Some bytes) sample_tree (plain_bytes sample_tree) written_options chunk → IsSampleFile V1 (sample_rows n ∷ []) bytes
+pub sample_written : (laid : ServedGroupsAreLaid) (n : ℕ) (chunk : ArrayTrees) (bytes : List ℕ) → 0 < n → n ≤ 1000000 → AreColumns n chunk → IsFileOfChunk (Some []) (Some bytes) sample_tree (plain_bytes sample_tree) written_options chunk → IsSampleFile V1 (sample_rows n ∷ []) bytes
 sample_written laid n chunk bytes some few h f =
     elim f.are [
       | inl none ↦ absurd (omega (arith, some, none.0, columns_len n chunk h))

@@ -29,7 +29,7 @@ use sample_sizes::{
 use schema_codec::PlainCodec;
 use std::alloc::Global;
 use typed_groups::{know_sound, large_pages_are_large, suiting_chunks_are_taken};
-use write_groups::{FileWriter, RowGroupIter, groups_are_laid, row_group_iter};
+use write_groups::{FileWriter, RowGroupIter, row_group_iter, served_groups_are_laid};
 
 /// PLAIN for one column.
 fn plain(alloc: Global) -> Result<Vec<Encoding>>
@@ -107,7 +107,7 @@ fn put_group(writer: &mut FileWriter<PlainSink>, group: RowGroupIter) -> Result<
     ensures ok { (chunk : ArrayTrees) → IsSampleGroup chunk group → OnOk result (HasPut chunk writer.new) }
     ensures err { IfErr result (λ e. e ≡ Memory) }
 {
-    groups_are_laid();
+    served_groups_are_laid();
     large_pages_are_large();
     samples_are_groups();
     arrays_have_no_entries();
@@ -125,7 +125,7 @@ fn end_file(writer: FileWriter<PlainSink>) -> Result<PlainSink>
     ensures ok { (chunk : ArrayTrees) → HasPut chunk writer → IfOk result (λ k. IsFileOfChunk (Some []) (Some (plain_taken k)) sample_tree (plain_bytes sample_tree) written_options chunk) }
     ensures err { IfErr result (λ e. e ≡ Memory) }
 {
-    groups_are_laid();
+    served_groups_are_laid();
     samples_are_groups();
     schema_is_small();
     footers_have_room();
@@ -160,7 +160,7 @@ pub fn write_rows(alloc: Global, count: u32) -> Result<PlainSink>
     ensures err { IfErr result (λ e. e ≡ Memory) }
     ensures ok { IfOk result (λ k. IsSampleFile V1 (sample_rows count ∷ []) (plain_taken k)) }
 {
-    groups_are_laid();
+    served_groups_are_laid();
     let schema = sample_schema(alloc)?;
     let chunk = sample_chunk(alloc, count)?;
     write_chunk(alloc, schema, chunk)

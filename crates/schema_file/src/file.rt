@@ -5,6 +5,7 @@ ghost use Rattle.columns_base.specs.declared.error.Error.{Error as Fault};
 ghost use Rattle.columns_base.specs.declared.error.Error.TheVariants.{InvalidArgumentError, Memory, Overflow, WriteFault};
 ghost use Rattle.columns_base.specs.declared.error.V.TheVariants.{V3};
 ghost use Rattle.columns_core.specs.View.{schema_view};
+ghost use Rattle.footer_write.specs.FooterView.{footer_view};
 ghost use Rattle.pq_files.specs.Layout.{OutGroup};
 ghost use Rattle.pq_files.specs.Packed.{HasRows};
 ghost use Rattle.pq_files.specs.Room.{footer_room, max_size, planned_footer};
@@ -15,14 +16,14 @@ ghost use Rattle.schema_file.specs.Writing.{IsOpen, fields_in};
 ghost use Rattle.schema_key.specs.Key.{keys_in, schema_entry};
 ghost use Rattle.schema_to_tree.specs.Conditions.{AreWritten, RefusesSchema};
 ghost use Rattle.schema_to_tree.specs.Table.{schema_of};
-ghost use Rattle.write_file.specs.Files.{HasFile, HasWritten};
+ghost use Rattle.write_file.specs.Files.{HasFileStating, HasWritten};
 ghost use Rattle.write_file.specs.Pages.{AllGive, SomeRefuses};
 ghost use Rattle.write_counts.specs.Passing.{GroupPasses};
 
 use crate::laws::written_trees_are_told;
 use columns_base::{A, Error, Result};
 use columns_core::Schema;
-use footer_write::elements_tell_of_schema;
+use footer_write::{ThriftFileMetaData, elements_tell_of_schema};
 use pq_io::Sink;
 use pq_tree::{KeyValue, SchemaDescriptor, Version};
 use schema_codec::SchemaCodec;
@@ -121,7 +122,7 @@ impl<W: Sink + Drop> SchemaFile<W> {
 
     // Writes the footer.
     fn put_footer<C: SchemaCodec>(&mut self, keys: Option<Vec<KeyValue>>, codec: &C) -> Result<u64>
-        ensures ok { IfOk result (λ size. (before : Option (List ℕ)) (version : PageVersion) (groups : List OutGroup) → IsOpen W.taken before version groups self.old → HasFile before (W.taken self.new.body.writer) (schema_of (fields_in self.old)) (keys_in keys ++ schema_entry (C.bytes_of codec.now (schema_view self.old.schema)) ∷ []) version groups size) }
+        ensures ok { IfOk result (λ size. (before : Option (List ℕ)) (version : PageVersion) (groups : List OutGroup) → IsOpen W.taken before version groups self.old → HasFileStating before (W.taken self.new.body.writer) (schema_of (fields_in self.old)) (keys_in keys ++ schema_entry (C.bytes_of codec.now (schema_view self.old.schema)) ∷ []) version groups size (footer_view self.new.body.metadata)) }
         ensures kept { (self.new.schema ≡ self.old.schema) × (self.new.refusal ≡ self.old.refusal) }
         ensures refused { IfErr result (λ e. (before : Option (List ℕ)) (version : PageVersion) (groups : List OutGroup) → IsOpen W.taken before version groups self.old → (e ≡ Memory) ⊎ ((e ≡ WriteFault) × Rose (W.faults self.old.body.writer) (W.faults self.new.body.writer)) ⊎ ((e ≡ Overflow V3) × ((max_size < length (C.bytes_of codec.now (schema_view self.old.schema))) ⊎ (max_size < footer_room (planned_footer (schema_of (fields_in self.old)) (keys_in keys ++ schema_entry (C.bytes_of codec.now (schema_view self.old.schema)) ∷ []) groups))))) }
         ensures later { W.faults self.old.body.writer ≤ W.faults self.new.body.writer }
@@ -147,7 +148,7 @@ impl<W: Sink + Drop> SchemaFile<W> {
     /// - `WriteFault`: the sink failed. `Memory`: memory ran out.
     /// - `Overflow(V3)`: the bytes of the schema or the footer's room pass 2^31 - 1.
     pub fn end<C: SchemaCodec>(&mut self, keys: Option<Vec<KeyValue>>, codec: &C) -> Result<u64>
-        ensures ok { IfOk result (λ size. (before : Option (List ℕ)) (version : PageVersion) (groups : List OutGroup) → IsOpen W.taken before version groups self.old → HasFile before (W.taken self.new.body.writer) (schema_of (fields_in self.old)) (keys_in keys ++ schema_entry (C.bytes_of codec.now (schema_view self.old.schema)) ∷ []) version groups size) }
+        ensures ok { IfOk result (λ size. (before : Option (List ℕ)) (version : PageVersion) (groups : List OutGroup) → IsOpen W.taken before version groups self.old → HasFileStating before (W.taken self.new.body.writer) (schema_of (fields_in self.old)) (keys_in keys ++ schema_entry (C.bytes_of codec.now (schema_view self.old.schema)) ∷ []) version groups size (footer_view self.new.body.metadata)) }
         ensures schema { self.new.schema ≡ self.old.schema }
         ensures refused { IfErr result (λ e. (before : Option (List ℕ)) (version : PageVersion) (groups : List OutGroup) → IsOpen W.taken before version groups self.old → (e ≡ Memory) ⊎ ((e ≡ WriteFault) × Rose (W.faults self.old.body.writer) (W.faults self.new.body.writer)) ⊎ ((e ≡ Overflow V3) × ((max_size < length (C.bytes_of codec.now (schema_view self.old.schema))) ⊎ (max_size < footer_room (planned_footer (schema_of (fields_in self.old)) (keys_in keys ++ schema_entry (C.bytes_of codec.now (schema_view self.old.schema)) ∷ []) groups))))) }
         ensures again { (e : Fault) → self.old.refusal ≡ Some e → (result ≡ Err e) × (self.new ≡ self.old) }
@@ -190,5 +191,14 @@ impl<W: Sink + Drop> SchemaFile<W> {
     {
         let body = self.body;
         body.writer
+    }
+
+    /// The sink, and what is kept for the footer: once `end` succeeded, what the footer states.
+    pub fn into_inner_and_metadata(self) -> (W, ThriftFileMetaData)
+        ensures writer { result.0 ≡ self.body.writer }
+        ensures metadata { result.1 ≡ self.body.metadata }
+    {
+        let body = self.body;
+        (body.writer, body.metadata)
     }
 }

@@ -16,7 +16,7 @@ use Rattle.schema_to_tree.specs.Table.{schema_of}
 use Rattle.typed_groups.proofs.Leaves.{served_first, served_rest}
 use Rattle.typed_groups.proofs.Nodes.{list_is, item_served, struct_is, parts_served, has_leaves, values_leaves, nulls_leaves, fixed_unserved, keys_unserved}
 use Rattle.typed_groups.specs.Suiting.{AreAllSound, GroupsAreWritten}
-use Rattle.write_groups.specs.Laid.{AreChosen, GroupsAreLaid, style_of}
+use Rattle.write_groups.specs.Laid.{AreChosen, ServedGroupsAreLaid, style_of}
 
 -- the entries of a column's dictionary, if it has one
 abbrev pub Entries : Type 0
@@ -70,7 +70,7 @@ entries_are_none cs fs h typed s = none_of_all cs fs false 0 h typed s
 
 -- ---- a group has the entries of its arrays, which are none
 
-pub written : GroupsAreLaid → GroupsAreWritten
+pub written : ServedGroupsAreLaid → GroupsAreWritten
 written laid wanted fs g out h columns is =
     let cs = schema_columns fs in
     let ls = columns_of (schema_of fs) in

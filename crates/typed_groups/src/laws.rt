@@ -4,7 +4,7 @@ ghost use Rattle.typed_groups.specs.Worked.{AreWorked};
 
 use nested_paths::paths_are_seen;
 use typed_arrays::{typed_columns_are_own, typed_slots_are_read};
-use write_groups::groups_are_laid;
+use write_groups::served_groups_are_laid;
 
 /// The columns of a chunk that suits are refused for want of memory, or for a decimal that its column does not hold.
 pub fn suiting_chunks_are_taken()
@@ -27,7 +27,7 @@ pub fn large_pages_are_large()
 pub fn groups_are_written()
     ensures { GroupsAreWritten }
 {
-    groups_are_laid();
+    served_groups_are_laid();
 }
 
 /// A worked chunk suits, and near misses do not.

@@ -26,7 +26,7 @@ use Rattle.pq_files.specs.Written.{elements_of, footer_value, footer_record, gro
 use Rattle.pq_numbers.specs.Texts.{number_of}
 use Rattle.pq_thrift.specs.Written.{IsWritten}
 use Rattle.write_file.proofs.Grown.{groups_more}
-use Rattle.write_file.specs.Files.{HasWritten, HasFile, IsFront, pages_in}
+use Rattle.write_file.specs.Files.{HasWritten, HasFileStating, IsFront, pages_in}
 use Rattle.write_file.specs.declared.body.FileBody.{FileBody}
 
 -- what a step that only pushes leaves as it is
@@ -165,7 +165,7 @@ stated taken before tree version groups b h = λ i. record {
   created_by = h.author i;
 }
 
-pub whole : {W : Type 0} (taken : W → Option (List ℕ)) (before after : Option (List ℕ)) (tree : Schema) (version : Version) (groups : List OutGroup) (b : FileBody W) (footer four rest : List ℕ) (size : ℕ) → WrittenFilesArePacked → HasWritten taken before tree version groups b → 0 < b.pushed → SpellsTree (elements_of tree) tree → IsWritten footer (footer_value (footer_view b.metadata)) → length four ≡ 4 → number_of four ≡ length footer → rest ≡ footer ++ (four ++ magic) → Appends (taken b.writer) after rest → size ≡ b.pushed + length rest → HasFile before after tree (pairs_view b.metadata.key_value_metadata) version groups size
+pub whole : {W : Type 0} (taken : W → Option (List ℕ)) (before after : Option (List ℕ)) (tree : Schema) (version : Version) (groups : List OutGroup) (b : FileBody W) (footer four rest : List ℕ) (size : ℕ) → WrittenFilesArePacked → HasWritten taken before tree version groups b → 0 < b.pushed → SpellsTree (elements_of tree) tree → IsWritten footer (footer_value (footer_view b.metadata)) → length four ≡ 4 → number_of four ≡ length footer → rest ≡ footer ++ (four ++ magic) → Appends (taken b.writer) after rest → size ≡ b.pushed + length rest → HasFileStating before after tree (pairs_view b.metadata.key_value_metadata) version groups size (footer_view b.metadata)
 whole taken before after tree version groups b footer four rest size law h some shape w f4 fn parts a e =
     let keys = pairs_view b.metadata.key_value_metadata in
     let front = fronted groups h.text h.pages (omega (arith, h.counted, some)) h.front in
@@ -185,8 +185,11 @@ whole taken before after tree version groups b footer four rest size law h some 
       are_keys = All-from_recursion IsKeyText keys (pairs_texts b.metadata.key_value_metadata);
     } in
     record {
-      file = file;
-      gained = subst (λ (x : List ℕ). Appends before after x) all (Appends-trans before (taken b.writer) after h.text rest h.gained a);
-      packed = law file tree keys version groups written;
-      size_is = e ∙ (omega (arith, h.counted, length-append h.text rest) ∙ ap length all);
+      whole = record {
+        file = file;
+        gained = subst (λ (x : List ℕ). Appends before after x) all (Appends-trans before (taken b.writer) after h.text rest h.gained a);
+        packed = record { written = written; carried = (law file tree keys version groups written).carried };
+        size_is = e ∙ (omega (arith, h.counted, length-append h.text rest) ∙ ap length all);
+      };
+      stated = stated taken before tree version groups b h;
     }

@@ -7,9 +7,10 @@ use Rattle.pq_metadata.specs.Footer.{Key}
 use Rattle.pq_metadata.specs.Frame.{magic}
 use Rattle.pq_tree.specs.Tree.{Schema, columns_of}
 use Rattle.pq_tree.specs.TreeViews.{schema_view}
+use Rattle.pq_files.specs.FooterRecord.{FileMetaData}
 use Rattle.pq_files.specs.Layout.{OutGroup}
 use Rattle.pq_files.specs.Packed.{AreGroups, Packed}
-use Rattle.pq_files.specs.Written.{version_number, created_by}
+use Rattle.pq_files.specs.Written.{version_number, created_by, footer_record}
 use Rattle.write_file.specs.declared.body.FileBody.{FileBody}
 use Rattle.write_file.specs.Leaves.{AreMetasOf}
 
@@ -47,3 +48,8 @@ pub record HasFile (before taken : Option (List ℕ)) (tree : Schema) (keys : Li
   pub gained : Appends before taken file
   pub packed : Packed file tree keys version groups
   pub size_is : size ≡ length file
+
+-- The same, and this metadata is what the footer of that file spells.
+pub record HasFileStating (before taken : Option (List ℕ)) (tree : Schema) (keys : List Key) (version : Version) (groups : List OutGroup) (size : ℕ) (m : FileMetaData) : Type 0 where
+  pub whole : HasFile before taken tree keys version groups size
+  pub stated : m ≡ footer_record version tree keys groups whole.packed.written.row_groups

@@ -2,7 +2,7 @@
 ghost use Rattle.std.specs.Prelude.{◌≡◌, ◌⊎◌, ◌++◌, ◌∷◌, [], ℕ, ◌+◌, ◌<◌, ◌≤◌, List, Option, length, map, option_map, pos, IfOk, OnOk, IfErr, IsErrOf};
 ghost use Rattle.columns_base.specs.declared.error.Error.TheVariants.{Memory, Overflow, WriteFault};
 ghost use Rattle.columns_base.specs.declared.error.V.TheVariants.{V3};
-ghost use Rattle.footer_write.specs.FooterView.{chunk_view, row_group_view};
+ghost use Rattle.footer_write.specs.FooterView.{chunk_view, footer_view, row_group_view};
 ghost use Rattle.footer_write.specs.Fits.{TreesFit};
 ghost use Rattle.pq_tree.specs.Tree.{Schema, columns_of};
 ghost use Rattle.pq_tree.specs.TreeViews.{schema_view, pairs_view};
@@ -14,7 +14,7 @@ ghost use Rattle.pq_files.specs.Room.{max_count, max_size, footer_room, planned_
 ghost use Rattle.pq_files.specs.Written.{elements_of, ordinal_of, group_record, version_number};
 ghost use Rattle.pq_metadata.specs.Footer.{SpellsTree};
 ghost use Rattle.pq_io.specs.Causes.{Rose};
-ghost use Rattle.write_file.specs.Files.{HasWritten, HasFile};
+ghost use Rattle.write_file.specs.Files.{HasWritten, HasFileStating};
 ghost use Rattle.write_file.specs.Pages.{AllGive, SomeRefuses};
 ghost use Rattle.write_counts.specs.Passing.{GroupPasses};
 
@@ -192,7 +192,7 @@ impl<W: Sink + Drop> FileBody<W> {
         Ok(())
     }
 
-    /// Pushes the footer with these keys, its length and what a file ends with, and gives the size of the file in bytes.
+    /// Pushes the footer with these keys, its length and what a file ends with, and gives the size of the file in bytes. What the footer states is kept.
     ///
     /// # Errors
     ///
@@ -201,7 +201,7 @@ impl<W: Sink + Drop> FileBody<W> {
     ///
     /// After an error nothing is said of what is kept.
     pub fn write_footer(&mut self, keys: Option<Vec<KeyValue>>) -> Result<u64>
-        ensures ok { IfOk result (λ size. (before : Option (List ℕ)) (tree : Schema) (version : PageVersion) (groups : List OutGroup) → HasWritten W.taken before tree version groups self.old → SpellsTree (elements_of tree) tree → HasFile before (W.taken self.new.writer) tree (pairs_view keys) version groups size) }
+        ensures ok { IfOk result (λ size. (before : Option (List ℕ)) (tree : Schema) (version : PageVersion) (groups : List OutGroup) → HasWritten W.taken before tree version groups self.old → SpellsTree (elements_of tree) tree → HasFileStating before (W.taken self.new.writer) tree (pairs_view keys) version groups size (footer_view self.new.metadata)) }
         ensures later { W.faults self.old.writer ≤ W.faults self.new.writer }
         ensures fault { IsErrOf result WriteFault → Rose (W.faults self.old.writer) (W.faults self.new.writer) }
         ensures refused { IfErr result (λ e. (e ≡ Memory) ⊎ (e ≡ WriteFault) ⊎ ((e ≡ Overflow V3) × ((before : Option (List ℕ)) (tree : Schema) (version : PageVersion) (groups : List OutGroup) → HasWritten W.taken before tree version groups self.old → TreesFit tree.fields → max_size < footer_room (planned_footer tree (pairs_view keys) groups)))) }

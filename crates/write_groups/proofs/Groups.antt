@@ -29,7 +29,7 @@ of_given cs None h = refl
 of_given cs (Some ns) h = h ns
 
 mutual
-  read_len : (a : ArrayTree) (node : Tree) → tree_len (read_by a node) ≡ tree_len a
+  pub read_len : (a : ArrayTree) (node : Tree) → tree_len (read_by a node) ≡ tree_len a
   read_len (null_array t n) node = refl
   read_len (leaf_array t vs m) node = refl
   read_len (list_array t os c m) node = refl
@@ -37,7 +37,7 @@ mutual
   read_len (struct_array t cs m) node = of_given cs (field_nodes node) (λ ns. read_first cs ns)
   read_len (dictionary_array t ks c m) node = refl
 
-  read_first : (cs : ArrayTrees) (nodes : Trees) → first_len (read_all cs nodes) ≡ first_len cs
+  pub read_first : (cs : ArrayTrees) (nodes : Trees) → first_len (read_all cs nodes) ≡ first_len cs
   read_first no_arrays nodes = refl
   read_first (more_arrays c cs) no_trees = refl
   read_first (more_arrays c cs) (tree node nodes) = read_len c node

@@ -1,37 +1,32 @@
 -- A column in pages is laid out by the row rule.
-use Rattle.std.proofs.Common.{◌≡◌, ℕ, zero, suc, List, [], ◌∷◌, length, map, take, drop, Option, None, Some, Bool, true, false, true≢false, cond, refl, sym, ap, subst, ◌∙◌, arith}
+use Rattle.std.proofs.Common.{◌≡◌, ℕ, zero, suc, List, [], ◌∷◌, length, map, take, drop, Option, None, Some, Bool, false, refl, sym, ap, subst, ◌∙◌}
 use Rattle.std.specs.List.{AllZip}
 use Rattle.std.proofs.lemmas.List.{take-map, drop-map, length-map}
 use Rattle.shredding.proofs.Along.{seen_along}
 use Rattle.shredding.proofs.Schema.{own_columns}
 use Rattle.shredding.specs.Along.{along, thin}
 use Rattle.shredding.specs.Cut.{cut, pieces, whole}
-use Rattle.shredding.specs.Parts.{Part, leaf_part, list_part, struct_part, path_way}
-use Rattle.shredding.specs.Shape.{LeafType, Way, at_leaf, in_list, in_struct}
+use Rattle.shredding.specs.Parts.{path_way}
+use Rattle.shredding.specs.Shape.{LeafType, Way, in_struct}
 use Rattle.shredding.specs.Shred.{Triple, column}
 use Rattle.shredding.specs.Slot.{Slot, Slots, fields, slot_at, Value}
 use Rattle.columns_core.specs.Shapes.{leaf_type}
 use Rattle.columns_slots.specs.Slots.{type_of}
 use Rattle.pq_files.specs.Layout.{OutPage, AreStoredEntries, bounded, plain_length, rows_per_page}
-use Rattle.pq_files.specs.Page.{Encoding, plain, dictionary, delta, delta_length, values_in}
+use Rattle.pq_files.specs.Page.{values_in}
 use Rattle.pq_files.specs.Statistics.{Statistics, HasStatistics}
 use Rattle.pq_files.specs.Stored.{AreStored}
-use Rattle.levels.specs.InBounds.{IsInBounds}
-use Rattle.pq_headline.specs.Columns.{ArrowColumn, is_alone, is_flat}
 use Rattle.pq_headline.specs.Output.{IsPageOfRows, page_rows}
 use Rattle.pq_headline.specs.Rows.{field_slots}
 use Rattle.pq_tree.specs.Physical.{Physical}
 use Rattle.pq_tree.specs.Views.{physical_view}
-use Rattle.pq_tree.specs.declared.types.Encoding.{Encoding as RustEncoding}
-use Rattle.write_values.specs.Deltas.{encoding_name}
-use Rattle.write_pages.proofs.WrittenForms.{written_is}
-use Rattle.write_pages.specs.Fits.{is_flat_path}
 use Rattle.write_pages.specs.Entries.{Entries, leaf_entries, stored_list}
-use Rattle.write_pages.specs.Holds.{ArePieces, column_encoding, encoding_view, rows_of, written_encoding}
+use Rattle.write_pages.specs.Holds.{ArePieces, rows_of}
 use Rattle.write_pages.specs.Rule.{page_limit}
 use Rattle.write_pages.specs.declared.options.WriteOptions.{WriteOptions}
 use Rattle.write_groups.specs.Given.{IsPageOf}
-use Rattle.write_groups.specs.Laid.{ColumnsAreLaid, IsAskedFor, style_of}
+use Rattle.write_groups.proofs.Used.{used_is}
+use Rattle.write_groups.specs.Laid.{ColumnsAreLaid, style_of}
 
 -- ---- pieces of what is made row by row
 
@@ -92,58 +87,9 @@ by_pieces limit (Some es) t p ts rows pieces h = (h.stored, h.are_stored, h.one)
 seen_rows : (w : Way) (i : ℕ) (rows : List Slots) → column (thin w) (map (λ row. along w (slot_at row i)) rows) ≡ column (in_struct false i w) (map fields rows)
 seen_rows w i rows = ap (column (thin w)) (sym (map_twice (along w) (λ row. slot_at row i) rows)) ∙ (seen_along w (field_slots i rows) ∙ sym (own_columns i w rows))
 
--- ---- the encoding
-
-flat_parts : (parts : List Part) (n : Bool) → IsInBounds parts → path_way parts ≡ at_leaf n → is_flat_path parts ≡ true
-flat_parts [] n h e = absurd (omega (arith, h.some))
-flat_parts (leaf_part b m k ∷ []) n h e = refl
-flat_parts (leaf_part b m k ∷ q ∷ qs) n h e = absurd (omega (arith, h.fits.0.1))
-flat_parts (list_part b m os ∷ qs) n h e = absurd cc
-flat_parts (struct_part b m k ∷ qs) n h e = absurd cc
-
-alone_parts : (parts : List Part) (w : Way) → IsInBounds parts → path_way parts ≡ thin w → is_alone w ≡ true → is_flat_path parts ≡ true
-alone_parts parts (at_leaf n) h e q = flat_parts parts n h e
-alone_parts parts (in_list n w) h e q = absurd (true≢false (sym q))
-alone_parts parts (in_struct n i w) h e q = absurd (true≢false (sym q))
-
-viewed : (x : Encoding) → encoding_view (encoding_name x) ≡ Some x
-viewed plain = refl
-viewed dictionary = refl
-viewed delta = refl
-viewed delta_length = refl
-
-both_plain : (b : Bool) → cond b (encoding_view (encoding_name plain)) (Some plain) ≡ Some plain
-both_plain true = refl
-both_plain false = refl
-
-or_that : Encoding → Option Encoding → Encoding
-or_that d None = d
-or_that d (Some x) = x
-
-same_encoding : (x y : Encoding) → ◌≡◌ {A = Option Encoding} (Some x) (Some y) → x ≡ y
-unfolding or_that
-same_encoding x y e = ap (or_that x) e
-
-asked_is : (c : ArrowColumn) (e : RustEncoding) (x : Encoding) (parts : List Part) (t : LeafType) (i : ℕ) (w : Way) → IsAskedFor c None e x → t ≡ leaf_type c.data_type → c.way ≡ in_struct false i w → path_way parts ≡ thin w → IsInBounds parts → written_encoding t parts e ≡ Some x
-asked_is c e x parts t i w h kind way seen well = written_is t parts e x (λ n. h.nulls refl (sym kind ∙ n)) (λ n. by_way (is_alone w) refl)
-  where
-    alone : is_flat c ≡ is_alone w
-    alone = ap (λ (v : Way). is_flat (record { way = v; limits = c.limits; data_type = c.data_type })) way
-
-    by_way : (b : Bool) → is_alone w ≡ b → cond (is_flat_path parts) (encoding_view e) (Some plain) ≡ Some x
-    by_way true q = ap (λ (k : Bool). cond k (encoding_view e) (Some plain)) (alone_parts parts w well seen q) ∙ (ap encoding_view h.asked ∙ viewed x)
-    by_way false q =
-        let none : x ≡ plain = h.nested refl (alone ∙ q) in
-        ap (λ (k : RustEncoding). cond (is_flat_path parts) (encoding_view k) (Some plain)) (h.asked ∙ ap encoding_name none) ∙ (both_plain (is_flat_path parts) ∙ ap Some (sym none))
-
--- of a dictionary it is that of dictionaries
-encoding_asked : (es : Entries) (c : ArrowColumn) (e : RustEncoding) (x : Encoding) (parts : List Part) (t : LeafType) (i : ℕ) (w : Way) → IsAskedFor c es e x → t ≡ leaf_type c.data_type → c.way ≡ in_struct false i w → path_way parts ≡ thin w → IsInBounds parts → column_encoding es t parts e ≡ Some x
-encoding_asked None c e x parts t i w h kind way seen well = asked_is c e x parts t i w h kind way seen well
-encoding_asked (Some es) c e x parts t i w h kind way seen well = ap Some (sym (h.keys refl))
-
 -- The chunk that a column is, is laid out as the rows of the schema are to be.
 pub laid : ColumnsAreLaid
-laid o node parts a e g version l chunk c i w rows x ask h s k way kind =
+laid o node parts a e g version l chunk c i w rows h s k way kind =
     let t = h.type_ in
     let p = h.pages in
     let es = leaf_entries a in
@@ -165,29 +111,30 @@ laid o node parts a e g version l chunk c i w rows x ask h s k way kind =
     let asked : page_rows limit (map fields rows) es (plain_length l.physical (values_in stored)) ≡ map (map fields) (cut rows n) =
     page_is limit es (plain_length l.physical (values_in stored)) (map fields rows) ∙ ((λ j. cut (map fields rows) (page_cut limit es (plain_length (physical j) (values_in stored)) (sym count j))) ∙ parts_map fields n rows) in
     let wanted : g.options.write_statistics ≡ o.write_statistics = ap (λ (x : WriteOptions). x.write_statistics) p.options in
-    let encoding_is : g.encoding ≡ x = same_encoding g.encoding x (sym p.encoding ∙ encoding_asked es c e x parts own i w ask kind way s.way s.in_bounds) in
-    let one : (q : List Slots) (y : OutPage) → IsPageOf g.options.write_statistics g.encoding g.type g.physical g.way g.entries (map f q) y → IsPageOfRows (style_of o) x (record { arrow = c; physical = l.physical; entries = es }) (map fields q) y = λ q y z. record {
+    let one : (q : List Slots) (y : OutPage) → IsPageOf g.options.write_statistics g.encoding g.type g.physical g.way g.entries (map f q) y → IsPageOfRows (style_of o) g.encoding (record { arrow = c; physical = l.physical; entries = es }) (map fields q) y = λ q y z. record {
       triples = subst (λ (v : LeafType). AreStored v l.physical (column c.way (map fields q)) y.triples) type_is
           (subst (λ (v : Physical). AreStored g.type v (column c.way (map fields q)) y.triples) (sym k.leaf.physical)
           (subst (λ (ts : List Triple). AreStored g.type g.physical ts y.triples) (column_is q) z.triples));
-      encoding = z.encoding ∙ encoding_is;
+      encoding = z.encoding;
       statistics =
           statistics_moved g.options.write_statistics o.write_statistics g.type (leaf_type c.data_type) g.physical l.physical g.entries es y.statistics (column g.way (map f q)) (column c.way (map fields q)) wanted type_is (sym k.leaf.physical) p.entries (column_is q) z.statistics;
-    } in
-    record {
-      stored = stored;
-      are_stored = subst (λ (y : LeafType). AreStored y l.physical (column c.way (map fields rows)) stored) kind
-          (subst (λ (y : Physical). AreStored own y (column c.way (map fields rows)) stored) (sym physical)
-          (subst (λ (ts : List Triple). AreStored own (physical_view t.physical_type) ts stored) all by.1));
-      entries =
-          let same : chunk.entries ≡ stored_list own (physical_view t.physical_type) es = k.entries ∙ (λ j. stored_list (p.type j) (p.physical j) (p.entries j)) in
-          subst (λ (vs : Option (List Value)). AreStoredEntries (leaf_type c.data_type) l.physical es vs) (sym same)
-          (subst (λ (y : LeafType). AreStoredEntries y l.physical es (stored_list own (physical_view t.physical_type) es)) kind
-          (subst (λ (y : Physical). AreStoredEntries own y es (stored_list own (physical_view t.physical_type) es)) (sym physical) p.stored_entries));
-      pages = subst (λ (ps : List (List Slot)). AllZip (IsPageOfRows (style_of o) x (record { arrow = c; physical = l.physical; entries = es })) ps chunk.pages) (sym asked)
-          (zip_maps (IsPageOf g.options.write_statistics g.encoding g.type g.physical g.way g.entries) (IsPageOfRows (style_of o) x (record { arrow = c; physical = l.physical; entries = es })) f fields (cut rows n) chunk.pages one
-          (subst (λ (ps : List (List Slot)). AllZip (IsPageOf g.options.write_statistics g.encoding g.type g.physical g.way g.entries) ps chunk.pages) given k.pages));
-      statistics =
-          statistics_moved g.options.write_statistics o.write_statistics g.type (leaf_type c.data_type) g.physical l.physical g.entries es chunk.statistics (column g.way g.rows) (column c.way (map fields rows)) wanted type_is (sym k.leaf.physical) p.entries
-          (ap (column g.way) (p.rows ∙ here) ∙ column_is rows) k.statistics;
-    }
+    } in (
+      used_is c es e g.encoding parts own i w p.encoding kind way s.way s.in_bounds,
+      record {
+        stored = stored;
+        are_stored = subst (λ (y : LeafType). AreStored y l.physical (column c.way (map fields rows)) stored) kind
+            (subst (λ (y : Physical). AreStored own y (column c.way (map fields rows)) stored) (sym physical)
+            (subst (λ (ts : List Triple). AreStored own (physical_view t.physical_type) ts stored) all by.1));
+        entries =
+            let same : chunk.entries ≡ stored_list own (physical_view t.physical_type) es = k.entries ∙ (λ j. stored_list (p.type j) (p.physical j) (p.entries j)) in
+            subst (λ (vs : Option (List Value)). AreStoredEntries (leaf_type c.data_type) l.physical es vs) (sym same)
+            (subst (λ (y : LeafType). AreStoredEntries y l.physical es (stored_list own (physical_view t.physical_type) es)) kind
+            (subst (λ (y : Physical). AreStoredEntries own y es (stored_list own (physical_view t.physical_type) es)) (sym physical) p.stored_entries));
+        pages = subst (λ (ps : List (List Slot)). AllZip (IsPageOfRows (style_of o) g.encoding (record { arrow = c; physical = l.physical; entries = es })) ps chunk.pages) (sym asked)
+            (zip_maps (IsPageOf g.options.write_statistics g.encoding g.type g.physical g.way g.entries) (IsPageOfRows (style_of o) g.encoding (record { arrow = c; physical = l.physical; entries = es })) f fields (cut rows n) chunk.pages one
+            (subst (λ (ps : List (List Slot)). AllZip (IsPageOf g.options.write_statistics g.encoding g.type g.physical g.way g.entries) ps chunk.pages) given k.pages));
+        statistics =
+            statistics_moved g.options.write_statistics o.write_statistics g.type (leaf_type c.data_type) g.physical l.physical g.entries es chunk.statistics (column g.way g.rows) (column c.way (map fields rows)) wanted type_is (sym k.leaf.physical) p.entries
+            (ap (column g.way) (p.rows ∙ here) ∙ column_is rows) k.statistics;
+      },
+    )

@@ -13,6 +13,10 @@ mod Written
 mod Same
 mod Laid
 mod FieldLaid
-mod Unkeyed
+mod Used
+mod Keyed
+mod ReadRows
+mod ServedLaid
+mod Accepted
 mod GroupLaid
 mod Chosen

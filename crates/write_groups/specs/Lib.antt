@@ -2,3 +2,4 @@ pub mod Given
 pub mod Columns
 pub mod Writing
 pub mod Laid
+pub mod Accepted

@@ -6,12 +6,15 @@ use Rattle.columns_base.specs.declared.error.V.TheVariants.{V3}
 use Rattle.columns_core.specs.Tree.{FieldTrees}
 use Rattle.columns_core.specs.View.{schema_view}
 use Rattle.columns_slots.specs.Slots.{AreTyped, first_len}
+use Rattle.footer_write.specs.FooterView.{footer_view}
 use Rattle.pq_files.specs.Layout.{OutGroup}
 use Rattle.pq_io.specs.Causes.{Rose}
+use Rattle.pq_tree.specs.Footers.{Key}
 use Rattle.pq_tree.specs.Tree.{columns_of}
 use Rattle.pq_tree.specs.TreeViews.{trees_view}
 use Rattle.schema_file.specs.Writing.{IsOpen}
 use Rattle.schema_to_tree.specs.Table.{schema_of}
+use Rattle.write_file.specs.Files.{HasFileStating}
 use Rattle.write_file.specs.Pages.{AllGive, SomeRefuses}
 use Rattle.write_counts.specs.Passing.{GroupPasses}
 use Rattle.write_groups.specs.Columns.{AreGroupColumns}
@@ -25,6 +28,12 @@ fields_in w = (schema_view w.file.schema).fields
 -- The writer has written these groups, and goes on: see `IsOpen`.
 abbrev pub IsWriting : {W : Type 0} → (W → Option (List ℕ)) → Option (List ℕ) → FileWriter W → List OutGroup → Type 0
 IsWriting taken before w groups = IsOpen taken before w.options.version groups w.file
+
+-- The writer has ended: behind what was there the sink gained one packed file of these groups, with these keys and of this size, and what is kept is what the footer of that
+-- file spells.
+abbrev pub HasEnded : {W : Type 0} → (W → Option (List ℕ)) → Option (List ℕ) → List Key → List OutGroup → ℕ → FileWriter W → Type 0
+HasEnded taken before keys groups size w =
+    HasFileStating before (taken w.file.body.writer) (schema_of (fields_in w)) keys w.options.version groups size (footer_view w.file.body.metadata)
 
 -- Its columns are those of its chunk, and no page was asked for.
 abbrev pub HasColumns : RowGroupIter → Type 0

@@ -7,21 +7,27 @@ ghost use Rattle.columns_base.specs.declared.error.V.TheVariants.{V3};
 ghost use Rattle.columns_array.specs.Boxed.{all_boxed};
 ghost use Rattle.columns_core.specs.View.{schema_view, fields_view};
 ghost use Rattle.columns_slots.specs.Slots.{AreTyped, first_len};
+ghost use Rattle.footer_write.specs.FooterView.{footer_view};
 ghost use Rattle.pq_files.specs.Layout.{OutGroup};
 ghost use Rattle.pq_files.specs.Room.{footer_room, max_size, planned_footer};
 ghost use Rattle.pq_io.specs.Causes.{Rose};
+ghost use Rattle.pq_tree.specs.Footers.{Key};
 ghost use Rattle.pq_tree.specs.Tree.{columns_of};
 ghost use Rattle.pq_tree.specs.TreeViews.{trees_view};
 ghost use Rattle.schema_key.specs.Key.{keys_in, schema_entry};
 ghost use Rattle.schema_to_tree.specs.Conditions.{RefusesSchema};
 ghost use Rattle.schema_to_tree.specs.Table.{schema_of};
-ghost use Rattle.write_file.specs.Files.{HasFile};
-ghost use Rattle.write_groups.specs.Writing.{Adds, HasColumns, IsWriting, Refuses, Takes, fields_in};
+ghost use Rattle.write_file.specs.Files.{HasFile, HasFileStating};
+ghost use Rattle.write_groups.specs.Accepted.{HasAccepted, IsFileOf};
+ghost use Rattle.write_groups.specs.declared.group.RowGroupIter.{RowGroupIter as Group};
+ghost use Rattle.write_groups.specs.Writing.{Adds, HasColumns, HasEnded, IsWriting, Refuses, Takes, fields_in};
 
 use crate::group::RowGroupIter;
+use crate::laws::groups_are_laid;
 use columns_array::{ArrayBox, Chunk};
 use columns_base::{A, Error, Result};
 use columns_core::{Field, Schema, is_same_type};
+use footer_write::ThriftFileMetaData;
 use nested_paths::paths_have_levels;
 use pq_io::Sink;
 use pq_tree::{KeyValue, ParquetType, SchemaDescriptor, is_same_tree};
@@ -86,6 +92,7 @@ impl<W: Sink + Drop> FileWriter<W> {
     /// Those of `to_parquet_schema`. The sink is then dropped.
     pub fn try_new(alloc: Global, writer: W, schema: Schema, options: WriteOptions) -> Result<Self>
         ensures ok { IfOk result (λ w. IsWriting W.taken (W.taken writer) w []) }
+        ensures accepts { IfOk result (λ w. HasAccepted W.taken (W.taken writer) [] w) }
         ensures schema { IfOk result (λ w. schema_view w.file.schema ≡ schema_view schema) }
         ensures options { IfOk result (λ w. w.options ≡ options) }
         ensures refused { IfErr result (RefusesSchema (schema_view schema).fields) }
@@ -147,6 +154,7 @@ impl<W: Sink + Drop> FileWriter<W> {
     /// - `Overflow(V3)`: the room of a page, also of a dictionary page, passes 2^31 - 1; or the rows of the file, the level pairs of a column or the bytes of the pages pass 2^63 - 1.
     pub fn write(&mut self, row_group: RowGroupIter) -> Result<()>
         ensures ok { (before : Option (List ℕ)) (groups : List OutGroup) → IsWriting W.taken before self.old groups → HasColumns row_group → OnOk result (Adds W.taken before groups row_group self.old self.new) }
+        ensures accepts { (before : Option (List ℕ)) (chunks : List Group) → HasAccepted W.taken before chunks self.old → HasColumns row_group → OnOk result (HasAccepted W.taken before (chunks ++ row_group ∷ []) self.new) }
         ensures schema { self.new.file.schema ≡ self.old.file.schema }
         ensures options { self.new.options ≡ self.old.options }
         ensures takes { OnOk result (Takes self.old row_group) }
@@ -162,6 +170,7 @@ impl<W: Sink + Drop> FileWriter<W> {
             self.file.refuse(Error::InvalidArgumentError(A::A8));
             return Err(Error::InvalidArgumentError(A::A8));
         }
+        row_group.chunk.know();
         let mut row_group = row_group;
         match self.put(&mut row_group) {
             Ok(()) => Ok(()),
@@ -184,6 +193,8 @@ impl<W: Sink + Drop> FileWriter<W> {
         codec: &C,
     ) -> Result<u64>
         ensures ok { IfOk result (λ size. (before : Option (List ℕ)) (groups : List OutGroup) → IsWriting W.taken before self.old groups → HasFile before (W.taken self.new.file.body.writer) (schema_of (fields_in self.old)) (keys_in key_value_metadata ++ schema_entry (C.bytes_of codec.now (schema_view self.old.file.schema)) ∷ []) self.old.options.version groups size) }
+        ensures packed { IfOk result (λ size. (before : Option (List ℕ)) (chunks : List Group) → HasAccepted W.taken before chunks self.old → IsFileOf before (W.taken self.new.file.body.writer) (fields_in self.old) (keys_in key_value_metadata ++ schema_entry (C.bytes_of codec.now (schema_view self.old.file.schema)) ∷ []) self.old.options.version chunks size) }
+        ensures stated { IfOk result (λ size. (before : Option (List ℕ)) (groups : List OutGroup) → IsWriting W.taken before self.old groups → HasEnded W.taken before (keys_in key_value_metadata ++ schema_entry (C.bytes_of codec.now (schema_view self.old.file.schema)) ∷ []) groups size self.new) }
         ensures schema { self.new.file.schema ≡ self.old.file.schema }
         ensures options { self.new.options ≡ self.old.options }
         ensures refused { IfErr result (λ e. (before : Option (List ℕ)) (groups : List OutGroup) → IsWriting W.taken before self.old groups → (e ≡ Memory) ⊎ ((e ≡ WriteFault) × Rose (W.faults self.old.file.body.writer) (W.faults self.new.file.body.writer)) ⊎ ((e ≡ Overflow V3) × ((max_size < length (C.bytes_of codec.now (schema_view self.old.file.schema))) ⊎ (max_size < footer_room (planned_footer (schema_of (fields_in self.old)) (keys_in key_value_metadata ++ schema_entry (C.bytes_of codec.now (schema_view self.old.file.schema)) ∷ []) groups))))) }
@@ -192,6 +203,7 @@ impl<W: Sink + Drop> FileWriter<W> {
         ensures ended { IfOk result (λ _. self.new.file.refusal ≡ Some (InvalidArgumentError A8)) }
         ensures later { W.faults self.old.file.body.writer ≤ W.faults self.new.file.body.writer }
     {
+        groups_are_laid();
         match self.file.end(key_value_metadata, codec) {
             Ok(size) => Ok(size),
             Err(error) => Err(error),
@@ -245,5 +257,14 @@ impl<W: Sink + Drop> FileWriter<W> {
         ensures { result ≡ self.file.body.writer }
     {
         self.file.into_inner()
+    }
+
+    /// The sink, and what the footer of its file states, where `end` succeeded (Parquet format, `FileMetaData`). Else it is what was kept for the footer so far.
+    pub fn into_inner_and_metadata(self) -> (W, ThriftFileMetaData)
+        ensures writer { result.0 ≡ self.file.body.writer }
+        ensures metadata { result.1 ≡ self.file.body.metadata }
+        ensures stated { (before : Option (List ℕ)) (keys : List Key) (groups : List OutGroup) (size : ℕ) → HasEnded W.taken before keys groups size self → HasFileStating before (W.taken result.0) (schema_of (fields_in self)) keys self.options.version groups size (footer_view result.1) }
+    {
+        self.file.into_inner_and_metadata()
     }
 }

@@ -1,10 +1,11 @@
 //! A file of one dictionary column, by hand (Parquet format, "Dictionary Page", "Data Pages"; Encodings, "Plain", "Dictionary Encoding" and "Run
 //! Length Encoding / Bit-Packing Hybrid"; parquet.thrift).
 use columns_array::{ArrayBox, Chunk, DictionaryArray};
-use columns_base::Result;
+use columns_base::{Error, Result, V};
 use columns_core::{Bitmap, DataType, Field, IntegerType, Metadata, OffsetsBuffer, Schema};
 use columns_leaf::keys::DictionaryKeys;
 use columns_leaf::{PrimitiveArray, Utf8Array};
+use footer_write::{ThriftFileMetaData, write_metadata};
 use pq_container::read_metadata;
 use pq_io::PlainSink;
 use pq_tree::{ColumnChunkMetaData, CompressionOptions, Encoding, ParquetType, Version};
@@ -94,14 +95,18 @@ fn group(alloc: Global, from: &[ParquetType]) -> Result<RowGroupIter> {
     row_group_iter(alloc, chunk, encodings, trees(alloc, from)?, OPTIONS)
 }
 
-// The file of one group.
-fn file(alloc: Global) -> Result<PlainSink> {
+// The writer, behind the end of a file of one group.
+fn ended(alloc: Global) -> Result<FileWriter<PlainSink>> {
     let sink = PlainSink::new(alloc);
     let mut writer = FileWriter::try_new(alloc, sink, schema(alloc)?, OPTIONS)?;
     let group = group(alloc, writer.parquet_schema().fields())?;
     writer.write(group)?;
     writer.end(None, &PlainCodec)?;
-    Ok(writer.into_inner())
+    Ok(writer)
+}
+
+fn file(alloc: Global) -> Result<PlainSink> {
+    Ok(ended(alloc)?.into_inner())
 }
 
 // Both pages, each behind its header.
@@ -155,5 +160,26 @@ fn the_dictionary_page_is_read_again(rt: HostRuntime) -> Result<()> {
         _ => false,
     };
     assert!(rt; is_one);
+    Ok(())
+}
+
+// The footer of this metadata, its length, and what a file ends with.
+fn foot(alloc: Global, metadata: &ThriftFileMetaData) -> Result<Vec<u8>> {
+    let mut foot = Vec::new(alloc);
+    write_metadata(metadata, &mut foot)?;
+    let Ok(length) = u32::try_from(foot.len()) else {
+        return Err(Error::Overflow(V::V3));
+    };
+    foot.extend_from_slice(&length.to_le_bytes())?;
+    foot.extend_from_slice(b"PAR1")?;
+    Ok(foot)
+}
+
+#[test]
+fn the_metadata_is_what_the_footer_states(rt: HostRuntime) -> Result<()> {
+    let alloc = rt.alloc();
+    let (sink, metadata) = ended(alloc)?.into_inner_and_metadata();
+    assert!(rt; metadata.num_rows == 4 && metadata.row_groups.len() == 1);
+    assert!(rt; sink.bytes().ends_with(foot(alloc, &metadata)?.as_slice()));
     Ok(())
 }

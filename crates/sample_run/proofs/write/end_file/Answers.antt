@@ -10,4 +10,4 @@ returns-in-Ok-clause-ok c = λ chunk h.
 pub returns-in-Err-clause-err : goal.returns-in-Err-clause-err
 returns-in-Err-clause-err c =
     let h = c.requires in
-    end_refused c.groups_are_laid.ensures c.samples_are_groups.ensures c.schema_is_small.ensures c.footers_have_room.ensures h.0 c.args.writer h.1 c.in-Err.error (c.in-Err.ensures.refused (Some []) h.1.groups h.1.writing)
+    end_refused c.served_groups_are_laid.ensures c.samples_are_groups.ensures c.schema_is_small.ensures c.footers_have_room.ensures h.0 c.args.writer h.1 c.in-Err.error (c.in-Err.ensures.refused (Some []) h.1.groups h.1.writing)

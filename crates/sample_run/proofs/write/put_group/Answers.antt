@@ -9,5 +9,5 @@ returns-in-Ok-clause-ok c = λ chunk h.
 pub returns-in-Err-clause-err : goal.returns-in-Err-clause-err
 returns-in-Err-clause-err c =
     let g = c.requires.group in
-    put_refused c.groups_are_laid.ensures c.large_pages_are_large.ensures c.samples_are_groups.ensures c.arrays_have_no_entries.ensures c.no_page_is_large.ensures c.counts_hold.ensures c.args.writer.now c.write.new.self g.0 c.args.group c.in-Err.error c.requires.fresh g.1
+    put_refused c.served_groups_are_laid.ensures c.large_pages_are_large.ensures c.samples_are_groups.ensures c.arrays_have_no_entries.ensures c.no_page_is_large.ensures c.counts_hold.ensures c.args.writer.now c.write.new.self g.0 c.args.group c.in-Err.error c.requires.fresh g.1
     (c.in-Err.ensures.refused (Some []) [] c.requires.fresh.writing g.1.columns)
