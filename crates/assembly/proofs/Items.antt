@@ -3,7 +3,7 @@ use Rattle.std.proofs.Common.{◌≡◌, ◌+◌, ◌-◌, ◌<◌, ◌≤◌, �
 use Rattle.std.proofs.lemmas.List.{length-append}
 use Rattle.std.proofs.lemmas.List.Sums.{sum_by-cons}
 use Rattle.std.specs.List.{AllZip}
-use Rattle.columns_core.specs.Tree.{TypeTree, FieldTree}
+use Rattle.columns_core.specs.Tree.{TypeTree}
 use Rattle.columns_slots.proofs.Rows.{slots_counted}
 use Rattle.columns_slots.specs.Slots.{slots, tree_len}
 use Rattle.columns_slots.specs.Tree.{ArrayTree}
@@ -12,15 +12,15 @@ use Rattle.pq_headline.specs.Columns.{ArrowColumn, field_columns}
 use Rattle.pq_headline.specs.Openings.{Opening, IsItem, IsAlike, HaveLevels, piece_size}
 use Rattle.pq_pages.specs.Outcomes.{Outcome}
 use Rattle.pq_tree.specs.Tree.{Leaf}
-use Rattle.read_nested.specs.Joined.{IsArrayOf}
 use Rattle.read_pieces.specs.Columns.{rows_of_all}
 use Rattle.read_pieces.specs.Pieces.{ArePiecesOf, leaf_types}
 use Rattle.read_pieces.specs.declared.piece.ColumnPiece.{ColumnPiece}
 use Rattle.schema_map.specs.Rows.{asked_by}
 use Rattle.shredding.proofs.Counts.{counted}
 use Rattle.shredding.specs.Shred.{Triple, column}
-use Rattle.assembly.specs.Giving.{IsOpened}
-use Rattle.assembly.specs.Lanes.{Tables, lanes, lanes_of, pieces_at, AreBehind, AreNext, ArePieces}
+use Rattle.shredding.specs.Slot.{Value}
+use Rattle.assembly.specs.Giving.{IsMade, IsOpened}
+use Rattle.assembly.specs.Lanes.{Lane, Tables, lanes, lanes_of, pieces_at, AreBehind, AreEntries, AreNext, ArePieces}
 use Rattle.assembly.proofs.Trees.{leaf_types_count, some_column}
 
 -- ---- one of each in four lists
@@ -56,12 +56,12 @@ column_rows a (c ∷ cs) [] h i lt = absurd h
 column_rows a (c ∷ cs) (ts ∷ table) h zero lt = ap rows_in (sym h.0) ∙ counted c.way (slots a)
 column_rows a (c ∷ cs) (ts ∷ table) h (suc i) lt = column_rows a cs table h.1 i (omega arith)
 
-total : (f : FieldTree) (tables : Tables) (arrays : List ArrayTree) → AllZip (IsArrayOf f) tables arrays → (i : ℕ) → i < length (field_columns f) → rows_of_all (pieces_at i tables) ≡ length (flat_map slots arrays)
-total f [] [] h i lt = refl
-total f [] (a ∷ arrays) h i lt = absurd h
-total f (table ∷ tables) [] h i lt = absurd h
-total f (table ∷ tables) (a ∷ arrays) h i lt =
-    sum_by-cons rows_in (slice_index_or table i []) (pieces_at i tables) ∙ ap (λ k. k + rows_of_all (pieces_at i tables)) (column_rows a (field_columns f) table h.0.columns i lt) ∙ ap (λ k. length (slots a) + k) (total f tables arrays h.1 i lt)
+total : (o : Opening) (tables : Tables) (arrays : List ArrayTree) → AllZip (IsMade o) tables arrays → (i : ℕ) → i < length (field_columns o.field) → rows_of_all (pieces_at i tables) ≡ length (flat_map slots arrays)
+total o [] [] h i lt = refl
+total o [] (a ∷ arrays) h i lt = absurd h
+total o (table ∷ tables) [] h i lt = absurd h
+total o (table ∷ tables) (a ∷ arrays) h i lt =
+    sum_by-cons rows_in (slice_index_or table i []) (pieces_at i tables) ∙ ap (λ k. k + rows_of_all (pieces_at i tables)) (column_rows a (field_columns o.field) table h.0.array.columns i lt) ∙ ap (λ k. length (slots a) + k) (total o tables arrays h.1 i lt)
     ∙ sym (length-append (slots a) (flat_map slots arrays))
 
 behind :
@@ -77,16 +77,22 @@ behind i before rows n (c ∷ cs) (t ∷ types) (l ∷ ls) (os ∷ others) table
   behind (suc i) before rows n cs types ls others tables (λ j lt. ap (λ m. rows_of_all (pieces_at m tables)) (omega arith) ∙ h (suc j) (omega arith)),
 )
 
-pub all_behind : (o : Opening) (tables : Tables) (arrays : List ArrayTree) → AllZip (IsArrayOf o.field) tables arrays → AreBehind 0 (length (flat_map slots arrays)) o.rows (lanes_of o) tables
+pub all_behind : (o : Opening) (tables : Tables) (arrays : List ArrayTree) → AllZip (IsMade o) tables arrays → AreBehind 0 (length (flat_map slots arrays)) o.rows (lanes_of o) tables
 all_behind o tables arrays h =
-    behind 0 (length (flat_map slots arrays)) o.rows o.chunk_size (field_columns o.field) (leaf_types o.field) o.leaves o.outcomes tables (λ j lt. ap (λ m. rows_of_all (pieces_at m tables)) (omega arith) ∙ total o.field tables arrays h j lt)
+    behind 0 (length (flat_map slots arrays)) o.rows o.chunk_size (field_columns o.field) (leaf_types o.field) o.leaves o.outcomes tables (λ j lt. ap (λ m. rows_of_all (pieces_at m tables)) (omega arith) ∙ total o tables arrays h j lt)
 
 -- ---- the pieces
 
+-- those of the columns, and the entries of each
+pub record HaveEntries (cs : List ArrowColumn) (types : List TypeTree) (table : List (List Triple)) (ps : List ColumnPiece) (xs : List Lane) : Type 0 where
+  pub entries : List (Option (List (Option Value)))
+  pub pieces : ArePiecesOf cs types table entries ps
+  pub are : AreEntries xs entries
+
 pieces_of :
     (rows : ℕ) (n : Option ℕ) (cs : List ArrowColumn) (types : List TypeTree) (ls : List Leaf) (others : List (List Outcome)) (table : List (List Triple)) (ps : List ColumnPiece)
-    → AreComplete cs types ls others → ArePieces (lanes rows n cs types ls others) table ps → ArePiecesOf cs types table ps
-pieces_of rows n [] [] [] [] [] [] k h = tt
+    → AreComplete cs types ls others → ArePieces (lanes rows n cs types ls others) table ps → HaveEntries cs types table ps (lanes rows n cs types ls others)
+pieces_of rows n [] [] [] [] [] [] k h = record { entries = []; pieces = tt; are = tt }
 pieces_of rows n [] [] [] [] [] (p ∷ ps) k h = absurd h
 pieces_of rows n [] [] [] [] (ts ∷ table) ps k h = absurd h
 pieces_of rows n [] [] [] (os ∷ others) table ps k h = absurd k
@@ -97,9 +103,11 @@ pieces_of rows n (c ∷ cs) (t ∷ types) [] others table ps k h = absurd k
 pieces_of rows n (c ∷ cs) (t ∷ types) (l ∷ ls) [] table ps k h = absurd k
 pieces_of rows n (c ∷ cs) (t ∷ types) (l ∷ ls) (os ∷ others) [] ps k h = absurd h
 pieces_of rows n (c ∷ cs) (t ∷ types) (l ∷ ls) (os ∷ others) (ts ∷ table) [] k h = absurd h
-pieces_of rows n (c ∷ cs) (t ∷ types) (l ∷ ls) (os ∷ others) (ts ∷ table) (p ∷ ps) k h = (h.0, pieces_of rows n cs types ls others table ps k h.1)
+pieces_of rows n (c ∷ cs) (t ∷ types) (l ∷ ls) (os ∷ others) (ts ∷ table) (p ∷ ps) k h =
+    let rest = pieces_of rows n cs types ls others table ps k h.1 in
+    record { entries = h.0.entries ∷ rest.entries; pieces = (h.0.piece, rest.pieces); are = (h.0.are, rest.are) }
 
-pub are_pieces : (o : Opening) → IsOpened o → (table : List (List Triple)) (ps : List ColumnPiece) → ArePieces (lanes_of o) table ps → ArePiecesOf (field_columns o.field) (leaf_types o.field) table ps
+pub are_pieces : (o : Opening) → IsOpened o → (table : List (List Triple)) (ps : List ColumnPiece) → ArePieces (lanes_of o) table ps → HaveEntries (field_columns o.field) (leaf_types o.field) table ps (lanes_of o)
 are_pieces o h table ps k = pieces_of o.rows o.chunk_size (field_columns o.field) (leaf_types o.field) o.leaves o.outcomes table ps (opened_complete o h) k
 
 -- ---- the array
@@ -121,18 +129,18 @@ size_of rows before n (c ∷ cs) (t ∷ types) (l ∷ ls) (os ∷ others) (ts �
     record { count = same ∙ h.0.count; some = subst (λ m. 0 < m) (sym same) h.0.some }
 
 pub item :
-    (o : Opening) (before : ℕ) (table : List (List Triple)) (a : ArrayTree) → IsOpened o → AreNext before (lanes_of o) table → IsArrayOf o.field table a → IsItem o before a
+    (o : Opening) (before : ℕ) (table : List (List Triple)) (a : ArrayTree) → IsOpened o → AreNext before (lanes_of o) table → IsMade o table a → IsItem o before a
 item o before table a h next is =
-    let s = size_of o.rows before o.chunk_size (field_columns o.field) (leaf_types o.field) o.leaves o.outcomes table a (opened_complete o h) (some_column o.field h.alike.structs) next is.columns in
-    record { typed = is.typed; are = is.slots_are; count = sym (slots_counted a) ∙ s.count; some = subst (λ m. 0 < m) (slots_counted a) s.some }
+    let s = size_of o.rows before o.chunk_size (field_columns o.field) (leaf_types o.field) o.leaves o.outcomes table a (opened_complete o h) (some_column o.field h.alike.structs) next is.array.columns in
+    record { typed = is.array.typed; are = is.array.slots_are; count = sym (slots_counted a) ∙ s.count; some = subst (λ m. 0 < m) (slots_counted a) s.some }
 
 -- ---- one array more
 
-pub made_more : (f : FieldTree) (tables : Tables) (arrays : List ArrayTree) (table : List (List Triple)) (a : ArrayTree) → AllZip (IsArrayOf f) tables arrays → IsArrayOf f table a → AllZip (IsArrayOf f) (tables ++ table ∷ []) (arrays ++ a ∷ [])
-made_more f [] [] table a h is = (is, tt)
-made_more f [] (b ∷ arrays) table a h is = absurd h
-made_more f (u ∷ tables) [] table a h is = absurd h
-made_more f (u ∷ tables) (b ∷ arrays) table a h is = (h.0, made_more f tables arrays table a h.1 is)
+pub made_more : (o : Opening) (tables : Tables) (arrays : List ArrayTree) (table : List (List Triple)) (a : ArrayTree) → AllZip (IsMade o) tables arrays → IsMade o table a → AllZip (IsMade o) (tables ++ table ∷ []) (arrays ++ a ∷ [])
+made_more o [] [] table a h is = (is, tt)
+made_more o [] (b ∷ arrays) table a h is = absurd h
+made_more o (u ∷ tables) [] table a h is = absurd h
+made_more o (u ∷ tables) (b ∷ arrays) table a h is = (h.0, made_more o tables arrays table a h.1 is)
 
 pub slots_more : (arrays : List ArrayTree) (a : ArrayTree) → length (flat_map slots (arrays ++ a ∷ [])) ≡ length (flat_map slots arrays) + tree_len a
 slots_more [] a = omega (arith, length-append (slots a) [], slots_counted a)

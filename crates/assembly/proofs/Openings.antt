@@ -17,10 +17,10 @@ use Rattle.read_state.specs.declared.init.InitNested.TheVariants.{Primitive, Lis
 use Rattle.schema_to_tree.specs.Faults.{first_of_two}
 use Rattle.shredding.specs.Along.{thin}
 use Rattle.shredding.specs.Shape.{HasNoEmptyStruct, HaveNoEmptyStruct, Way, at_leaf, in_list, in_struct}
-use Rattle.pq_headline.specs.Columns.{ArrowColumn, type_columns, field_columns, columns_from, leaf_column, beneath_list, beneath_struct}
+use Rattle.pq_headline.specs.Columns.{ArrowColumn, type_columns, field_columns, columns_from, leaf_column, beneath_list, beneath_struct, has_no_parts}
 use Rattle.assembly.specs.Read.{reads_nodes, reads_nodes_of, reads_nodes_of_all}
 use Rattle.read_pieces.specs.Pieces.{type_leaves, leaf_types, all_leaf_types}
-use Rattle.assembly.specs.Paths.{Path, type_paths, field_paths, fields_paths, type_fault, field_fault, struct_fault, fields_fault}
+use Rattle.assembly.specs.Paths.{Path, type_paths, field_paths, fields_paths, entries_fault, type_fault, field_fault, struct_fault, fields_fault}
 
 -- ---- a way behind the parts above
 
@@ -147,7 +147,7 @@ mutual
   sound_of n (t_struct (more_fields f fs)) s h =
       let a = and_parts _ _ s in ap (λ o. first_of_two o (fields_fault fs)) (sound f a.0 h.0) ∙ all_sound fs a.1 h.1
   sound_of n (t_union fs ids sparse) s h = absurd (true≢false (sym s))
-  sound_of n (t_dictionary k t sorted) s h = absurd (true≢false (sym s))
+  sound_of n (t_dictionary k t sorted) s h = ap entries_fault s
   sound_of n (t_extension name inner m) s h = sound_of n inner s h
   sound_of n t s h = refl
 
@@ -167,6 +167,21 @@ two-none : (o q : Option Error) → first_of_two o q ≡ None → (o ≡ None) �
 two-none None q h = (refl, h)
 two-none (Some e) q h = absurd (some-none e h)
 
+-- entries without parts
+without_parts : (b : Bool) → entries_fault b ≡ None → b ≡ true
+without_parts true h = refl
+without_parts false h = absurd (some-none _ h)
+
+filled_entries : (n : Bool) (t : TypeTree) → has_no_parts (base t) ≡ true → HasNoEmptyStruct (type_shape n t)
+filled_entries n (t_extension name inner m) h = filled_entries n inner h
+filled_entries n (t_list item) h = absurd (true≢false (sym h))
+filled_entries n (t_large_list item) h = absurd (true≢false (sym h))
+filled_entries n (t_fixed_size_list item w) h = absurd (true≢false (sym h))
+filled_entries n (t_map entry sorted) h = absurd (true≢false (sym h))
+filled_entries n (t_struct fs) h = absurd (true≢false (sym h))
+filled_entries n (t_dictionary k t sorted) h = absurd (true≢false (sym h))
+filled_entries n t h = tt
+
 mutual
   no_empty_of : (n : Bool) (t : TypeTree) → type_fault t ≡ None → HasNoEmptyStruct (type_shape n t)
   no_empty_of n (t_list item) h = no_empty item h
@@ -176,7 +191,7 @@ mutual
   no_empty_of n (t_struct no_fields) h = absurd (some-none _ h)
   no_empty_of n (t_struct (more_fields f fs)) h = let a = two-none (field_fault f) (fields_fault fs) h in (no_empty f a.0, none_empty fs a.1)
   no_empty_of n (t_union fs ids sparse) h = absurd (some-none _ h)
-  no_empty_of n (t_dictionary k t sorted) h = absurd (some-none _ h)
+  no_empty_of n (t_dictionary k t sorted) h = filled_entries n t (without_parts (has_no_parts (base t)) h)
   no_empty_of n (t_extension name inner m) h = no_empty_of n inner h
   no_empty_of n t h = tt
 
@@ -215,6 +230,10 @@ of_two : (o q : Option Error) (e : Error) → (o ≡ Some e → IsA8OrN5 e) → 
 of_two None q e f g h = g h
 of_two (Some d) q e f g h = f h
 
+entries_fault_is : (b : Bool) (e : Error) → entries_fault b ≡ Some e → e ≡ NotYetImplemented N5
+entries_fault_is true e h = absurd (some-none e (sym h))
+entries_fault_is false e h = some-same _ e h
+
 mutual
   type_fault_is : (t : TypeTree) (e : Error) → type_fault t ≡ Some e → IsA8OrN5 e
   type_fault_is (t_list item) e h = fault_is item e h
@@ -223,7 +242,7 @@ mutual
   type_fault_is (t_map entry sorted) e h = fault_is entry e h
   type_fault_is (t_struct fs) e h = struct_fault_is fs e h
   type_fault_is (t_union fs ids sparse) e h = inr (some-same _ e h)
-  type_fault_is (t_dictionary k t sorted) e h = inr (some-same _ e h)
+  type_fault_is (t_dictionary k t sorted) e h = inr (entries_fault_is (has_no_parts (base t)) e h)
   type_fault_is (t_extension name inner m) e h = type_fault_is inner e h
   type_fault_is t e h = absurd (some-none e (sym h))
 

@@ -30,7 +30,7 @@ use Rattle.std.proofs.Math.Seq.{get_or-append_seam, take-append_seam}
 use Rattle.columns_base.specs.declared.error.Error.{Error}
 use Rattle.pq_pages.specs.Outcomes.{Outcome}
 use Rattle.pq_tree.specs.declared.types.PrimitiveType.{PrimitiveType}
-use Rattle.read_leaves.specs.Leaf.{IsReadingLeaf, LeafReading, is_read_along}
+use Rattle.read_columns.specs.Columns.{ColumnReading, IsReadingColumn, is_column_read}
 use Rattle.assembly.specs.declared.paths.LeafPath.{LeafPath}
 use Rattle.assembly.specs.Lanes.{Lane, AreReading}
 use Rattle.assembly.specs.Opened.{IsOpen, AreOpen, IsNotRead, SomeIsNotRead, physical_in}
@@ -82,14 +82,14 @@ rest_is all kept rest x k e c =
 
 -- ---- readers that gave nothing
 
-moved : (i j : ℕ) (xs : List Lane) (rs : List LeafReading) → AreReading i xs rs [] → AreReading j xs rs []
+moved : (i j : ℕ) (xs : List Lane) (rs : List ColumnReading) → AreReading i xs rs [] → AreReading j xs rs []
 moved i j [] [] h = tt
 moved i j [] (r ∷ rs) h = absurd h
 moved i j (x ∷ xs) [] h = absurd h
 moved i j (x ∷ xs) (r ∷ rs) h = (h.0, moved (suc i) (suc j) xs rs h.1)
 
 pub one_more :
-    (k : ℕ) (xs : List Lane) (x : Lane) (rs : List LeafReading) (r : LeafReading) → drop k xs ≡ x ∷ drop (suc k) xs → AreReading 0 (drop (suc k) xs) (reverse rs) [] → IsReadingLeaf x.opening x.type [] r
+    (k : ℕ) (xs : List Lane) (x : Lane) (rs : List ColumnReading) (r : ColumnReading) → drop k xs ≡ x ∷ drop (suc k) xs → AreReading 0 (drop (suc k) xs) (reverse rs) [] → IsReadingColumn x.opening x.type [] r
     → AreReading 0 (drop k xs) (reverse (rs ++ r ∷ [])) []
 one_more k xs x rs r e h is =
     subst (λ q. AreReading 0 (drop k xs) q []) (sym (reverse-append rs (r ∷ []))) (subst (λ q. AreReading 0 q (r ∷ reverse rs) []) (sym e) (is, moved 0 1 (drop (suc k) xs) (reverse rs) h))
@@ -120,20 +120,16 @@ leaf_open :
 leaf_open asked k rows c l os t p a m h levels failing some =
     record {
       type = h.type;
-      leaf = record {
+      column = record {
         typed = h.based;
         physical = refl;
-        readable = λ stored limit values direct. record {
-          repetition = a.repetition;
-          definition = a.definition;
-          levels = levels;
-          failing = failing;
-          values = values;
-          direct = direct;
-          lists = m.lists;
-          limited = All-from_recursion (λ n. n ≤ large_limit) c.limits m.limited;
-          some = some;
-        };
+        repetition = a.repetition;
+        definition = a.definition;
+        levels = levels;
+        failing = failing;
+        lists = m.lists;
+        limited = All-from_recursion (λ n. n ≤ large_limit) c.limits m.limited;
+        some = some;
       };
       way = h.way;
       outcomes_are = refl;
@@ -203,7 +199,7 @@ none_unread asked (c ∷ cs) [] ls ps e h a w n s = h
 none_unread asked (c ∷ cs) (t ∷ types) [] ps e h a w n s = a
 none_unread asked (c ∷ cs) (t ∷ types) (l ∷ ls) [] e h a w n s = h
 none_unread asked (c ∷ cs) (t ∷ types) (l ∷ ls) (p ∷ ps) e h a w n (inl s) =
-    true≢false (sym (leaf_read asked c l t p a.0 w.0 n.0 h.0) ∙ ap (λ q. is_read_along p.0 q l.physical) (h.0.based ∙ ap base (sym h.0.type)) ∙ s.1)
+    true≢false (sym (leaf_read asked c l t p a.0 w.0 n.0 h.0) ∙ ap (λ q. is_column_read p.0 q l.physical) (h.0.based ∙ ap base (sym h.0.type)) ∙ s.1)
 none_unread asked (c ∷ cs) (t ∷ types) (l ∷ ls) (p ∷ ps) e h a w n (inr s) = none_unread asked cs types ls ps e h.1 a.1 w.1 n.1 s
 
 pub all_read :

@@ -3,14 +3,16 @@ use Rattle.std.proofs.Common.{◌≡◌, ◌⊎◌, inl, inr, ℕ, zero, Bool, t
 use Rattle.std.specs.Prelude.{◌&&◌, ◌||◌, if◌then◌else◌}
 use Rattle.std.specs.List.{AllByRecursion as Each}
 use Rattle.columns_core.specs.Shapes.{base}
-use Rattle.columns_core.specs.Tree.{TypeTree, t_list, t_fixed_size_list, t_large_list, t_struct, t_map, t_extension, t_fixed_size_binary, t_decimal, t_null, t_interval, FieldTree, field}
+use Rattle.columns_core.specs.Tree.{TypeTree, t_list, t_fixed_size_list, t_large_list, t_struct, t_map, t_dictionary, t_extension, t_boolean, t_uint64, t_timestamp, t_fixed_size_binary, t_decimal, t_null, t_interval, FieldTree, field}
+use Rattle.columns_core.specs.declared.types.IntegerType.{IntegerType}
 use Rattle.columns_core.specs.declared.types.IntervalUnit.TheVariants.{YearMonth, DayTime, MonthDayNano}
+use Rattle.pq_tree.specs.Physical.{Physical}
 use Rattle.pq_tree.specs.Tree.{Leaf}
 use Rattle.read_state.specs.Initial.{IsWay}
 use Rattle.read_state.specs.declared.init.InitNested.{InitNested}
 use Rattle.read_state.specs.declared.init.InitNested.TheVariants.{Primitive, List as ListOf, Struct}
 use Rattle.schema_fit.specs.Fits.{asked_of}
-use Rattle.schema_fit.specs.PageTable.{row_of, is_allowed, is_stored_length, only_flat}
+use Rattle.schema_fit.specs.PageTable.{entry_row, row_of, is_allowed, is_stored_length, only_flat}
 use Rattle.schema_fit.specs.declared.page_table.Asked.{Asked}
 use Rattle.schema_fit.specs.declared.page_table.Asked.TheVariants as A
 use Rattle.schema_fit.specs.declared.page_table.Row.{Row}
@@ -21,9 +23,12 @@ use Rattle.shredding.specs.Shape.{Way, at_leaf, in_list, in_struct}
 use Rattle.pq_headline.specs.Columns.{ArrowColumn, type_columns, field_columns, ends_nullable, is_alone}
 use Rattle.pq_headline.specs.Openings.{IsAlike}
 use Rattle.read_leaves.specs.Leaf.{ends_optional, is_leaf_alone, is_read_along}
+use Rattle.read_column.specs.Queues.{is_leaf_alone as alone_so}
+use Rattle.read_columns.specs.Columns.{is_column_read}
+use Rattle.dictionary_leaves.specs.Dictionaries.{entry_nests, may_be_entry}
 use Rattle.read_types.specs.LeafTypes.{is_read, reads_nested, reads_required}
 use Rattle.assembly.specs.Paths.{Path}
-use Rattle.assembly.specs.Read.{IsLeafRead, reads_nodes, reads_nodes_of}
+use Rattle.assembly.specs.Read.{IsLeafRead, reads_nodes, reads_nodes_of, value_type}
 use Rattle.assembly.proofs.Openings.{IsPath}
 
 -- ---- a type that may be nested is read so
@@ -142,12 +147,54 @@ second_true false y a = a
 asked_nested : (asked : Asked) (row : Row) → asked ≡ A.Nested → is_allowed asked row ≡ true → row.is_nested ≡ true
 asked_nested asked row e h = subst (λ q. is_allowed q row ≡ true) e h
 
-pub leaf_read : (asked : Asked) (c : ArrowColumn) (l : Leaf) (t : TypeTree) (p : Path) → IsAlike asked c l → IsLeafRead c l → IsNestedSo asked c → IsPath [] c t p → is_read_along p.0 c.data_type l.physical ≡ true
-leaf_read asked c l t p a r n h =
-    let nested : (reads_nested c.data_type || is_leaf_alone p.0) ≡ true = elim n [
-      | inl e ↦ first_true (reads_nested c.data_type) (is_leaf_alone p.0) (nests (ends_nullable c.way) c.data_type a.row a.has_row (asked_nested asked a.row e a.nests))
-      | inr e ↦ second_true (reads_nested c.data_type) (is_leaf_alone p.0) (alone_path p.0 c.way e h.way)
+-- what is known of a leaf of this type at the end of its path
+pub record IsReadable (t : TypeTree) (parts : List InitNested) (asked : Asked) (w : Way) (row : Row) : Type 0 where
+  pub has_row : row_of (record { data_type = t; is_nullable = ends_nullable w }) ≡ Some row
+  pub nests : is_allowed asked row ≡ true
+  pub asked_so : (asked ≡ A.Nested) ⊎ (is_alone w ≡ true)
+  pub way : IsWay parts (thin w)
+
+plain_read : (t : TypeTree) (parts : List InitNested) (asked : Asked) (w : Way) (row : Row) (p : Physical) → IsReadable t parts asked w row → is_read t p ≡ true → is_read_along parts t p ≡ true
+plain_read t parts asked w row p a r =
+    let nested : (reads_nested t || is_leaf_alone parts) ≡ true = elim a.asked_so [
+      | inl e ↦ first_true (reads_nested t) (is_leaf_alone parts) (nests (ends_nullable w) t row a.has_row (asked_nested asked row e a.nests))
+      | inr e ↦ second_true (reads_nested t) (is_leaf_alone parts) (alone_path parts w e a.way)
     ] in
-    let optional : (reads_required c.data_type || ends_optional p.0) ≡ true =
-    ap (λ (b : Bool). reads_required c.data_type || b) (ends_so p.0 c.way h.way) ∙ required (ends_nullable c.way) c.data_type a.row a.has_row in
-    both_true (is_read c.data_type l.physical) _ r (both_true (reads_nested c.data_type || is_leaf_alone p.0) _ nested optional)
+    let optional : (reads_required t || ends_optional parts) ≡ true = ap (λ (b : Bool). reads_required t || b) (ends_so parts w a.way) ∙ required (ends_nullable w) t row a.has_row in
+    both_true (is_read t p) _ r (both_true (reads_nested t || is_leaf_alone parts) _ nested optional)
+
+-- ---- the entries of a dictionary along its way
+
+may_enter : (t : TypeTree) (row : Row) → entry_row t ≡ Some row → may_be_entry t ≡ true
+may_enter t_boolean row e = absurd (no_row row e)
+may_enter t_null row e = absurd (no_row row e)
+may_enter (t_decimal p s) row e = absurd (no_row row e)
+may_enter (t_interval u) row e = absurd (no_row row e)
+may_enter t row e = refl
+
+enters_nested : (t : TypeTree) (row : Row) → entry_row t ≡ Some row → row.is_nested ≡ true → entry_nests t ≡ true
+enters_nested t_uint64 row e n = absurd (row_nests _ row e refl n)
+enters_nested (t_timestamp u z) row e n = absurd (row_nests _ row e refl n)
+enters_nested t row e n = refl
+
+alone_same : (parts : List InitNested) → alone_so parts ≡ is_leaf_alone parts
+alone_same [] = refl
+alone_same (Primitive n ∷ []) = refl
+alone_same (Primitive n ∷ (p ∷ parts)) = refl
+alone_same (ListOf n ∷ parts) = refl
+alone_same (Struct n ∷ parts) = refl
+
+entries_read : (key : IntegerType) (t : TypeTree) (s : Bool) (parts : List InitNested) (asked : Asked) (w : Way) (row : Row) (p : Physical) → IsReadable (t_dictionary key t s) parts asked w row → is_read (base t) p ≡ true → is_column_read parts (t_dictionary key t s) p ≡ true
+entries_read key t s parts asked w row p a r =
+    let nested : (entry_nests (base t) || alone_so parts) ≡ true = elim a.asked_so [
+      | inl e ↦ first_true (entry_nests (base t)) (alone_so parts) (enters_nested (base t) row a.has_row (asked_nested asked row e a.nests))
+      | inr e ↦ second_true (entry_nests (base t)) (alone_so parts) (alone_same parts ∙ alone_path parts w e a.way)
+    ] in
+    both_true (is_read (base t) p) _ r (both_true (may_be_entry (base t)) _ (may_enter (base t) row a.has_row) nested)
+
+column_read : (t : TypeTree) (parts : List InitNested) (asked : Asked) (w : Way) (row : Row) (p : Physical) → IsReadable t parts asked w row → is_read (value_type t) p ≡ true → is_column_read parts t p ≡ true
+column_read (t_dictionary key t s) parts asked w row p a r = entries_read key t s parts asked w row p a r
+column_read t parts asked w row p a r = plain_read t parts asked w row p a r
+
+pub leaf_read : (asked : Asked) (c : ArrowColumn) (l : Leaf) (t : TypeTree) (p : Path) → IsAlike asked c l → IsLeafRead c l → IsNestedSo asked c → IsPath [] c t p → is_column_read p.0 c.data_type l.physical ≡ true
+leaf_read asked c l t p a r n h = column_read c.data_type p.0 asked c.way a.row l.physical (record { has_row = a.has_row; nests = a.nests; asked_so = n; way = h.way }) r

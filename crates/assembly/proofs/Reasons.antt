@@ -8,7 +8,7 @@ use Rattle.columns_base.specs.declared.error.Error.{Error}
 use Rattle.columns_base.specs.declared.error.Error.TheVariants.{Memory, OutOfSpec, NotYetImplemented, Overflow}
 use Rattle.columns_base.specs.declared.error.S.TheVariants.{S3, S10}
 use Rattle.columns_base.specs.declared.error.N.TheVariants.{N4, N8}
-use Rattle.columns_base.specs.declared.error.V.TheVariants.{V1}
+use Rattle.columns_base.specs.declared.error.V.TheVariants.{V1, V2}
 use Rattle.columns_core.specs.Shapes.{shape_of, leaf_type, IsSlotOf}
 use Rattle.pq_files.specs.Stored.{AreStored}
 use Rattle.pq_tree.specs.Physical.{Physical}
@@ -17,9 +17,9 @@ use Rattle.columns_core.specs.Tree.{TypeTree}
 use Rattle.pq_files.specs.Chunk.{Chunk}
 use Rattle.pq_files.specs.Reasons.{AnyOf}
 use Rattle.pq_headline.specs.Columns.{ArrowColumn, field_columns}
-use Rattle.pq_headline.specs.FieldReasons.{IsOfRows, SomeFails, HasMisplaced, SomeN4, SomeN8, SomeV1, Refuses, PassesLists, items_in}
+use Rattle.pq_headline.specs.FieldReasons.{IsOfRows, SomeFails, HasMisplaced, SomeN4, SomeN8, SomeV1, SomeV2, Refuses, PassesLists, items_in}
 use Rattle.pq_headline.specs.Openings.{Opening, HoldColumns, HasRows, piece_size}
-use Rattle.pq_pages.specs.Outcomes.{Outcome}
+use Rattle.pq_pages.specs.Outcomes.{Outcome, gives_page, gives_dictionary, fails}
 use Rattle.pq_tree.specs.Tree.{Leaf}
 use Rattle.read_nested.specs.Joined.{CannotJoin, DisagreesWith, Disagree, SomePass}
 use Rattle.read_pieces.specs.Columns.{RefusesPiece, IsNextPiece}
@@ -76,8 +76,22 @@ Found k n e cs ls others =
     ⊎ ((e ≡ OutOfSpec S3) × AnyOf HasMisplaced others)
     ⊎ ((e ≡ NotYetImplemented N4) × SomeN4 cs ls others)
     ⊎ ((e ≡ NotYetImplemented N8) × SomeN8 ls others)
-    ⊎ ((e ≡ Overflow V1) × SomeV1 k cs ls others)
+    ⊎ (((e ≡ Overflow V1) × SomeV1 k cs ls others) ⊎ ((e ≡ Overflow V2) × SomeV2 cs others))
     ⊎ (IsOfRows e × NoneHold n cs ls others)
+
+-- more entries than keys, of the first column or of one behind it
+first_keys : (c : ArrowColumn) (os : List Outcome) (cs : List ArrowColumn) (others : List (List Outcome)) → SomeV2 (c ∷ []) (os ∷ []) → SomeV2 (c ∷ cs) (os ∷ others)
+first_keys c [] cs others h = absurd h
+first_keys c (gives_page p levels ∷ os) cs others h = absurd h
+first_keys c (gives_dictionary n body ∷ os) cs others (inl h) = inl h
+first_keys c (gives_dictionary n body ∷ os) cs others (inr h) = absurd h
+first_keys c (fails e ∷ os) cs others h = absurd h
+
+other_keys : (c : ArrowColumn) (os : List Outcome) (cs : List ArrowColumn) (others : List (List Outcome)) → SomeV2 cs others → SomeV2 (c ∷ cs) (os ∷ others)
+other_keys c [] cs others h = h
+other_keys c (gives_page p levels ∷ os) cs others h = h
+other_keys c (gives_dictionary n body ∷ os) cs others h = inr h
+other_keys c (fails e ∷ os) cs others h = h
 
 here :
     (k : Option ℕ) (n : ℕ) (e : Error) (c : ArrowColumn) (l : Leaf) (os : List Outcome) (cs : List ArrowColumn) (ls : List Leaf) (others : List (List Outcome))
@@ -87,7 +101,8 @@ here k n e c l os cs ls others (inr (inl h)) = inr (inl (h.0, inl h.1))
 here k n e c l os cs ls others (inr (inr (inl h))) = inr (inr (inl (h.0, inl h.1)))
 here k n e c l os cs ls others (inr (inr (inr (inl h)))) = inr (inr (inr (inl (h.0, inl h.1))))
 here k n e c l os cs ls others (inr (inr (inr (inr (inl h))))) = inr (inr (inr (inr (inl (h.0, inl h.1)))))
-here k n e c l os cs ls others (inr (inr (inr (inr (inr (inl h)))))) = inr (inr (inr (inr (inr (inl (h.0, inl h.1))))))
+here k n e c l os cs ls others (inr (inr (inr (inr (inr (inl (inl h))))))) = inr (inr (inr (inr (inr (inl (inl (h.0, inl h.1)))))))
+here k n e c l os cs ls others (inr (inr (inr (inr (inr (inl (inr h))))))) = inr (inr (inr (inr (inr (inl (inr (h.0, first_keys c os cs others h.1)))))))
 here k n e c l os cs ls others (inr (inr (inr (inr (inr (inr h)))))) = inr (inr (inr (inr (inr (inr (h.0, none))))))
   where
     none : NoneHold n (c ∷ cs) (l ∷ ls) (os ∷ others)
@@ -102,7 +117,8 @@ there k n e c l os cs ls others (inr (inl h)) = inr (inl (h.0, inr h.1))
 there k n e c l os cs ls others (inr (inr (inl h))) = inr (inr (inl (h.0, inr h.1)))
 there k n e c l os cs ls others (inr (inr (inr (inl h)))) = inr (inr (inr (inl (h.0, inr h.1))))
 there k n e c l os cs ls others (inr (inr (inr (inr (inl h))))) = inr (inr (inr (inr (inl (h.0, inr h.1)))))
-there k n e c l os cs ls others (inr (inr (inr (inr (inr (inl h)))))) = inr (inr (inr (inr (inr (inl (h.0, inr h.1))))))
+there k n e c l os cs ls others (inr (inr (inr (inr (inr (inl (inl h))))))) = inr (inr (inr (inr (inr (inl (inl (h.0, inr h.1)))))))
+there k n e c l os cs ls others (inr (inr (inr (inr (inr (inl (inr h))))))) = inr (inr (inr (inr (inr (inl (inr (h.0, other_keys c os cs others h.1)))))))
 there k n e c l os cs ls others (inr (inr (inr (inr (inr (inr h)))))) = inr (inr (inr (inr (inr (inr (h.0, none))))))
   where
     none : NoneHold n (c ∷ cs) (l ∷ ls) (os ∷ others)
@@ -125,7 +141,7 @@ refuses o h e (inr (inl f)) = inr (inl f)
 refuses o h e (inr (inr (inl f))) = inr (inr (inl f))
 refuses o h e (inr (inr (inr (inl f)))) = inr (inr (inr (inl f)))
 refuses o h e (inr (inr (inr (inr (inl f))))) = inr (inr (inr (inr (inl f))))
-refuses o h e (inr (inr (inr (inr (inr (inl f)))))) = inr (inr (inr (inr (inr (inl (inl f))))))
+refuses o h e (inr (inr (inr (inr (inr (inl f)))))) = inr (inr (inr (inr (inr (inl f)))))
 refuses o h e (inr (inr (inr (inr (inr (inr f)))))) =
     inr (inr (inr (inr (inr (inr (f.0, λ (r : HasRows o). f.1 r.0 r.1 r.3 (columns_along o h r.0 r.2) r.4))))))
 
@@ -221,7 +237,7 @@ passes before n k (c ∷ cs) (t ∷ types) [] others table z next p = absurd z
 passes before n k (c ∷ cs) (t ∷ types) (l ∷ ls) [] table z next p = absurd z
 passes before n k (c ∷ cs) (t ∷ types) (l ∷ ls) (os ∷ others) [] z next p = absurd p
 passes before n k (c ∷ cs) (t ∷ types) (l ∷ ls) (os ∷ others) (ts ∷ table) z next (inl p) =
-    inl (record { entries = next.0.entries; triples = next.0.triples; reads = next.0.reads; piece = next.0.stored; is_piece = next.0.part; passes = inl (stored_passes (leaf_type c.data_type) l.physical ts next.0.stored next.0.are c.way 1 c.limits p) })
+    inl (inl (record { entries = next.0.entries; triples = next.0.triples; reads = next.0.reads; piece = next.0.stored; is_piece = next.0.part; passes = inl (stored_passes (leaf_type c.data_type) l.physical ts next.0.stored next.0.are c.way 1 c.limits p) }))
 passes before n k (c ∷ cs) (t ∷ types) (l ∷ ls) (os ∷ others) (ts ∷ table) z next (inr p) = inr (passes before n k cs types ls others table z next.1 p)
 
 pub not_joined : (o : Opening) (before : ℕ) (table : List (List Triple)) → IsOpened o → AreNext before (lanes_of o) table → (e : Error) → CannotJoin o.field table e → Refuses o e

@@ -10,9 +10,8 @@ use Rattle.columns_core.specs.Tree.{TypeTree}
 use Rattle.pq_files.specs.Reasons.{AnyOf}
 use Rattle.shredding.specs.Shred.{Triple}
 use Rattle.pq_headline.specs.Openings.{piece_size}
-use Rattle.read_leaves.specs.Leaf.{IsReadingLeaf, LeafReading}
+use Rattle.read_columns.specs.Columns.{ColumnReading, IsColumnPiece, IsReadingColumn}
 use Rattle.read_pieces.specs.Columns.{ColumnOpening, GivesPiece, IsNextPiece, IsWhole, RefusesPiece, rows_of_all}
-use Rattle.read_pieces.specs.Pieces.{IsPieceOf}
 use Rattle.read_pieces.specs.declared.piece.ColumnPiece.{ColumnPiece}
 use Rattle.assembly.specs.Lanes.{Lane, Tables, pieces_at, AreReading, AreStepped, AreEnded, AreWhole, AreNext, ArePieces, AreBehind, TakesPieces, AnyRefused}
 
@@ -23,20 +22,20 @@ whole_back n now old e k =
 -- ---- one step
 
 -- what a call that gave a piece says of its reader
-abbrev pub Gave : LeafReading → ColumnPiece → LeafReading → Type 0
+abbrev pub Gave : ColumnReading → ColumnPiece → ColumnReading → Type 0
 Gave old p now =
-    (o : ColumnOpening) (t : TypeTree) (pieces : List (List Triple)) → IsReadingLeaf o t pieces old
-    → (ts : List Triple) × IsNextPiece o (rows_of_all pieces) ts × IsPieceOf o.column t ts p × IsReadingLeaf o t (pieces ++ ts ∷ []) now
+    (o : ColumnOpening) (t : TypeTree) (pieces : List (List Triple)) → IsReadingColumn o t pieces old
+    → (ts : List Triple) × IsNextPiece o (rows_of_all pieces) ts × IsColumnPiece o t ts p × IsReadingColumn o t (pieces ++ ts ∷ []) now
 
 step :
-    (i before rows : ℕ) (xs : List Lane) (rs : List LeafReading) (ps : List ColumnPiece) (table : List (List Triple)) (tables : Tables) (k : ℕ) (old now : LeafReading) (p : ColumnPiece)
+    (i before rows : ℕ) (xs : List Lane) (rs : List ColumnReading) (ps : List ColumnPiece) (table : List (List Triple)) (tables : Tables) (k : ℕ) (old now : ColumnReading) (p : ColumnPiece)
     → AreStepped i before xs rs ps table tables → k ≡ length ps → k < length rs → old ≡ get_or rs k old → AreBehind i before rows xs tables → Gave old p now
     → (ts : List Triple) × AreStepped i before xs (slice_set rs k now) (ps ++ p ∷ []) (table ++ ts ∷ []) tables
 step i before rows [] [] [] [] tables k old now p h e lt is b g = absurd (omega arith)
 step i before rows [] (r ∷ rs) [] [] tables k old now p h e lt is b g = absurd h
 step i before rows (x ∷ xs) [] [] [] tables k old now p h e lt is b g = absurd h
 step i before rows (x ∷ xs) (r ∷ rs) [] [] tables zero old now p h e lt is b g =
-    let here = g x.opening x.type (pieces_at i tables) (subst (λ q. IsReadingLeaf x.opening x.type (pieces_at i tables) q) (sym is) h.0) in
+    let here = g x.opening x.type (pieces_at i tables) (subst (λ q. IsReadingColumn x.opening x.type (pieces_at i tables) q) (sym is) h.0) in
     (here.0, (subst (λ q. IsNextPiece x.opening q here.0) b.0 here.1, here.2, here.3, h.1))
 step i before rows (x ∷ xs) (r ∷ rs) [] [] tables (suc k) old now p h e lt is b g = absurd (omega arith)
 step i before rows [] rs [] (t ∷ table) tables k old now p h e lt is b g = absurd h
@@ -52,7 +51,7 @@ step i before rows (x ∷ xs) (r ∷ rs) (q ∷ ps) (t ∷ table) tables (suc k)
 
 -- where each has stepped
 finished :
-    (i before : ℕ) (xs : List Lane) (rs : List LeafReading) (ps : List ColumnPiece) (table : List (List Triple)) (tables : Tables) (full : List (List Triple))
+    (i before : ℕ) (xs : List Lane) (rs : List ColumnReading) (ps : List ColumnPiece) (table : List (List Triple)) (tables : Tables) (full : List (List Triple))
     → AreStepped i before xs rs ps table tables → length ps ≡ length rs → ((j : ℕ) → slice_index_or full (i + j) [] ≡ slice_index_or table j [])
     → AreNext before xs table × ArePieces xs table ps × AreReading i xs rs (tables ++ full ∷ [])
 finished i before [] [] [] [] tables full h e s = (tt, tt, tt)
@@ -69,17 +68,17 @@ finished i before (x ∷ xs) (r ∷ rs) (q ∷ ps) (t ∷ table) tables full h e
     let rest = finished (suc i) before xs rs ps table tables full h.3 (omega arith) (λ j. ap (λ m. slice_index_or full m []) (omega arith) ∙ s (suc j)) in
     let here : slice_index_or full i [] ≡ t = ap (λ m. slice_index_or full m []) (omega arith) ∙ s 0 in
     let list : pieces_at i (tables ++ full ∷ []) ≡ pieces_at i tables ++ t ∷ [] = map-append (λ u. slice_index_or u i []) tables (full ∷ []) ∙ ap (λ u. pieces_at i tables ++ u ∷ []) here in
-    ((h.0, rest.0), (h.1, rest.1), (subst (λ u. IsReadingLeaf x.opening x.type u r) (sym list) h.2, rest.2))
+    ((h.0, rest.0), (h.1, rest.1), (subst (λ u. IsReadingColumn x.opening x.type u r) (sym list) h.2, rest.2))
 
 pub taken :
-    (before : ℕ) (xs : List Lane) (rs : List LeafReading) (ps : List ColumnPiece) (table : List (List Triple)) (tables : Tables)
+    (before : ℕ) (xs : List Lane) (rs : List ColumnReading) (ps : List ColumnPiece) (table : List (List Triple)) (tables : Tables)
     → AreStepped 0 before xs rs ps table tables → length ps ≡ length rs → TakesPieces before xs tables ps rs
 taken before xs rs ps table tables h e =
     let f = finished 0 before xs rs ps table tables table h e (λ j. ap (λ m. slice_index_or table m []) (omega arith)) in
     record { table = table; next = f.0; are = f.1; reading = f.2 }
 
 pub stepped :
-    (before rows : ℕ) (xs : List Lane) (rs : List LeafReading) (ps : List ColumnPiece) (table : List (List Triple)) (tables : Tables) (k : ℕ) (old now : LeafReading) (p : ColumnPiece)
+    (before rows : ℕ) (xs : List Lane) (rs : List ColumnReading) (ps : List ColumnPiece) (table : List (List Triple)) (tables : Tables) (k : ℕ) (old now : ColumnReading) (p : ColumnPiece)
     → AreStepped 0 before xs rs ps table tables → k ≡ length ps → k < length rs → old ≡ get_or rs k old → AreBehind 0 before rows xs tables → Gave old p now
     → (ts : List Triple) × AreStepped 0 before xs (slice_set rs k now) (ps ++ p ∷ []) (table ++ ts ∷ []) tables
 stepped before rows xs rs ps table tables k old now p h e lt is b g = step 0 before rows xs rs ps table tables k old now p h e lt is b g
@@ -88,15 +87,15 @@ stepped before rows xs rs ps table tables k old now p h e lt is b g = step 0 bef
 
 -- some lane reads it
 at :
-    (i before rows : ℕ) (xs : List Lane) (rs : List LeafReading) (ps : List ColumnPiece) (table : List (List Triple)) (tables : Tables) (k : ℕ) (old : LeafReading) (P : Lane → Type 0)
+    (i before rows : ℕ) (xs : List Lane) (rs : List ColumnReading) (ps : List ColumnPiece) (table : List (List Triple)) (tables : Tables) (k : ℕ) (old : ColumnReading) (P : Lane → Type 0)
     → AreStepped i before xs rs ps table tables → k ≡ length ps → k < length rs → old ≡ get_or rs k old → AreBehind i before rows xs tables
-    → ((x : Lane) (pieces : List (List Triple)) → IsReadingLeaf x.opening x.type pieces old → rows_of_all pieces ≡ before → x.opening.rows ≡ rows → P x)
+    → ((x : Lane) (pieces : List (List Triple)) → IsReadingColumn x.opening x.type pieces old → rows_of_all pieces ≡ before → x.opening.rows ≡ rows → P x)
     → AnyOf P xs
 at i before rows [] [] [] [] tables k old P h e lt is b g = absurd (omega arith)
 at i before rows [] (r ∷ rs) [] [] tables k old P h e lt is b g = absurd h
 at i before rows (x ∷ xs) [] [] [] tables k old P h e lt is b g = absurd h
 at i before rows (x ∷ xs) (r ∷ rs) [] [] tables zero old P h e lt is b g =
-    inl (g x (pieces_at i tables) (subst (λ q. IsReadingLeaf x.opening x.type (pieces_at i tables) q) (sym is) h.0) b.0 b.1)
+    inl (g x (pieces_at i tables) (subst (λ q. IsReadingColumn x.opening x.type (pieces_at i tables) q) (sym is) h.0) b.0 b.1)
 at i before rows (x ∷ xs) (r ∷ rs) [] [] tables (suc k) old P h e lt is b g = absurd (omega arith)
 at i before rows [] rs [] (t ∷ table) tables k old P h e lt is b g = absurd h
 at i before rows (x ∷ xs) [] [] (t ∷ table) tables k old P h e lt is b g = absurd h
@@ -114,43 +113,43 @@ none-of (x ∷ xs) (inl h) = h
 none-of (x ∷ xs) (inr h) = none-of xs h
 
 pub refused :
-    (before rows : ℕ) (xs : List Lane) (rs : List LeafReading) (ps : List ColumnPiece) (table : List (List Triple)) (tables : Tables) (k : ℕ) (old : LeafReading) (e : Error)
+    (before rows : ℕ) (xs : List Lane) (rs : List ColumnReading) (ps : List ColumnPiece) (table : List (List Triple)) (tables : Tables) (k : ℕ) (old : ColumnReading) (e : Error)
     → AreStepped 0 before xs rs ps table tables → k ≡ length ps → k < length rs → old ≡ get_or rs k old → AreBehind 0 before rows xs tables
-    → ((o : ColumnOpening) (t : TypeTree) (pieces : List (List Triple)) → IsReadingLeaf o t pieces old → RefusesPiece o e)
+    → ((o : ColumnOpening) (t : TypeTree) (pieces : List (List Triple)) → IsReadingColumn o t pieces old → RefusesPiece o e)
     → AnyRefused xs e
 refused before rows xs rs ps table tables k old e h l lt is b g =
     inr (at 0 before rows xs rs ps table tables k old (λ x. RefusesPiece x.opening e) h l lt is b (λ x pieces q m n. g x.opening x.type pieces q))
 
 -- no column ends while rows are left
 pub still_open :
-    (before rows : ℕ) (xs : List Lane) (rs : List LeafReading) (ps : List ColumnPiece) (table : List (List Triple)) (tables : Tables) (k : ℕ) (old : LeafReading)
+    (before rows : ℕ) (xs : List Lane) (rs : List ColumnReading) (ps : List ColumnPiece) (table : List (List Triple)) (tables : Tables) (k : ℕ) (old : ColumnReading)
     → AreStepped 0 before xs rs ps table tables → k ≡ length ps → k < length rs → old ≡ get_or rs k old → AreBehind 0 before rows xs tables → before < rows
-    → ((o : ColumnOpening) (t : TypeTree) (pieces : List (List Triple)) → IsReadingLeaf o t pieces old → IsWhole o pieces) → ⊥
+    → ((o : ColumnOpening) (t : TypeTree) (pieces : List (List Triple)) → IsReadingColumn o t pieces old → IsWhole o pieces) → ⊥
 still_open before rows xs rs ps table tables k old h l lt is b less g =
     none-of xs (at 0 before rows xs rs ps table tables k old (λ x. ⊥) h l lt is b (λ x pieces q m n. omega (arith, (g x.opening x.type pieces q).counted, m, n, less)))
 
 -- ---- the ends
 
 end_step :
-    (i k : ℕ) (xs : List Lane) (rs : List LeafReading) (tables : Tables) (old now : LeafReading)
-    → AreEnded i k xs rs tables → k < length rs → old ≡ get_or rs k old → ((o : ColumnOpening) (t : TypeTree) (pieces : List (List Triple)) → IsReadingLeaf o t pieces old → IsWhole o pieces)
+    (i k : ℕ) (xs : List Lane) (rs : List ColumnReading) (tables : Tables) (old now : ColumnReading)
+    → AreEnded i k xs rs tables → k < length rs → old ≡ get_or rs k old → ((o : ColumnOpening) (t : TypeTree) (pieces : List (List Triple)) → IsReadingColumn o t pieces old → IsWhole o pieces)
     → AreEnded i (suc k) xs (slice_set rs k now) tables
 end_step i zero [] [] tables old now h lt is g = absurd (omega arith)
 end_step i zero [] (r ∷ rs) tables old now h lt is g = absurd h
 end_step i zero (x ∷ xs) [] tables old now h lt is g = absurd (omega arith)
 end_step i zero (x ∷ xs) (r ∷ rs) tables old now h lt is g =
-    (g x.opening x.type (pieces_at i tables) (subst (λ q. IsReadingLeaf x.opening x.type (pieces_at i tables) q) (sym is) h.0), h.1)
+    (g x.opening x.type (pieces_at i tables) (subst (λ q. IsReadingColumn x.opening x.type (pieces_at i tables) q) (sym is) h.0), h.1)
 end_step i (suc k) [] rs tables old now h lt is g = absurd h
 end_step i (suc k) (x ∷ xs) [] tables old now h lt is g = absurd (omega arith)
 end_step i (suc k) (x ∷ xs) (r ∷ rs) tables old now h lt is g = (h.0, end_step (suc i) k xs rs tables old now h.1 (omega arith) is g)
 
 pub ended_on :
-    (k : ℕ) (xs : List Lane) (rs : List LeafReading) (tables : Tables) (old now : LeafReading)
-    → AreEnded 0 k xs rs tables → k < length rs → old ≡ get_or rs k old → ((o : ColumnOpening) (t : TypeTree) (pieces : List (List Triple)) → IsReadingLeaf o t pieces old → IsWhole o pieces)
+    (k : ℕ) (xs : List Lane) (rs : List ColumnReading) (tables : Tables) (old now : ColumnReading)
+    → AreEnded 0 k xs rs tables → k < length rs → old ≡ get_or rs k old → ((o : ColumnOpening) (t : TypeTree) (pieces : List (List Triple)) → IsReadingColumn o t pieces old → IsWhole o pieces)
     → AreEnded 0 (k + 1) xs (slice_set rs k now) tables
 ended_on k xs rs tables old now h lt is g = let e : suc k ≡ k + 1 = omega arith in subst (λ q. AreEnded 0 q xs (slice_set rs k now) tables) e (end_step 0 k xs rs tables old now h lt is g)
 
-all_ended : (i k : ℕ) (xs : List Lane) (rs : List LeafReading) (tables : Tables) → AreEnded i k xs rs tables → k ≡ length rs → AreWhole i xs tables
+all_ended : (i k : ℕ) (xs : List Lane) (rs : List ColumnReading) (tables : Tables) → AreEnded i k xs rs tables → k ≡ length rs → AreWhole i xs tables
 all_ended i zero [] [] tables h e = tt
 all_ended i zero [] (r ∷ rs) tables h e = absurd h
 all_ended i zero (x ∷ xs) [] tables h e = absurd h
@@ -159,19 +158,19 @@ all_ended i (suc k) [] rs tables h e = absurd h
 all_ended i (suc k) (x ∷ xs) [] tables h e = absurd h
 all_ended i (suc k) (x ∷ xs) (r ∷ rs) tables h e = (h.0, all_ended (suc i) k xs rs tables h.1 (omega arith))
 
-pub all_whole : (k : ℕ) (xs : List Lane) (rs : List LeafReading) (tables : Tables) → AreEnded 0 k xs rs tables → k ≡ length rs → AreWhole 0 xs tables
+pub all_whole : (k : ℕ) (xs : List Lane) (rs : List ColumnReading) (tables : Tables) → AreEnded 0 k xs rs tables → k ≡ length rs → AreWhole 0 xs tables
 all_whole k xs rs tables h e = all_ended 0 k xs rs tables h e
 
 end_at :
-    (i k before rows : ℕ) (xs : List Lane) (rs : List LeafReading) (tables : Tables) (old : LeafReading) (P : Lane → Type 0)
+    (i k before rows : ℕ) (xs : List Lane) (rs : List ColumnReading) (tables : Tables) (old : ColumnReading) (P : Lane → Type 0)
     → AreEnded i k xs rs tables → k < length rs → old ≡ get_or rs k old → AreBehind i before rows xs tables
-    → ((x : Lane) (pieces : List (List Triple)) → IsReadingLeaf x.opening x.type pieces old → rows_of_all pieces ≡ before → x.opening.rows ≡ rows → P x)
+    → ((x : Lane) (pieces : List (List Triple)) → IsReadingColumn x.opening x.type pieces old → rows_of_all pieces ≡ before → x.opening.rows ≡ rows → P x)
     → AnyOf P xs
 end_at i zero before rows [] [] tables old P h lt is b g = absurd (omega arith)
 end_at i zero before rows [] (r ∷ rs) tables old P h lt is b g = absurd h
 end_at i zero before rows (x ∷ xs) [] tables old P h lt is b g = absurd (omega arith)
 end_at i zero before rows (x ∷ xs) (r ∷ rs) tables old P h lt is b g =
-    inl (g x (pieces_at i tables) (subst (λ q. IsReadingLeaf x.opening x.type (pieces_at i tables) q) (sym is) h.0) b.0 b.1)
+    inl (g x (pieces_at i tables) (subst (λ q. IsReadingColumn x.opening x.type (pieces_at i tables) q) (sym is) h.0) b.0 b.1)
 end_at i (suc k) before rows [] rs tables old P h lt is b g = absurd h
 end_at i (suc k) before rows (x ∷ xs) [] tables old P h lt is b g = absurd (omega arith)
 end_at i (suc k) before rows (x ∷ xs) (r ∷ rs) tables old P h lt is b g = inr (end_at (suc i) k before rows xs rs tables old P h.1 (omega arith) is b.2 g)
@@ -186,9 +185,9 @@ no_next o before ts e h =
 
 -- what comes behind the last row is an error
 pub late :
-    (k rows : ℕ) (xs : List Lane) (rs : List LeafReading) (tables : Tables) (old now : LeafReading) (item : Result ColumnPiece Error) (e : Error)
+    (k rows : ℕ) (xs : List Lane) (rs : List ColumnReading) (tables : Tables) (old now : ColumnReading) (item : Result ColumnPiece Error) (e : Error)
     → AreEnded 0 k xs rs tables → k < length rs → old ≡ get_or rs k old → AreBehind 0 rows rows xs tables
-    → ((o : ColumnOpening) (t : TypeTree) (pieces : List (List Triple)) → IsReadingLeaf o t pieces old → GivesPiece (λ x ps r. IsReadingLeaf x t ps r) (λ p ts. IsPieceOf o.column t ts p) o pieces (Some item) now)
+    → ((o : ColumnOpening) (t : TypeTree) (pieces : List (List Triple)) → IsReadingColumn o t pieces old → GivesPiece (λ x ps r. IsReadingColumn x t ps r) (λ p ts. IsColumnPiece o t ts p) o pieces (Some item) now)
     → MatchResult item (λ _. e ≡ OutOfSpec S9) (λ x. e ≡ x)
     → AnyRefused xs e
 late k rows xs rs tables old now (Ok p) e h lt is b g m =

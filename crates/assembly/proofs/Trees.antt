@@ -1,17 +1,18 @@
 -- Facts about the columns of a field, by its type.
-use Rattle.std.proofs.Common.{◌≡◌, inl, inr, ◌+◌, ◌<◌, ◌≤◌, ℕ, zero, suc, Bool, true, false, List, [], ◌∷◌, length, map, refl, sym, ap, ◌∙◌, arith, true≢false}
+use Rattle.std.proofs.Common.{◌≡◌, inl, inr, ◌+◌, ◌<◌, ◌≤◌, ℕ, zero, suc, Bool, true, List, [], ◌∷◌, length, map, refl, sym, ap, ◌∙◌, arith, true≢false}
 use Rattle.std.proofs.lemmas.Bool.{and_from, and_parts}
 use Rattle.std.proofs.lemmas.List.{length-append, length-map}
 use Rattle.std.specs.List.{AllByRecursion as Each}
+use Rattle.std.proofs.lemmas.List.Elements.{All-from_recursion}
 use Rattle.shredding.proofs.Levels.{Each-append}
 use Rattle.columns_core.specs.Shapes.{shape_of, type_shape}
 use Rattle.columns_core.specs.Tree.{TypeTree, t_list, t_fixed_size_list, t_large_list, t_struct, t_map, t_dictionary, t_extension, FieldTree, field, FieldTrees, no_fields, more_fields}
 use Rattle.shredding.specs.Shape.{HasNoEmptyStruct}
 use Rattle.shredding.specs.Shred.{max_repetition}
-use Rattle.pq_headline.specs.Columns.{ArrowColumn, type_columns, field_columns, columns_from, beneath_list, beneath_struct, is_dictionary, small_limit, large_limit}
+use Rattle.pq_headline.specs.Columns.{ArrowColumn, type_columns, field_columns, columns_from, beneath_list, beneath_struct, small_limit, large_limit}
 use Rattle.pq_headline.proofs.Ways.{is_direct, is_direct_field, are_direct_fields}
 use Rattle.assembly.specs.Read.{reads_nodes, reads_nodes_of, reads_nodes_of_all}
-use Rattle.read_nested.specs.Joined.{HasFixedList, HasFixedListIn, HaveFixedList}
+use Rattle.read_nested.specs.Joined.{HasFlatEntries, HaveFlatEntries, HasFixedList, HasFixedListIn, HaveFixedList}
 use Rattle.read_pieces.specs.Pieces.{type_leaves, leaf_types, all_leaf_types}
 
 -- ---- as many leaf types as columns
@@ -53,40 +54,43 @@ mutual
   pub some_column : (f : FieldTree) → HasNoEmptyStruct (shape_of f) → 0 < length (field_columns f)
   some_column (field name t n m) h = some_of n t h
 
--- ---- the columns of a field that is read have no dictionary
+-- ---- the dictionaries of a field that is read have entries without parts
 
-abbrev pub IsPlainType : ArrowColumn → Type 0
-IsPlainType c = is_dictionary c.data_type ≡ false
+abbrev pub IsFlatColumn : ArrowColumn → Type 0
+IsFlatColumn c = HasFlatEntries c.data_type
 
-beneath_lists : (n : Bool) (limit : ℕ) (cs : List ArrowColumn) → Each IsPlainType cs → Each IsPlainType (map (beneath_list n limit) cs)
+beneath_lists : (n : Bool) (limit : ℕ) (cs : List ArrowColumn) → Each IsFlatColumn cs → Each IsFlatColumn (map (beneath_list n limit) cs)
 beneath_lists n limit [] h = tt
 beneath_lists n limit (c ∷ cs) h = (h.0, beneath_lists n limit cs h.1)
 
-beneath_structs : (n : Bool) (place : ℕ) (cs : List ArrowColumn) → Each IsPlainType cs → Each IsPlainType (map (beneath_struct n place) cs)
+beneath_structs : (n : Bool) (place : ℕ) (cs : List ArrowColumn) → Each IsFlatColumn cs → Each IsFlatColumn (map (beneath_struct n place) cs)
 beneath_structs n place [] h = tt
 beneath_structs n place (c ∷ cs) h = (h.0, beneath_structs n place cs h.1)
 
 mutual
-  plain_of : (n : Bool) (t : TypeTree) → reads_nodes t ≡ true → Each IsPlainType (type_columns n t)
-  plain_of n (t_list item) h = beneath_lists n small_limit (field_columns item) (plain_columns item h)
-  plain_of n (t_large_list item) h = beneath_lists n large_limit (field_columns item) (plain_columns item h)
-  plain_of n (t_fixed_size_list item w) h = absurd (true≢false (sym h))
-  plain_of n (t_map entry s) h = beneath_lists n small_limit (field_columns entry) (plain_columns entry h)
-  plain_of n (t_struct fs) h = plain_from n zero fs h
-  plain_of n (t_dictionary k t s) h = absurd (true≢false (sym h))
-  plain_of n (t_extension name inner m) h = plain_of n inner h
-  plain_of n t h = (refl, tt)
+  flat_of : (n : Bool) (t : TypeTree) → reads_nodes t ≡ true → Each IsFlatColumn (type_columns n t)
+  flat_of n (t_list item) h = beneath_lists n small_limit (field_columns item) (flat_columns item h)
+  flat_of n (t_large_list item) h = beneath_lists n large_limit (field_columns item) (flat_columns item h)
+  flat_of n (t_fixed_size_list item w) h = absurd (true≢false (sym h))
+  flat_of n (t_map entry s) h = beneath_lists n small_limit (field_columns entry) (flat_columns entry h)
+  flat_of n (t_struct fs) h = flat_from n zero fs h
+  flat_of n (t_dictionary k t s) h = (h, tt)
+  flat_of n (t_extension name inner m) h = flat_of n inner h
+  flat_of n t h = (tt, tt)
 
-  pub plain_columns : (f : FieldTree) → reads_nodes_of f ≡ true → Each IsPlainType (field_columns f)
-  plain_columns (field name t n m) h = plain_of n t h
+  pub flat_columns : (f : FieldTree) → reads_nodes_of f ≡ true → Each IsFlatColumn (field_columns f)
+  flat_columns (field name t n m) h = flat_of n t h
 
-  plain_from : (n : Bool) (place : ℕ) (fs : FieldTrees) → reads_nodes_of_all fs ≡ true → Each IsPlainType (columns_from n place fs)
-  plain_from n place no_fields h = tt
-  plain_from n place (more_fields f fs) h =
+  flat_from : (n : Bool) (place : ℕ) (fs : FieldTrees) → reads_nodes_of_all fs ≡ true → Each IsFlatColumn (columns_from n place fs)
+  flat_from n place no_fields h = tt
+  flat_from n place (more_fields f fs) h =
       let a = and_parts _ _ h in
-      Each-append IsPlainType (map (beneath_struct n place) (field_columns f)) (columns_from n (suc place) fs) (beneath_structs n place (field_columns f) (plain_columns f a.0)) (plain_from n (suc place) fs a.1)
+      Each-append IsFlatColumn (map (beneath_struct n place) (field_columns f)) (columns_from n (suc place) fs) (beneath_structs n place (field_columns f) (flat_columns f a.0)) (flat_from n (suc place) fs a.1)
 
--- ---- no dictionary is in a field that is read
+pub flat_field : (f : FieldTree) → reads_nodes_of f ≡ true → HaveFlatEntries f
+flat_field f h = All-from_recursion IsFlatColumn (field_columns f) (flat_columns f h)
+
+-- ---- a dictionary is one column
 
 mutual
   direct_type : (t : TypeTree) → reads_nodes t ≡ true → is_direct t ≡ true
@@ -95,7 +99,7 @@ mutual
   direct_type (t_fixed_size_list item w) h = absurd (true≢false (sym h))
   direct_type (t_map entry s) h = direct_field entry h
   direct_type (t_struct fs) h = direct_fields fs h
-  direct_type (t_dictionary k t s) h = absurd (true≢false (sym h))
+  direct_type (t_dictionary k t s) h = h
   direct_type (t_extension name inner m) h = direct_type inner h
   direct_type t h = refl
 

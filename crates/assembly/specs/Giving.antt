@@ -17,9 +17,11 @@ use Rattle.pq_headline.specs.FieldReasons.{Refuses}
 use Rattle.pq_headline.specs.Openings.{Opening, IsItem, Assembled, AreAlike, HaveLevels}
 use Rattle.assembly.specs.Read.{IsRead}
 use Rattle.read_nested.specs.Joined.{IsArrayOf}
-use Rattle.read_leaves.specs.Leaf.{LeafReading}
+use Rattle.read_columns.specs.Columns.{ColumnReading}
 use Rattle.read_pieces.specs.Columns.{FailsAs}
-use Rattle.assembly.specs.Lanes.{Tables, AreReading, lanes_of}
+use Rattle.shredding.specs.Shred.{Triple}
+use Rattle.shredding.specs.Slot.{Value}
+use Rattle.assembly.specs.Lanes.{Tables, AreEntries, AreReading, lanes_of}
 
 -- The field as it was opened goes with its leaves and sources, and is read.
 pub record IsOpened (o : Opening) : Type 0 where
@@ -33,15 +35,21 @@ pub record IsOpened (o : Opening) : Type 0 where
 -- what an iterator keeps: the field, the readers of its columns, and how many rows are left
 pub record FieldReading : Type 0 where
   pub field : FieldTree
-  pub columns : List LeafReading
+  pub columns : List ColumnReading
   pub left : ℕ
+
+-- An array of the field of one piece of each column: it shreds to these triples, and its dictionaries have the entries of their columns.
+pub record IsMade (o : Opening) (table : List (List Triple)) (a : ArrayTree) : Type 0 where
+  pub entries : List (Option (List (Option Value)))
+  pub array : IsArrayOf o.field table entries a
+  pub are : AreEntries (lanes_of o) entries
 
 -- Of the field these arrays were given, each of one piece of each column, and the readers of the columns give the pieces behind them.
 pub record HasGiven (o : Opening) (arrays : List ArrayTree) (it : FieldReading) : Type 0 where
   pub opened : IsOpened o
   pub field : it.field ≡ o.field
   pub tables : Tables
-  pub made : AllZip (IsArrayOf o.field) tables arrays
+  pub made : AllZip (IsMade o) tables arrays
   pub reading : AreReading 0 (lanes_of o) it.columns tables
   pub left : it.left + length (flat_map slots arrays) ≡ o.rows
 

@@ -7,11 +7,12 @@ use Rattle.pq_files.specs.Reasons.{AnyOf}
 use Rattle.pq_pages.specs.Outcomes.{Outcome}
 use Rattle.pq_tree.specs.Tree.{Leaf}
 use Rattle.shredding.specs.Shred.{Triple}
+use Rattle.shredding.specs.Slot.{Value}
 use Rattle.pq_headline.specs.Columns.{ArrowColumn, field_columns}
 use Rattle.pq_headline.specs.Openings.{Opening}
-use Rattle.read_leaves.specs.Leaf.{IsReadingLeaf, LeafReading}
+use Rattle.read_columns.specs.Columns.{AreEntriesOf, ColumnReading, IsColumnPiece, IsReadingColumn}
 use Rattle.read_pieces.specs.Columns.{ColumnOpening, IsNextPiece, IsWhole, RefusesPiece, rows_of_all}
-use Rattle.read_pieces.specs.Pieces.{IsPieceOf, leaf_types}
+use Rattle.read_pieces.specs.Pieces.{leaf_types}
 use Rattle.read_pieces.specs.declared.piece.ColumnPiece.{ColumnPiece}
 
 -- a column as it is read, and the type of its leaf
@@ -39,20 +40,20 @@ abbrev pub pieces_at : ℕ → Tables → List (List Triple)
 pieces_at i tables = map (λ table. slice_index_or table i []) tables
 
 -- each reader has given the pieces of its column
-abbrev pub AreReading : ℕ → List Lane → List LeafReading → Tables → Type 0
+abbrev pub AreReading : ℕ → List Lane → List ColumnReading → Tables → Type 0
 AreReading i [] [] tables = Unit {0}
-AreReading i (x ∷ xs) (r ∷ rs) tables = IsReadingLeaf x.opening x.type (pieces_at i tables) r × AreReading (suc i) xs rs tables
+AreReading i (x ∷ xs) (r ∷ rs) tables = IsReadingColumn x.opening x.type (pieces_at i tables) r × AreReading (suc i) xs rs tables
 AreReading i _ _ tables = ⊥
 
 -- the first ones have given a piece more, behind so many rows
-abbrev pub AreStepped : ℕ → ℕ → List Lane → List LeafReading → List ColumnPiece → List (List Triple) → Tables → Type 0
+abbrev pub AreStepped : ℕ → ℕ → List Lane → List ColumnReading → List ColumnPiece → List (List Triple) → Tables → Type 0
 AreStepped i before xs rs [] [] tables = AreReading i xs rs tables
 AreStepped i before (x ∷ xs) (r ∷ rs) (p ∷ ps) (ts ∷ table) tables =
-    IsNextPiece x.opening before ts × IsPieceOf x.opening.column x.type ts p × IsReadingLeaf x.opening x.type (pieces_at i tables ++ ts ∷ []) r × AreStepped (suc i) before xs rs ps table tables
+    IsNextPiece x.opening before ts × IsColumnPiece x.opening x.type ts p × IsReadingColumn x.opening x.type (pieces_at i tables ++ ts ∷ []) r × AreStepped (suc i) before xs rs ps table tables
 AreStepped i before _ _ _ _ tables = ⊥
 
 -- the first ones, so many, have ended
-abbrev pub AreEnded : ℕ → ℕ → List Lane → List LeafReading → Tables → Type 0
+abbrev pub AreEnded : ℕ → ℕ → List Lane → List ColumnReading → Tables → Type 0
 AreEnded i zero xs rs tables = AreReading i xs rs tables
 AreEnded i (suc k) (x ∷ xs) (r ∷ rs) tables = IsWhole x.opening (pieces_at i tables) × AreEnded (suc i) k xs rs tables
 AreEnded i (suc k) _ _ tables = ⊥
@@ -70,8 +71,14 @@ AreNext before _ _ = ⊥
 
 abbrev pub ArePieces : List Lane → List (List Triple) → List ColumnPiece → Type 0
 ArePieces [] [] [] = Unit {0}
-ArePieces (x ∷ xs) (ts ∷ table) (p ∷ ps) = IsPieceOf x.opening.column x.type ts p × ArePieces xs table ps
+ArePieces (x ∷ xs) (ts ∷ table) (p ∷ ps) = IsColumnPiece x.opening x.type ts p × ArePieces xs table ps
 ArePieces _ _ _ = ⊥
+
+-- of each column its entries, or none
+abbrev pub AreEntries : List Lane → List (Option (List (Option Value))) → Type 0
+AreEntries [] [] = Unit {0}
+AreEntries (x ∷ xs) (e ∷ es) = AreEntriesOf x.opening e × AreEntries xs es
+AreEntries _ _ = ⊥
 
 -- of each column so many rows were read, and there are so many
 abbrev pub AreBehind : ℕ → ℕ → ℕ → List Lane → Tables → Type 0
@@ -79,7 +86,7 @@ AreBehind i before rows [] tables = Unit {0}
 AreBehind i before rows (x ∷ xs) tables = (rows_of_all (pieces_at i tables) ≡ before) × (x.opening.rows ≡ rows) × AreBehind (suc i) before rows xs tables
 
 -- a piece of each column was taken
-pub record TakesPieces (before : ℕ) (xs : List Lane) (tables : Tables) (pieces : List ColumnPiece) (rs : List LeafReading) : Type 0 where
+pub record TakesPieces (before : ℕ) (xs : List Lane) (tables : Tables) (pieces : List ColumnPiece) (rs : List ColumnReading) : Type 0 where
   pub table : List (List Triple)
   pub next : AreNext before xs table
   pub are : ArePieces xs table pieces

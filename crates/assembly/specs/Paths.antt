@@ -1,11 +1,13 @@
 -- The ways to the leaves of a field, as the parts of a nested state before its first pair.
-use Rattle.std.specs.Prelude.{◌≡◌, ◌⊎◌, Bool, Option, Some, None, List, [], ◌∷◌, ◌++◌, Result, Ok, Err}
+use Rattle.std.specs.Prelude.{◌≡◌, ◌⊎◌, Bool, true, false, Option, Some, None, List, [], ◌∷◌, ◌++◌, Result, Ok, Err}
 use Rattle.columns_base.specs.declared.error.Error.{Error}
 use Rattle.columns_base.specs.declared.error.Error.TheVariants.{Memory, NotYetImplemented, InvalidArgumentError}
 use Rattle.columns_base.specs.declared.error.A.TheVariants.{A8}
 use Rattle.columns_base.specs.declared.error.N.TheVariants.{N5}
+use Rattle.columns_core.specs.Shapes.{base}
 use Rattle.columns_core.specs.Tree.{TypeTree, t_list, t_fixed_size_list, t_large_list, t_struct, t_union, t_map, t_dictionary, t_extension, FieldTree, field, FieldTrees, no_fields, more_fields}
 use Rattle.columns_core.specs.View.{type_view}
+use Rattle.pq_headline.specs.Columns.{has_no_parts}
 use Rattle.read_state.specs.declared.init.InitNested.{InitNested}
 use Rattle.read_state.specs.declared.init.InitNested.TheVariants.{Primitive, List as ListOf, Struct}
 use Rattle.schema_to_tree.specs.Faults.{first_of_two}
@@ -38,6 +40,11 @@ abbrev mutual
 
 -- ---- why there are none: the first fault on a way
 
+-- of a dictionary whose entries have parts or not
+abbrev pub entries_fault : Bool → Option Error
+entries_fault true = None
+entries_fault false = Some (NotYetImplemented N5)
+
 abbrev mutual
   pub type_fault : TypeTree → Option Error
   type_fault (t_list item) = field_fault item
@@ -46,7 +53,7 @@ abbrev mutual
   type_fault (t_map entry is_sorted) = field_fault entry
   type_fault (t_struct fs) = struct_fault fs
   type_fault (t_union fs ids is_sparse) = Some (NotYetImplemented N5)
-  type_fault (t_dictionary key t is_sorted) = Some (NotYetImplemented N5)
+  type_fault (t_dictionary key t is_sorted) = entries_fault (has_no_parts (base t))
   type_fault (t_extension name inner metadata) = type_fault inner
   type_fault t = None
 

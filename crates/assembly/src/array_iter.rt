@@ -1,7 +1,7 @@
 //! What an iterator over the arrays of a field keeps.
 use columns_core::Field;
 use pq_pages::Pages;
-use read_leaves::LeafColumn;
+use read_columns::Column;
 use std::alloc::Global;
 use std::marker::Model;
 
@@ -10,7 +10,7 @@ use std::marker::Model;
 pub struct ArrayIter<I: Pages> {
     pub(crate) alloc: Global,
     pub(crate) field: Field,
-    pub(crate) columns: Vec<LeafColumn<I>>,
+    pub(crate) columns: Vec<Column<I>>,
     /// The rows that are left.
     pub(crate) left: usize,
 }
@@ -21,6 +21,7 @@ impl<I: Pages> Model for ArrayIter<I> {
     ghost use Rattle.columns_core.specs.Measures.{field_nesting};
     ghost use Rattle.columns_core.specs.TypeCode.{type_code};
     ghost use Rattle.columns_core.specs.View.{field_view};
+    ghost use Rattle.columns_slots.specs.Tree.{tree_code};
     ghost use Rattle.read_column.specs.SlotCode.{slot_code};
     ghost use Rattle.assembly.specs.FieldCode.{field_code};
     ghost use Rattle.assembly.specs.Giving.{FieldReading};
@@ -28,7 +29,7 @@ impl<I: Pages> Model for ArrayIter<I> {
 
     ghost Value = { FieldReading };
 
-    ghost coded = { Prim.hlevel (codes, slot_code, type_code, field_code) };
+    ghost coded = { Prim.hlevel (codes, slot_code, type_code, tree_code, field_code) };
 
     ghost view = { λ it. record { field = field_view it.field; columns = it.columns.items; left = it.left } };
 

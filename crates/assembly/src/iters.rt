@@ -39,9 +39,9 @@ impl<I: Pages + Drop> ArrayIter<I> {
     ///
     /// - An error of a source of pages (S3, N4).
     /// - `OutOfSpec(S4)`, S5, S6, S7, S9, S10: the pages hold no rows of the field.
-    /// - `NotYetImplemented(N4)`: a page in an encoding that its physical type has not, or of deltas in a field that nests. N8: a page that goes on with
-    ///   a row of the page before it.
-    /// - `Overflow(V1)`: more items or bytes than offsets count.
+    /// - `NotYetImplemented(N4)`: a page in an encoding that its physical type has not, of deltas in a field that nests, or without indices in a column
+    ///   of a dictionary type. N8: a page that goes on with a row of the page before it.
+    /// - `Overflow(V1)`: more items or bytes than offsets count, or bytes of a dictionary's entries. V2: more entries than a dictionary's keys number.
     /// - `Memory`.
     ///
     /// After an error nothing is said of what it gives.

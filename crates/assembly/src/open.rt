@@ -8,7 +8,7 @@ ghost use Rattle.pq_headline.specs.Openings.{Opening};
 ghost use Rattle.assembly.specs.Giving.{IsGiving, Opens, RefusesOpening};
 ghost use Rattle.assembly.specs.Lanes.{Lane, AreReading};
 ghost use Rattle.assembly.specs.Opened.{IsOpen, AreOpen, IsNotRead, SomeIsNotRead, physical_in};
-ghost use Rattle.read_leaves.specs.Leaf.{IsReadingLeaf};
+ghost use Rattle.read_columns.specs.Columns.{IsReadingColumn};
 ghost use Rattle.assembly.specs.Paths.{path_view};
 
 use crate::ArrayIter;
@@ -17,7 +17,7 @@ use columns_base::{A, Error, Result};
 use columns_core::Field;
 use pq_pages::Pages;
 use pq_tree::{PhysicalType, PrimitiveType};
-use read_leaves::LeafColumn;
+use read_columns::Column;
 use std::alloc::Global;
 
 // The reader of one column.
@@ -28,13 +28,13 @@ fn open_column<I: Pages + Drop>(
     physical_type: PhysicalType,
     chunk_size: Option<usize>,
     num_rows: usize,
-) -> Result<LeafColumn<I>>
-    ensures ok { (x : Lane) → IsOpen chunk_size num_rows x (path_view path.now) (I.outcomes pages) (physical_view physical_type) → IfOk result (IsReadingLeaf x.opening x.type []) }
+) -> Result<Column<I>>
+    ensures ok { (x : Lane) → IsOpen chunk_size num_rows x (path_view path.now) (I.outcomes pages) (physical_view physical_type) → IfOk result (IsReadingColumn x.opening x.type []) }
     ensures err { IfErr result (λ e. (e ≡ Error.Memory) ⊎ IsNotRead (path_view path.now) (physical_view physical_type) e) }
 {
     let data_type = path.data_type.clone(alloc)?;
     let nested = Vec::from_slice(alloc, &path.nested)?;
-    match LeafColumn::try_new(
+    match Column::try_new(
         alloc,
         pages,
         data_type,
@@ -56,7 +56,7 @@ fn open_columns<I: Pages + Drop>(
     types: &[PrimitiveType],
     chunk_size: Option<usize>,
     num_rows: usize,
-) -> Result<Vec<LeafColumn<I>>>
+) -> Result<Vec<Column<I>>>
     requires columns { length paths.now ≡ length columns.items }
     requires types { length types.now ≡ length columns.items }
     ensures ok { (xs : List Lane) → AreOpen chunk_size num_rows xs (map path_view paths.now) (map I.outcomes columns.items) (map physical_in types.now) → IfOk result (λ readers. AreReading 0 xs readers.items []) }
@@ -82,7 +82,8 @@ fn open_columns<I: Pages + Drop>(
 /// - `InvalidArgumentError(A1)`: a chunk size of no rows.
 /// - `InvalidArgumentError(A8)`: columns, types and the field's leaves differ in number, or a struct has no field.
 /// - `NotYetImplemented(N5)`: a leaf's type is not read, not under its physical type, not beneath lists and structs (decimals, intervals and byte
-///   strings of one size), or not where it may not be null (nulls alone); a list of fixed size or a union.
+///   strings of one size), or not where it may not be null (nulls alone); the entries of a dictionary are not read, or not beneath lists and
+///   structs (`UInt64` and timestamps); a list of fixed size or a union.
 /// - `Memory`.
 pub fn column_iter_to_arrays<I: Pages + Drop>(
     alloc: Global,

@@ -1,9 +1,11 @@
 //! The ways to the leaves of a field.
-ghost use Rattle.std.specs.Prelude.{◌≡◌, ◌⊎◌, ◌≤◌, ◌++◌, ◌∷◌, [], Some, None, map, IfOk, IfErr, OnOk};
+ghost use Rattle.std.specs.Prelude.{◌≡◌, ◌⊎◌, ◌≤◌, ◌++◌, ◌∷◌, [], Some, None, true, false, map, IfOk, IfErr, OnOk};
 ghost use Rattle.columns_base.specs.declared.error.Error.{Error};
 ghost use Rattle.columns_core.specs.Measures.{field_nesting, fields_nesting, nesting};
+ghost use Rattle.columns_core.specs.Shapes.{base};
 ghost use Rattle.columns_core.specs.View.{field_view, fields_view, type_view};
-ghost use Rattle.assembly.specs.Paths.{Pushes, path_view, field_paths, fields_paths, type_paths, field_fault, fields_fault, struct_fault, type_fault};
+ghost use Rattle.pq_headline.specs.Columns.{has_no_parts};
+ghost use Rattle.assembly.specs.Paths.{Pushes, entries_fault, path_view, field_paths, fields_paths, type_paths, field_fault, fields_fault, struct_fault, type_fault};
 
 use columns_base::{A, Error, N, Result};
 use columns_core::{DataType, Field};
@@ -44,6 +46,38 @@ fn push_leaf(
     Ok(())
 }
 
+// Whether nothing is inside values of the type.
+fn is_without_parts(data_type: &DataType) -> bool
+    ensures { result ≡ has_no_parts (base (type_view data_type.now)) }
+{
+    match data_type.base() {
+        DataType::List(_) => false,
+        DataType::LargeList(_) => false,
+        DataType::FixedSizeList(_, _) => false,
+        DataType::Map(_, _) => false,
+        DataType::Struct(_) => false,
+        DataType::Dictionary(_, _, _) => false,
+        _ => true,
+    }
+}
+
+// A dictionary is a leaf, unless its entries have parts.
+fn push_dictionary(
+    alloc: Global,
+    front: &[InitNested],
+    is_nullable: bool,
+    entries: &DataType,
+    data_type: &DataType,
+    paths: &mut Vec<LeafPath>,
+) -> Result<()>
+    ensures { Pushes (map path_view paths.old.items) (map path_view paths.new.items) ((front.now ++ InitNested.Primitive is_nullable ∷ [], type_view data_type.now) ∷ []) (entries_fault (has_no_parts (base (type_view entries.now)))) result }
+{
+    if !is_without_parts(entries) {
+        return Err(Error::NotYetImplemented(N::N5));
+    }
+    push_leaf(alloc, front, is_nullable, data_type, paths)
+}
+
 #[cycle(push)]
 fn push_paths(
     alloc: Global,
@@ -64,8 +98,12 @@ fn push_paths(
         DataType::Extension(_, inner, _) => {
             push_paths(alloc, inner, own, front, is_nullable, paths)
         }
-        DataType::FixedSizeList(_, _) | DataType::Union(_, _, _) | DataType::Dictionary(_, _, _) =>
-            { Err(Error::NotYetImplemented(N::N5)) }
+        DataType::Dictionary(_, entries, _) => {
+            push_dictionary(alloc, front, is_nullable, entries, own, paths)
+        }
+        DataType::FixedSizeList(_, _) | DataType::Union(_, _, _) => {
+            Err(Error::NotYetImplemented(N::N5))
+        }
         _ => push_leaf(alloc, front, is_nullable, own, paths),
     }
 }
@@ -149,7 +187,7 @@ fn push_fields(
 ///
 /// # Errors
 ///
-/// - `NotYetImplemented(N5)`: a list of fixed size, a union or a dictionary is on a way.
+/// - `NotYetImplemented(N5)`: a list of fixed size or a union is on a way, or a dictionary whose entries are lists, structs, maps or dictionaries.
 /// - `InvalidArgumentError(A8)`: a struct on a way has no field.
 /// - `Memory`.
 pub fn leaf_paths(alloc: Global, field: &Field) -> Result<Vec<LeafPath>>

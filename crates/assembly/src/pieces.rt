@@ -6,14 +6,14 @@ ghost use Rattle.assembly.specs.Lanes.{Lane, Tables, AreReading, AreBehind, Take
 
 use columns_base::{Error, Result, S};
 use pq_pages::Pages;
-use read_leaves::LeafColumn;
+use read_columns::Column;
 use read_pieces::ColumnPiece;
 use std::alloc::Global;
 
 /// Takes the next piece of each column, which together are the next rows.
 pub fn next_pieces<I: Pages + Drop>(
     alloc: Global,
-    columns: &mut Vec<LeafColumn<I>>,
+    columns: &mut Vec<Column<I>>,
 ) -> Result<Vec<ColumnPiece>>
     ensures ok { (before rows : ℕ) (xs : List Lane) (tables : Tables) → AreReading 0 xs columns.old.items tables → AreBehind 0 before rows xs tables → before < rows → IfOk result (λ pieces. TakesPieces before xs tables pieces.items columns.new.items) }
     ensures err { (before rows : ℕ) (xs : List Lane) (tables : Tables) → AreReading 0 xs columns.old.items tables → AreBehind 0 before rows xs tables → before < rows → IfErr result (AnyRefused xs) }
@@ -41,7 +41,7 @@ fn reason_of(item: Result<ColumnPiece>) -> Error
 }
 
 /// Finds that no column has anything left, once all rows were taken.
-pub fn expect_ends<I: Pages + Drop>(columns: &mut Vec<LeafColumn<I>>) -> Result<()>
+pub fn expect_ends<I: Pages + Drop>(columns: &mut Vec<Column<I>>) -> Result<()>
     ensures ok { (rows : ℕ) (xs : List Lane) (tables : Tables) → AreReading 0 xs columns.old.items tables → AreBehind 0 rows rows xs tables → OnOk result (AreWhole 0 xs tables) }
     ensures err { (rows : ℕ) (xs : List Lane) (tables : Tables) → AreReading 0 xs columns.old.items tables → AreBehind 0 rows rows xs tables → IfErr result (AnyRefused xs) }
 {

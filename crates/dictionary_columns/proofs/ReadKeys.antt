@@ -15,7 +15,7 @@ use Rattle.pq_files.specs.RowReasons.{ReadsTriples}
 use Rattle.pq_files.proofs.PageOnce.{encoding_same}
 use Rattle.pq_files.proofs.PlainOnce.{plain_same}
 use Rattle.pq_headline.specs.Columns.{ArrowColumn}
-use Rattle.pq_headline.specs.FieldReasons.{EntriesPass, IsNotReadIn, IsPieceOf, PassesLists, PassesOffsets, PassesTexts, ReadsColumn, ReadsPages, items_in}
+use Rattle.pq_headline.specs.FieldReasons.{EntriesPass, IsNotReadIn, IsPieceOf, PassesKeys, PassesLists, PassesOffsets, PassesTexts, ReadsColumn, ReadsPages, items_in}
 use Rattle.pq_pages.specs.Held.{AreEntriesIn}
 use Rattle.pq_pages.specs.Outcomes.{Levels, Outcome, gives_page, gives_dictionary, fails}
 use Rattle.pq_tree.specs.Headers.{Header, data_page, data_page_2, dictionary_page}
@@ -152,7 +152,7 @@ no-texts K.UInt16 vs h = h
 no-texts K.UInt32 vs h = h
 no-texts K.UInt64 vs h = h
 
-no-entries : (key : IntegerType) (es : Option (List Value)) → EntriesPass (key_tree key) es → ⊥
+pub no-entries : (key : IntegerType) (es : Option (List Value)) → EntriesPass (key_tree key) es → ⊥
 no-entries K.Int8 es h = h
 no-entries K.Int16 es h = h
 no-entries K.Int32 es h = h
@@ -162,10 +162,20 @@ no-entries K.UInt16 es h = h
 no-entries K.UInt32 es h = h
 no-entries K.UInt64 es h = h
 
+pub no-room : (key : IntegerType) (n : ℕ) → PassesKeys (key_tree key) n → ⊥
+no-room K.Int8 n h = h
+no-room K.Int16 n h = h
+no-room K.Int32 n h = h
+no-room K.Int64 n h = h
+no-room K.UInt8 n h = h
+no-room K.UInt16 n h = h
+no-room K.UInt32 n h = h
+no-room K.UInt64 n h = h
+
 pub passes-forth : (chunk : Option ℕ) (key : IntegerType) (c : ArrowColumn) (l : Leaf) (n : ℕ) (body text : List ℕ) (keys es : List Value) (f : Value → Value) (os : List Outcome) → HasBoth c l (key_physical key) n body text keys es f → PassesOffsets chunk (key_column key c) (key_leaf key l) (keyed_outcomes (gives_dictionary n text) os) → PassesOffsets chunk c l (gives_dictionary n body ∷ os)
 passes-forth chunk key c l n body text keys es f os h x = by x.passes
   where
-    by : PassesLists c.way 1 c.limits x.piece ⊎ PassesTexts (key_tree key) (values_in x.piece) ⊎ EntriesPass (key_tree key) x.entries → PassesOffsets chunk c l (gives_dictionary n body ∷ os)
+    by : PassesLists c.way 1 c.limits x.piece ⊎ PassesTexts (key_tree key) (values_in x.piece) → PassesOffsets chunk c l (gives_dictionary n body ∷ os)
     by (inl lists) = record {
       entries = Some es;
       triples = map (with_value f) x.triples;
@@ -174,5 +184,4 @@ passes-forth chunk key c l n body text keys es f os h x = by x.passes
       is_piece = piece-with f chunk x.triples x.piece x.is_piece;
       passes = inl (lists-with f c.way 1 c.limits x.piece lists);
     }
-    by (inr (inl texts)) = absurd (no-texts key (values_in x.piece) texts)
-    by (inr (inr entries)) = absurd (no-entries key x.entries entries)
+    by (inr texts) = absurd (no-texts key (values_in x.piece) texts)

@@ -1,5 +1,5 @@
 -- Why no piece of a dictionary's column comes, by why none of its keys does.
-use Rattle.std.proofs.Common.{◌≡◌, ◌≢◌, ◌⊎◌, inl, inr, ℕ, Bool, true, false, cond, List, [], ◌∷◌, ◌++◌, map, refl, ap, sym, subst, ◌∙◌}
+use Rattle.std.proofs.Common.{◌≡◌, ◌≢◌, ◌⊎◌, inl, inr, ℕ, Bool, true, false, cond, Some, List, [], ◌∷◌, ◌++◌, map, refl, ap, sym, subst, ◌∙◌}
 use Rattle.columns_base.specs.declared.error.Error.{Error}
 use Rattle.columns_base.specs.declared.error.Error.TheVariants.{NotYetImplemented}
 use Rattle.columns_base.specs.declared.error.N.TheVariants.{N4}
@@ -22,7 +22,7 @@ use Rattle.dictionary_columns.specs.Sources.{has_indices, keyed_outcome, keyed_o
 use Rattle.dictionary_columns.proofs.Looked.{beside, runs-back}
 use Rattle.dictionary_columns.proofs.Numbers.{not-truths}
 use Rattle.dictionary_columns.proofs.Pages.{indexed, not-indexed, shows-forth}
-use Rattle.dictionary_columns.proofs.ReadKeys.{HasBoth, passes-forth}
+use Rattle.dictionary_columns.proofs.ReadKeys.{HasBoth, no-entries, no-room, passes-forth}
 
 -- ---- one of the outcomes
 record Splits (os a b : List Outcome) (y : Outcome) : Type 0 where
@@ -188,5 +188,8 @@ refuses-forth key o n body text keys es f os e d outcomes h rows (inr (inr (inl 
 refuses-forth key o n body text keys es f os e d outcomes h rows (inr (inr (inr (inl (n4, inl first))))) = absurd first
 refuses-forth key o n body text keys es f os e d outcomes h rows (inr (inr (inr (inl (n4, inr more))))) = inr (inr (inr (inl (n4, subst (λ (xs : List Outcome). AnyOf (HasN4Page o.column o.leaf) xs) (sym outcomes) (inr (n4-any key o.column o.leaf os d more))))))
 refuses-forth key o n body text keys es f os e d outcomes h rows (inr (inr (inr (inr (inl (n8, x)))))) = inr (inr (inr (inr (inl (n8, subst (HasN8 o.leaf) (sym outcomes) (n8-forth o.leaf (key_physical key) n body text os x))))))
-refuses-forth key o n body text keys es f os e d outcomes h rows (inr (inr (inr (inr (inr (inl (v1, x))))))) = inr (inr (inr (inr (inr (inl (v1, subst (λ (xs : List Outcome). PassesOffsets o.chunk_size o.column o.leaf xs) (sym outcomes) (passes-forth o.chunk_size key o.column o.leaf n body text keys es f os h x)))))))
+refuses-forth key o n body text keys es f os e d outcomes h rows (inr (inr (inr (inr (inr (inl (inl (v1, inl x)))))))) = inr (inr (inr (inr (inr (inl (inl (v1, inl (subst (λ (xs : List Outcome). PassesOffsets o.chunk_size o.column o.leaf xs) (sym outcomes) (passes-forth o.chunk_size key o.column o.leaf n body text keys es f os h x)))))))))
+refuses-forth key o n body text keys es f os e d outcomes h rows (inr (inr (inr (inr (inr (inl (inl (v1, inr x)))))))) = absurd (no-entries key (Some x.entries) x.long)
+refuses-forth key o n body text keys es f os e d outcomes h rows (inr (inr (inr (inr (inr (inl (inr (v2, inl x)))))))) = absurd (no-room key n x)
+refuses-forth key o n body text keys es f os e d outcomes h rows (inr (inr (inr (inr (inr (inl (inr (v2, inr x)))))))) = absurd x
 refuses-forth key o n body text keys es f os e d outcomes h rows (inr (inr (inr (inr (inr (inr (is, none))))))) = inr (inr (inr (inr (inr (inr (is, rows is))))))

@@ -11,6 +11,9 @@ use std::alloc::Global;
 // "a" and "bc" in PLAIN (Parquet format, Encodings, "Plain").
 const TEXTS: &[u8] = &[1, 0, 0, 0, 97, 2, 0, 0, 0, 98, 99];
 
+// "ab" and "cd" in PLAIN, two bytes each.
+const CHUNKS: &[u8] = b"abcd";
+
 // 7 and -1 in PLAIN.
 const NUMBERS: &[u8] = &[7, 0, 0, 0, 255, 255, 255, 255];
 
@@ -25,12 +28,13 @@ fn has_keys(array: &DictionaryArray, want: &[i32]) -> bool {
     }
 }
 
-// The entries are the texts, or the numbers.
+// The entries are the texts, the byte strings of two bytes, or the numbers.
 fn has_entries(entries: &ArrayBox) -> bool {
     match entries {
         ArrayBox::Utf8(array) => {
             array.values() == b"abc".as_slice() && array.offsets().buffer() == [0, 1, 3].as_slice()
         }
+        ArrayBox::FixedSizeBinary(array) => array.len() == 2 && array.values() == CHUNKS,
         ArrayBox::Int32(array) => array.values() == [7, -1].as_slice(),
         _ => false,
     }
@@ -80,15 +84,27 @@ fn reads_numbers(alloc: Global) -> Result<bool> {
     Ok(has(iter.next(), &[0, 1]) && has(iter.next(), &[1]) && iter.next().is_none())
 }
 
+fn reads_chunks(alloc: Global) -> Result<bool> {
+    let mut iter = fixed_size_binary::NestedDictIter::<i32, _>::new(
+        alloc,
+        pages(alloc, PhysicalType::FixedLenByteArray(2), CHUNKS)?,
+        parts(alloc)?,
+        DataType::Dictionary(
+            IntegerType::Int32,
+            Box::new(alloc, DataType::FixedSizeBinary(2))?,
+            false,
+        ),
+        3,
+        Some(2),
+    )?;
+    Ok(has(iter.next(), &[0, 1]) && has(iter.next(), &[1]) && iter.next().is_none())
+}
+
 // No piece of no rows, here of byte strings of two bytes.
 fn refuses_no_rows(alloc: Global) -> Result<bool> {
     match fixed_size_binary::NestedDictIter::<i32, _>::new(
         alloc,
-        pages(
-            alloc,
-            PhysicalType::FixedLenByteArray(2),
-            b"abcd".as_slice(),
-        )?,
+        pages(alloc, PhysicalType::FixedLenByteArray(2), CHUNKS)?,
         parts(alloc)?,
         DataType::Dictionary(
             IntegerType::Int32,
@@ -112,6 +128,12 @@ fn texts_come_by_their_keys(rt: HostRuntime) -> Result<()> {
 #[test]
 fn numbers_come_by_their_keys(rt: HostRuntime) -> Result<()> {
     assert!(rt; reads_numbers(rt.alloc())?);
+    Ok(())
+}
+
+#[test]
+fn byte_strings_of_one_size_come_by_their_keys(rt: HostRuntime) -> Result<()> {
+    assert!(rt; reads_chunks(rt.alloc())?);
     Ok(())
 }
 

@@ -7,7 +7,7 @@ use Rattle.columns_base.specs.declared.error.Error.{Error}
 use Rattle.columns_base.specs.declared.error.Error.TheVariants.{Memory, OutOfSpec, NotYetImplemented, Overflow}
 use Rattle.columns_base.specs.declared.error.S.TheVariants.{S3, S4, S5, S6, S7, S9, S10}
 use Rattle.columns_base.specs.declared.error.N.TheVariants.{N4, N8}
-use Rattle.columns_base.specs.declared.error.V.TheVariants.{V1}
+use Rattle.columns_base.specs.declared.error.V.TheVariants.{V1, V2}
 use Rattle.pq_headline.specs.FieldReasons.{IsOfRows}
 use Rattle.pq_pages.specs.Outcomes.{Outcome, IsGiven, IsOfLevels}
 use Rattle.read_column.specs.Foreseen.{GivesForeseen, SourceFails, foreseeing}
@@ -25,7 +25,7 @@ use Rattle.read_laws.specs.State.{Kept}
 use Rattle.read_pieces.specs.declared.piece.ColumnPiece.{ColumnPiece}
 use Rattle.read_pieces.specs.Pieces.{IsPiece}
 use Rattle.read_types.specs.Reads.{stored_of}
-use Rattle.dictionary_leaves.specs.Dictionaries.{GivesDictionary, HasDictionary, IsDictionaryPiece, IsOpenDictionary}
+use Rattle.dictionary_leaves.specs.Dictionaries.{HasDictionary, IsDictionaryPiece, IsOpenDictionary}
 use Rattle.dictionary_leaves.specs.KeyColumns.{GivesKeys, IsReadingKeys, MakesKeys, number_kind}
 use Rattle.dictionary_leaves.specs.KeySlots.{KeepKeys}
 use Rattle.dictionary_leaves.specs.Pieces.{MakesDictionary}
@@ -72,7 +72,8 @@ no-rows o e s (inr (inl (inr h, a))) = absurd (differ e (NotYetImplemented N4) h
 no-rows o e s (inr (inr (inl h))) = absurd (differ e (OutOfSpec S3) h.0 (of-rows e s) refl)
 no-rows o e s (inr (inr (inr (inl h)))) = absurd (differ e (NotYetImplemented N4) h.0 (of-rows e s) refl)
 no-rows o e s (inr (inr (inr (inr (inl h))))) = absurd (differ e (NotYetImplemented N8) h.0 (of-rows e s) refl)
-no-rows o e s (inr (inr (inr (inr (inr (inl h)))))) = absurd (differ e (Overflow V1) h.0 (of-rows e s) refl)
+no-rows o e s (inr (inr (inr (inr (inr (inl (inl h))))))) = absurd (differ e (Overflow V1) h.0 (of-rows e s) refl)
+no-rows o e s (inr (inr (inr (inr (inr (inl (inr h))))))) = absurd (differ e (Overflow V2) h.0 (of-rows e s) refl)
 no-rows o e s (inr (inr (inr (inr (inr (inr h)))))) = h.1
 
 -- ---- errors of sources
@@ -126,10 +127,12 @@ piece-is o t a vs ts v k p states dictionary e good is state keep made =
     let array = made.1 ∙ ap (λ (m : Mask). dictionary_array t (keys_of k.1) a m) keep.mask in
     let same : slots (boxed p.values) ≡ map (found vs) v.1 = ap slots array ∙ dictionary_slots t a vs v.1 keep.bits (keys_of k.1) e keep.are in
     record {
-      is = rw (made.0 ∙ state, same) (states o.column.way vs ts v.0 v.1 good is);
-      typed = ap type_of made.1;
       values = vs;
-      entries = ap entries_in made.1 ∙ ap (λ (xs : List (Option Value)). Some xs ∷ []) (ap (map entry_value) e ∙ entry-values vs);
+      piece = record {
+        is = rw (made.0 ∙ state, same) (states o.column.way vs ts v.0 v.1 good is);
+        typed = ap type_of made.1;
+        entries = ap entries_in made.1 ∙ ap (λ (xs : List (Option Value)). Some xs ∷ []) (ap (map entry_value) e ∙ entry-values vs);
+      };
       dictionary = dictionary;
     }
 
@@ -170,7 +173,7 @@ still-open o t key a pieces r r' x ts reads foreseen = record {
 }
 
 abbrev Next : ColumnOpening → TypeTree → IntegerType → ArrayTree → List (List Triple) → Option (Result ColumnPiece Error) → Reading → Type 0
-Next o t key a pieces result r' = GivesDictionary (λ ps r. IsOpenDictionary o t ps key r a) (λ p ts. IsDictionaryPiece o t ts p) o pieces result r'
+Next o t key a pieces result r' = GivesPiece (λ x ps r. IsOpenDictionary x t ps key r a) (λ p ts. IsDictionaryPiece o t ts p) o pieces result r'
 
 gives-piece : AreLaws → (o : ColumnOpening) (t : TypeTree) (key : IntegerType) (a : ArrayTree) (pieces : List (List Triple)) (r r' : Reading) (x : IsOpenDictionary o t pieces key r a) (v : List Kept × List Slot) (k : List Kept × DictionaryKeys) (p : ColumnPiece) (ts : List Triple) → (k.0 ≡ v.0) × (key_kind k.1 ≡ key) × KeepKeys (tree_len a) v.1 (key_mask k.1) (keys_of k.1) → (p.nested ≡ k.0) × (boxed p.values ≡ dictionary_array t (keys_of k.1) a (key_mask k.1)) → IsNextPiece (KeysOf key o x.text x.behind x.values) (rows_of_all x.key_pieces) ts → IsPiece o.column.way ts v.0 v.1 → IsReadingKeys key (KeysOf key o x.text x.behind x.values) (x.key_pieces ++ ts ∷ []) r' → Foresees o key (KeysOf key o x.text x.behind x.values) (x.key_pieces ++ ts ∷ []) r' → Next o t key a pieces (Some (Ok p)) r'
 gives-piece laws o t key a pieces r r' x v k p ts keys made next is reads foreseen =
@@ -201,10 +204,10 @@ entered_gives laws o t key a pieces r r' keys result x g made = by g.item keys r
     by None None None m n gives foreseen = subst (λ (ps : List (List Triple)). IsWhole o ps) (sym x.given) (laws.whole key o x.body x.text x.behind x.values x.stored x.key_pieces x.has gives)
     by (Some (Ok v)) (Some (Ok k)) (Some (Ok p)) m n gives foreseen =
         gives-piece laws o t key a pieces r r' x v k p gives.0 m n gives.1 gives.2 gives.3 (λ others given levels. again o key a x.text x.behind x.values x.key_pieces r r' others v gives.0 gives.2 (foreseen others given levels))
-    by (Some (Ok v)) (Some (Ok k)) (Some (Err e)) m n gives foreseen = inl (inl (cannot-refuse o t key a pieces r x v k e m n))
-    by (Some (Ok v)) (Some (Err f)) (Some (Err e)) m n gives foreseen = inl (inl (n ∙ m))
+    by (Some (Ok v)) (Some (Ok k)) (Some (Err e)) m n gives foreseen = inl (cannot-refuse o t key a pieces r x v k e m n)
+    by (Some (Ok v)) (Some (Err f)) (Some (Err e)) m n gives foreseen = inl (n ∙ m)
     by (Some (Err f)) (Some (Err h)) (Some (Err e)) m n gives foreseen =
-        inl (subst (λ (y : Error). RefusesPiece o y) (sym (n ∙ m)) (refused (stored_of (number_kind key)) 1 key o x.body x.text x.behind x.values x.stored x.key_pieces r f laws.could laws.refusals x.has x.reads gives foreseen))
+        subst (λ (y : Error). RefusesPiece o y) (sym (n ∙ m)) (refused (stored_of (number_kind key)) 1 key o x.body x.text x.behind x.values x.stored x.key_pieces r f laws.could laws.refusals x.has x.reads gives foreseen)
     by None (Some (Ok k)) result m n gives foreseen = absurd m
     by None (Some (Err e)) result m n gives foreseen = absurd m
     by None None (Some (Ok p)) m n gives foreseen = absurd n

@@ -20,7 +20,7 @@ use Rattle.dictionary_columns.specs.Sources.{has_indices, keyed_outcomes}
 use Rattle.pq_files.specs.Chunk.{IsData, RawPage}
 use Rattle.pq_files.specs.PageReasons.{IsOutside}
 use Rattle.pq_files.specs.Stored.{IsStored}
-use Rattle.pq_headline.specs.FieldReasons.{EntriesPass, PassesTexts, text_size}
+use Rattle.pq_headline.specs.FieldReasons.{EntriesPass, HasLongEntries, PassesTexts, text_size}
 use Rattle.pq_pages.specs.Outcomes.{Advances, Levels, Outcome, Takes, gives_dictionary, gives_page}
 use Rattle.pq_tree.specs.Physical.{Physical, byte_array}
 use Rattle.pq_tree.specs.Views.{typed_view}
@@ -29,7 +29,7 @@ use Rattle.pq_tree.specs.declared.types.DataPageHeader.TheVariants as D
 use Rattle.pq_tree.specs.declared.types.TypedPageHeader.TheVariants as T
 use Rattle.read_column.specs.Foreseen.{foreseeing, foreseen}
 use Rattle.read_column.specs.Reading.{IsReading, Reading}
-use Rattle.read_pieces.specs.Columns.{ColumnOpening, IsReadable, IsWhole, RefusesPiece}
+use Rattle.read_pieces.specs.Columns.{ColumnOpening, IsColumnOpening, IsReadable, IsWhole, RefusesPiece}
 use Rattle.read_pieces.specs.Leaves.{ReadsLeaf}
 use Rattle.read_state.specs.Initial.{IsWay}
 use Rattle.read_state.specs.declared.init.InitNested.{InitNested}
@@ -41,7 +41,7 @@ use Rattle.shredding.specs.Along.{thin}
 use Rattle.shredding.specs.Shape.{LeafType, binary as binary_type, text as text_type}
 use Rattle.shredding.specs.Slot.{Value, bytes, number, truth}
 use Rattle.dictionary_leaves.proofs.Opening.{OwnEntries, entry-leaf, has-dictionary, has-keys, index-page, keys-readable, not-all-held, nothing-refused, nothing-whole, of-dictionary, other-page, others-readable, own-entries, past-keys, reads-entries, source-failed}
-use Rattle.dictionary_leaves.specs.Dictionaries.{AreRead, CannotRead, HasLongEntries, IsDictionaryOpening, IsOpenDictionary, IsUnreadDictionary, RefusesDictionary}
+use Rattle.dictionary_leaves.specs.Dictionaries.{AreRead, CannotRead, IsOpenDictionary, IsUnreadDictionary}
 use Rattle.dictionary_leaves.specs.Entries.{AreLong}
 use Rattle.dictionary_leaves.specs.EntryTypes.{EntryReading}
 use Rattle.dictionary_leaves.specs.KeyColumns.{number_kind}
@@ -107,7 +107,7 @@ all-stored t p (v ∷ vs) (e ∷ es) a = All-cons (λ v. (s : Value) × IsStored
 moved : (s t : LeafType) (p q : Physical) (vs es : List Value) → s ≡ t → p ≡ q → AllZip (IsStored s p) vs es → AllZip (IsStored t q) vs es
 moved s t p q vs es e f a = subst (λ (x : Physical). AllZip (IsStored t x) vs es) f (subst (λ (x : LeafType). AllZip (IsStored x p) vs es) e a)
 
-long-entries : (o : ColumnOpening) (t entry : TypeTree) (k : LeafKind) (n : ℕ) (body : List ℕ) (behind : List Outcome) → IsDictionaryOpening o t (physical_of k) → entry_type (base t) ≡ Some entry → types_of k (base entry) ≡ true → o.outcomes ≡ gives_dictionary n body ∷ behind → AreLong (stored_of k) (limit_of k) n body → HasLongEntries o
+long-entries : (o : ColumnOpening) (t entry : TypeTree) (k : LeafKind) (n : ℕ) (body : List ℕ) (behind : List Outcome) → IsColumnOpening o t (physical_of k) → entry_type (base t) ≡ Some entry → types_of k (base entry) ≡ true → o.outcomes ≡ gives_dictionary n body ∷ behind → AreLong (stored_of k) (limit_of k) n body → HasLongEntries o.column o.leaf o.outcomes
 long-entries o t entry k n body behind opening typed made is long =
     let own : OwnEntries o n body long.values = own-entries o (stored_of k) n body long.values (reads-entries o t entry k opening typed made) long.begin in
     let same : leaf_type o.column.data_type ≡ leaf_type (base entry) = ap leaf_type opening.typed ∙ sym (entry-leaf (base t) entry typed) in
@@ -119,7 +119,7 @@ long-entries o t entry k n body behind opening typed made is long =
       n = n;
       body = body;
       behind = behind;
-      outcomes = is;
+      outcomes_are = is;
       entries = own.stored;
       are = own.are;
       inside = all-inside (leaf_type o.column.data_type) o.leaf.physical long.values own.stored own.zip;
@@ -128,14 +128,14 @@ long-entries o t entry k n body behind opening typed made is long =
 
 -- ---- the dictionary page
 
-opening-of : (o : ColumnOpening) (t : TypeTree) (e : EntryReading) (given : List Outcome) (parts : List InitNested) (size : Option ℕ) (num : ℕ) → IsUnreadDictionary o t e given parts size num → IsDictionaryOpening o t (physical_of e.kind)
-opening-of o t e given parts size num u = subst (λ (p : Physical). IsDictionaryOpening o t p) (sym u.are.physical) u.opening
+opening-of : (o : ColumnOpening) (t : TypeTree) (e : EntryReading) (given : List Outcome) (parts : List InitNested) (size : Option ℕ) (num : ℕ) → IsUnreadDictionary o t e given parts size num → IsColumnOpening o t (physical_of e.kind)
+opening-of o t e given parts size num u = subst (λ (p : Physical). IsColumnOpening o t p) (sym u.are.physical) u.opening
 
-pub cannot-read : (o : ColumnOpening) (t : TypeTree) (e : EntryReading) (given after : List Outcome) (parts : List InitNested) (size : Option ℕ) (num n : ℕ) (body : List ℕ) (error : Error) → IsUnreadDictionary o t e given parts size num → given ≡ gives_dictionary n body ∷ after → CannotRead e n body error → RefusesDictionary o error
-cannot-read o t e given after parts size num n body error u is (inl m) = inl (inl m)
-cannot-read o t e given after parts size num n body error u is (inr (inl (inl why))) = inl (not-all-held o (stored_of e.kind) n body after error (reads-entries o t e.data_type e.kind (opening-of o t e given parts size num u) u.are.typed u.are.made) (u.outcomes ∙ is) why)
-cannot-read o t e given after parts size num n body error u is (inr (inl (inr why))) = inr (inr (why.0, long-entries o t e.data_type e.kind n body after (opening-of o t e given parts size num u) u.are.typed u.are.made (u.outcomes ∙ is) why.1))
-cannot-read o t e given after parts size num n body error u is (inr (inr why)) = subst (λ (x : Error). RefusesDictionary o x) (sym why.0) (past-keys o e.key n body after (ap key_type u.opening.typed ∙ u.are.keyed) (u.outcomes ∙ is) why.1)
+pub cannot-read : (o : ColumnOpening) (t : TypeTree) (e : EntryReading) (given after : List Outcome) (parts : List InitNested) (size : Option ℕ) (num n : ℕ) (body : List ℕ) (error : Error) → IsUnreadDictionary o t e given parts size num → given ≡ gives_dictionary n body ∷ after → CannotRead e n body error → RefusesPiece o error
+cannot-read o t e given after parts size num n body error u is (inl m) = inl m
+cannot-read o t e given after parts size num n body error u is (inr (inl (inl why))) = not-all-held o (stored_of e.kind) n body after error (reads-entries o t e.data_type e.kind (opening-of o t e given parts size num u) u.are.typed u.are.made) (u.outcomes ∙ is) why
+cannot-read o t e given after parts size num n body error u is (inr (inl (inr why))) = inr (inr (inr (inr (inr (inl (inl (why.0, inr (long-entries o t e.data_type e.kind n body after (opening-of o t e given parts size num u) u.are.typed u.are.made (u.outcomes ∙ is) why.1))))))))
+cannot-read o t e given after parts size num n body error u is (inr (inr why)) = subst (λ (x : Error). RefusesPiece o x) (sym why.0) (past-keys o e.key n body after (ap key_type u.opening.typed ∙ u.are.keyed) (u.outcomes ∙ is) why.1)
 
 -- how a column of keys over this page and those behind it is read
 abbrev pub ReadsKeys : IntegerType → Outcome → List Outcome → List InitNested → Option ℕ → ℕ → Reading → Type 0
@@ -151,7 +151,7 @@ ForeseesKeys key page after parts size num r =
 
 pub opened : (o : ColumnOpening) (t : TypeTree) (e : EntryReading) (given after : List Outcome) (parts : List InitNested) (size : Option ℕ) (num n : ℕ) (body : List ℕ) (a : ArrayTree) (page : Outcome) (r : Reading) → IsUnreadDictionary o t e given parts size num → given ≡ gives_dictionary n body ∷ after → AreRead e n body a page → ReadsKeys e.key page after parts size num r → ForeseesKeys e.key page after parts size num r → IsOpenDictionary o t [] e.key r a
 opened o t e given after parts size num n body a page r u is got reads foresees =
-    let opening : IsDictionaryOpening o t (physical_of e.kind) = opening-of o t e given parts size num u in
+    let opening : IsColumnOpening o t (physical_of e.kind) = opening-of o t e given parts size num u in
     let all = u.outcomes ∙ is in
     let vs = (got.entries).values in
     let leaf = (got.entries).is in
@@ -178,20 +178,20 @@ opened o t e given after parts size num n body a page r u is got reads foresees 
 
 -- ---- the other first outcomes
 
-pub source-refused : (o : ColumnOpening) (t : TypeTree) (e : EntryReading) (given after : List Outcome) (parts : List InitNested) (size : Option ℕ) (num : ℕ) (lent : Option Outcome) (error : Error) → IsUnreadDictionary o t e given parts size num → Advances (Err error) given after lent → RefusesDictionary o error
-source-refused o t e given after parts size num lent error u (h, inl m) = inl (inl m.0)
-source-refused o t e given after parts size num lent error u (h, inr is) = inl (source-failed o error after u.opening.failing (u.outcomes ∙ is))
+pub source-refused : (o : ColumnOpening) (t : TypeTree) (e : EntryReading) (given after : List Outcome) (parts : List InitNested) (size : Option ℕ) (num : ℕ) (lent : Option Outcome) (error : Error) → IsUnreadDictionary o t e given parts size num → Advances (Err error) given after lent → RefusesPiece o error
+source-refused o t e given after parts size num lent error u (h, inl m) = inl m.0
+source-refused o t e given after parts size num lent error u (h, inr is) = source-failed o error after u.opening.failing (u.outcomes ∙ is)
 
 pub ended : (o : ColumnOpening) (t : TypeTree) (e : EntryReading) (given after : List Outcome) (parts : List InitNested) (size : Option ℕ) (num : ℕ) → IsUnreadDictionary o t e given parts size num → Takes given after None → num ≡ 0 → IsWhole o []
 ended o t e given after parts size num u takes none = nothing-whole o (u.outcomes ∙ none-taken given after takes) (u.rows ∙ none)
 
-pub ended-early : (o : ColumnOpening) (t : TypeTree) (e : EntryReading) (given after : List Outcome) (parts : List InitNested) (size : Option ℕ) (num : ℕ) → IsUnreadDictionary o t e given parts size num → Takes given after None → 0 < num → RefusesDictionary o (OutOfSpec S9)
-ended-early o t e given after parts size num u takes some = inl (nothing-refused o (u.outcomes ∙ none-taken given after takes) (omega (arith, some, u.rows)))
+pub ended-early : (o : ColumnOpening) (t : TypeTree) (e : EntryReading) (given after : List Outcome) (parts : List InitNested) (size : Option ℕ) (num : ℕ) → IsUnreadDictionary o t e given parts size num → Takes given after None → 0 < num → RefusesPiece o (OutOfSpec S9)
+ended-early o t e given after parts size num u takes some = nothing-refused o (u.outcomes ∙ none-taken given after takes) (omega (arith, some, u.rows))
 
 pub data-shown : (h : DataPageHeader) → IsData (typed_view (T.Data h))
 data-shown (D.V1 h) = tt
 data-shown (D.V2 h) = tt
 
-pub page-refused : (o : ColumnOpening) (t : TypeTree) (e : EntryReading) (given after : List Outcome) (parts : List InitNested) (size : Option ℕ) (num : ℕ) (p : RawPage) (levels : Levels) (error : Error) → IsUnreadDictionary o t e given parts size num → Takes given after (Some (gives_page p levels)) → IsData p.header → ((error ≡ OutOfSpec S3) × (has_indices p.header ≡ true)) ⊎ ((error ≡ NotYetImplemented N4) × (has_indices p.header ≡ false)) → RefusesDictionary o error
-page-refused o t e given after parts size num p levels error u takes is_data (inl h) = inl (subst (λ (x : Error). RefusesPiece o x) (sym h.0) (index-page o p levels after (u.outcomes ∙ first-taken given after (gives_page p levels) takes) is_data h.1))
-page-refused o t e given after parts size num p levels error u takes is_data (inr h) = inl (subst (λ (x : Error). RefusesPiece o x) (sym h.0) (other-page o p levels after (of-dictionary o.column.data_type e.key (ap key_type u.opening.typed ∙ u.are.keyed)) (u.outcomes ∙ first-taken given after (gives_page p levels) takes) h.1))
+pub page-refused : (o : ColumnOpening) (t : TypeTree) (e : EntryReading) (given after : List Outcome) (parts : List InitNested) (size : Option ℕ) (num : ℕ) (p : RawPage) (levels : Levels) (error : Error) → IsUnreadDictionary o t e given parts size num → Takes given after (Some (gives_page p levels)) → IsData p.header → ((error ≡ OutOfSpec S3) × (has_indices p.header ≡ true)) ⊎ ((error ≡ NotYetImplemented N4) × (has_indices p.header ≡ false)) → RefusesPiece o error
+page-refused o t e given after parts size num p levels error u takes is_data (inl h) = subst (λ (x : Error). RefusesPiece o x) (sym h.0) (index-page o p levels after (u.outcomes ∙ first-taken given after (gives_page p levels) takes) is_data h.1)
+page-refused o t e given after parts size num p levels error u takes is_data (inr h) = subst (λ (x : Error). RefusesPiece o x) (sym h.0) (other-page o p levels after (of-dictionary o.column.data_type e.key (ap key_type u.opening.typed ∙ u.are.keyed)) (u.outcomes ∙ first-taken given after (gives_page p levels) takes) h.1)

@@ -36,7 +36,7 @@ use Rattle.pq_tree.specs.Physical.{Physical, boolean}
 use Rattle.pq_tree.specs.Tree.{Leaf}
 use Rattle.read_column.specs.Dictionary.{CannotHold}
 use Rattle.read_column.specs.Foreseen.{foreseen}
-use Rattle.read_pieces.specs.Columns.{AreColumnRows, ColumnOpening, FailsAs, IsReadable, IsWhole, RefusesPiece}
+use Rattle.read_pieces.specs.Columns.{AreColumnRows, ColumnOpening, FailsAs, IsColumnOpening, IsReadable, IsWhole, RefusesPiece}
 use Rattle.read_pieces.specs.Leaves.{IsLoaded, ReadsLeaf, ReadsPlain}
 use Rattle.read_types.proofs.KindsRead.{leaves-read}
 use Rattle.read_types.specs.Reads.{limit_of, physical_of, stored_of, types_of}
@@ -45,7 +45,7 @@ use Rattle.read_types.specs.declared.kind.LeafKind.TheVariants as L
 use Rattle.read_walk.specs.Values.{Stored}
 use Rattle.shredding.specs.Shape.{LeafType}
 use Rattle.shredding.specs.Slot.{Slot, Value}
-use Rattle.dictionary_leaves.specs.Dictionaries.{HasDictionary, IsDictionaryOpening, RefusesDictionary, may_be_entry}
+use Rattle.dictionary_leaves.specs.Dictionaries.{HasDictionary, may_be_entry}
 use Rattle.dictionary_leaves.specs.Entries.{BeginWith}
 use Rattle.dictionary_leaves.specs.KeyColumns.{number_kind}
 
@@ -134,10 +134,10 @@ not-truths k t a b e = absurd (cc e)
 
 -- ---- more entries than keys
 
-pub past-keys : (o : ColumnOpening) (key : IntegerType) (n : ℕ) (body : List ℕ) (behind : List Outcome) → key_type o.column.data_type ≡ Some key → o.outcomes ≡ gives_dictionary n body ∷ behind → key_room key < n → RefusesDictionary o (Overflow V2)
+pub past-keys : (o : ColumnOpening) (key : IntegerType) (n : ℕ) (body : List ℕ) (behind : List Outcome) → key_type o.column.data_type ≡ Some key → o.outcomes ≡ gives_dictionary n body ∷ behind → key_room key < n → RefusesPiece o (Overflow V2)
 past-keys o key n body behind keyed is h =
     let own : SomeV2 (o.column ∷ []) ((gives_dictionary n body ∷ behind) ∷ []) = inl (passes o.column.data_type key n keyed h) in
-    inr (inl (refl, subst (λ (xs : List Outcome). SomeV2 (o.column ∷ []) (xs ∷ [])) (sym is) own))
+    inr (inr (inr (inr (inr (inl (inr (refl, subst (λ (xs : List Outcome). SomeV2 (o.column ∷ []) (xs ∷ [])) (sym is) own)))))))
 
 -- ---- entries that are cut or outside
 
@@ -173,7 +173,7 @@ not-all-held o stored n body behind e plain is why = of-rows o e (which why) (λ
 -- ---- entries that are there
 
 -- as the column's own values
-pub reads-entries : (o : ColumnOpening) (t entry : TypeTree) (k : LeafKind) → IsDictionaryOpening o t (physical_of k) → entry_type (base t) ≡ Some entry → types_of k (base entry) ≡ true → ReadsPlain (leaf_type o.column.data_type) o.leaf.physical (stored_of k)
+pub reads-entries : (o : ColumnOpening) (t entry : TypeTree) (k : LeafKind) → IsColumnOpening o t (physical_of k) → entry_type (base t) ≡ Some entry → types_of k (base entry) ≡ true → ReadsPlain (leaf_type o.column.data_type) o.leaf.physical (stored_of k)
 reads-entries o t entry k opening typed made =
     let own : ReadsLeaf (record { way = o.column.way; limits = o.column.limits; data_type = base entry }) (physical_of k) (stored_of k) (limit_of k) = leaves-read k (record { way = o.column.way; limits = o.column.limits; data_type = base entry }) made in
     let same : leaf_type o.column.data_type ≡ leaf_type (base entry) = ap leaf_type opening.typed ∙ sym (entry-leaf (base t) entry typed) in
@@ -228,7 +228,7 @@ has-dictionary o n body behind vs is own = record {
   entries = entries-of o.column.data_type o.leaf.physical vs own.stored own.zip;
 }
 
-pub has-keys : (o : ColumnOpening) (t entry : TypeTree) (key : IntegerType) (k : LeafKind) (n : ℕ) (body text : List ℕ) (behind : List Outcome) (vs : List Value) → IsDictionaryOpening o t (physical_of k) → key_type (base t) ≡ Some key → types_of k (base entry) ≡ true → may_be_entry (base entry) ≡ true → o.outcomes ≡ gives_dictionary n body ∷ behind → length vs ≡ n → (own : OwnEntries o n body vs) → n ≤ key_room key → InARow (key_physical key) text (stored_keys key 0 n) → HasKeys key o body text behind vs own.stored
+pub has-keys : (o : ColumnOpening) (t entry : TypeTree) (key : IntegerType) (k : LeafKind) (n : ℕ) (body text : List ℕ) (behind : List Outcome) (vs : List Value) → IsColumnOpening o t (physical_of k) → key_type (base t) ≡ Some key → types_of k (base entry) ≡ true → may_be_entry (base entry) ≡ true → o.outcomes ≡ gives_dictionary n body ∷ behind → length vs ≡ n → (own : OwnEntries o n body vs) → n ≤ key_room key → InARow (key_physical key) text (stored_keys key 0 n) → HasKeys key o body text behind vs own.stored
 has-keys o t entry key k n body text behind vs opening keyed made may_be is count own few keys = record {
   typed = of-dictionary o.column.data_type key (ap key_type opening.typed ∙ keyed);
   some = λ e. not-truths k (base entry) made may_be (sym opening.physical ∙ e);
@@ -316,7 +316,7 @@ key-reads K.UInt64 c = leaves-read L.UInt64 (key_column K.UInt64 c) refl
 abbrev KeysOver : IntegerType → ColumnOpening → List Outcome → ColumnOpening
 KeysOver key o xs = record { column = key_column key o.column; leaf = key_leaf key o.leaf; outcomes = xs; rows = o.rows; chunk_size = o.chunk_size }
 
-readable : (o : ColumnOpening) (t : TypeTree) (p : Physical) (key : IntegerType) (xs : List Outcome) → IsDictionaryOpening o t p → All (IsOfLevels (leaf_levels o.leaf)) xs → All FailsAs xs → IsReadable (KeysOver key o xs) (stored_of (number_kind key)) 1
+readable : (o : ColumnOpening) (t : TypeTree) (p : Physical) (key : IntegerType) (xs : List Outcome) → IsColumnOpening o t p → All (IsOfLevels (leaf_levels o.leaf)) xs → All FailsAs xs → IsReadable (KeysOver key o xs) (stored_of (number_kind key)) 1
 readable o t p key xs opening levels failing = record {
   repetition = opening.repetition;
   definition = opening.definition;
@@ -334,7 +334,7 @@ record AreKeyed (o : ColumnOpening) (text : List ℕ) (m : ℕ) (behind : List O
   levels : All (IsOfLevels (leaf_levels o.leaf)) (keyed_outcomes (gives_dictionary m text) behind)
   failing : All FailsAs (keyed_outcomes (gives_dictionary m text) behind)
 
-are-keyed : (o : ColumnOpening) (t : TypeTree) (p : Physical) (n m : ℕ) (body text : List ℕ) (behind : List Outcome) → IsDictionaryOpening o t p → o.outcomes ≡ gives_dictionary n body ∷ behind → AreKeyed o text m behind
+are-keyed : (o : ColumnOpening) (t : TypeTree) (p : Physical) (n m : ℕ) (body text : List ℕ) (behind : List Outcome) → IsColumnOpening o t p → o.outcomes ≡ gives_dictionary n body ∷ behind → AreKeyed o text m behind
 are-keyed o t p n m body text behind opening is =
     let levels : All (IsOfLevels (leaf_levels o.leaf)) behind = All-tail (IsOfLevels (leaf_levels o.leaf)) (gives_dictionary n body) behind (subst (λ (xs : List Outcome). All (IsOfLevels (leaf_levels o.leaf)) xs) is opening.levels) in
     let failing : All FailsAs behind = All-tail FailsAs (gives_dictionary n body) behind (subst (λ (xs : List Outcome). All FailsAs xs) is opening.failing) in
@@ -343,12 +343,12 @@ are-keyed o t p n m body text behind opening is =
       failing = All-cons FailsAs (gives_dictionary m text) (map keyed_outcome behind) tt (keyed-failing behind failing);
     }
 
-pub keys-readable : (o : ColumnOpening) (t : TypeTree) (p : Physical) (key : IntegerType) (n : ℕ) (body text : List ℕ) (behind : List Outcome) (vs : List Value) → IsDictionaryOpening o t p → o.outcomes ≡ gives_dictionary n body ∷ behind → IsReadable (keys_of_column key text behind vs o) (stored_of (number_kind key)) 1
+pub keys-readable : (o : ColumnOpening) (t : TypeTree) (p : Physical) (key : IntegerType) (n : ℕ) (body text : List ℕ) (behind : List Outcome) (vs : List Value) → IsColumnOpening o t p → o.outcomes ≡ gives_dictionary n body ∷ behind → IsReadable (keys_of_column key text behind vs o) (stored_of (number_kind key)) 1
 keys-readable o t p key n body text behind vs opening is =
     let a = are-keyed o t p n (length vs) body text behind opening is in
     readable o t p key (keyed_outcomes (gives_dictionary (length vs) text) behind) opening a.levels a.failing
 
-pub others-readable : (o : ColumnOpening) (t : TypeTree) (p : Physical) (key : IntegerType) (n : ℕ) (body text : List ℕ) (behind : List Outcome) (vs : List Value) (others : List Outcome) → IsDictionaryOpening o t p → o.outcomes ≡ gives_dictionary n body ∷ behind → All IsGiven others → All (IsOfLevels (leaf_levels o.leaf)) others → IsReadable (before_others (keys_of_column key text behind vs o) others) (stored_of (number_kind key)) 1
+pub others-readable : (o : ColumnOpening) (t : TypeTree) (p : Physical) (key : IntegerType) (n : ℕ) (body text : List ℕ) (behind : List Outcome) (vs : List Value) (others : List Outcome) → IsColumnOpening o t p → o.outcomes ≡ gives_dictionary n body ∷ behind → All IsGiven others → All (IsOfLevels (leaf_levels o.leaf)) others → IsReadable (before_others (keys_of_column key text behind vs o) others) (stored_of (number_kind key)) 1
 others-readable o t p key n body text behind vs others opening is given levels =
     let a = are-keyed o t p n (length vs) body text behind opening is in
     readable o t p key (foreseen (keyed_outcomes (gives_dictionary (length vs) text) behind) others) opening (foreseen-all (IsOfLevels (leaf_levels o.leaf)) (keyed_outcomes (gives_dictionary (length vs) text) behind) others a.levels levels) (foreseen-all FailsAs (keyed_outcomes (gives_dictionary (length vs) text) behind) others a.failing (given-failing others given))

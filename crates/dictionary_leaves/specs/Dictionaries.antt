@@ -1,29 +1,24 @@
 -- The column of a dictionary type between two calls (Arrow columnar format, "Dictionary-encoded Layout"; Parquet format, "Dictionary Page").
-use Rattle.std.specs.Prelude.{◌≡◌, ◌≢◌, ◌⊎◌, ℕ, ◌<◌, ◌≤◌, Bool, true, false, ◌&&◌, ◌||◌, List, [], ◌∷◌, ◌++◌, map, length, All, Option, Some, None, Result, Ok, Err}
-use Rattle.columns_array.specs.Boxed.{boxed}
+use Rattle.std.specs.Prelude.{◌≡◌, ◌⊎◌, ℕ, ◌<◌, ◌≤◌, Bool, true, false, ◌&&◌, ◌||◌, List, ◌∷◌, map, All, Option, Some}
 use Rattle.columns_base.specs.declared.error.Error.{Error}
 use Rattle.columns_base.specs.declared.error.Error.TheVariants.{Memory, Overflow}
-use Rattle.columns_base.specs.declared.error.V.TheVariants.{V1, V2}
-use Rattle.columns_core.specs.Shapes.{base, leaf_type}
+use Rattle.columns_base.specs.declared.error.V.TheVariants.{V2}
+use Rattle.columns_core.specs.Shapes.{base}
 use Rattle.columns_core.specs.Tree.{TypeTree, t_null, t_boolean, t_uint64, t_timestamp, t_interval, t_dictionary, t_decimal}
 use Rattle.columns_core.specs.declared.types.IntegerType.{IntegerType}
 use Rattle.columns_slots.specs.Slots.{slots, type_of}
 use Rattle.columns_slots.specs.Tree.{ArrayTree}
-use Rattle.pq_headline.specs.Arrays.{entries_in}
-use Rattle.pq_headline.specs.Columns.{large_limit}
-use Rattle.pq_headline.specs.FieldReasons.{EntriesPass, SomeV2, key_room}
-use Rattle.pq_files.specs.PageReasons.{IsOutside}
+use Rattle.pq_headline.specs.FieldReasons.{key_room}
 use Rattle.pq_files.specs.Plain.{InARow}
 use Rattle.pq_headline.specs.Openings.{leaf_levels}
 use Rattle.pq_headline.specs.Rows.{HasEntriesOf}
 use Rattle.pq_pages.specs.Held.{AreEntriesIn}
 use Rattle.pq_pages.specs.Outcomes.{Outcome, gives_dictionary, IsGiven, IsOfLevels}
 use Rattle.pq_tree.specs.Physical.{Physical}
-use Rattle.pq_tree.specs.Tree.{max_definition, max_repetition}
 use Rattle.read_column.specs.Queues.{is_leaf_alone}
 use Rattle.read_column.specs.Reading.{Reading, IsReading}
-use Rattle.read_pieces.specs.Columns.{ColumnOpening, FailsAs, IsNextPiece, IsWhole, RefusesPiece, rows_of_all}
-use Rattle.read_pieces.specs.Pieces.{IsPiece}
+use Rattle.read_pieces.specs.Columns.{ColumnOpening, FailsAs, IsColumnOpening}
+use Rattle.read_pieces.specs.Pieces.{IsPieceOf}
 use Rattle.read_pieces.specs.declared.piece.ColumnPiece.{ColumnPiece}
 use Rattle.read_state.specs.Initial.{IsWay}
 use Rattle.read_state.specs.declared.init.InitNested.{InitNested}
@@ -35,7 +30,7 @@ use Rattle.dictionary_leaves.specs.EntryTypes.{EntryReading}
 use Rattle.read_column.specs.Foreseen.{foreseeing}
 use Rattle.columns_slots.specs.Types.{entry_type, key_type}
 use Rattle.shredding.specs.Along.{thin}
-use Rattle.shredding.specs.Shred.{Triple, max_definition as way_definition, max_repetition as way_repetition}
+use Rattle.shredding.specs.Shred.{Triple}
 use Rattle.shredding.specs.Slot.{Value, value}
 use Rattle.dictionary_columns.specs.Laws.{HasKeys, before_others, entered_all, keys_of_column}
 use Rattle.dictionary_leaves.specs.KeyColumns.{number_kind}
@@ -64,21 +59,6 @@ abbrev pub is_dictionary_read : List InitNested → TypeTree → Physical → Bo
 is_dictionary_read parts (t_dictionary key t is_sorted) p = is_entry_read parts (base t) p
 is_dictionary_read parts t p = false
 
--- ---- a column, opened
-
--- The column has this dictionary type, its leaf this physical type and the levels of the column's way, the source gives pages of these levels or
--- fails as sources do, each list has offsets of at most 64 bits, and pieces have rows.
-pub record IsDictionaryOpening (o : ColumnOpening) (t : TypeTree) (p : Physical) : Type 0 where
-  pub typed : o.column.data_type ≡ base t
-  pub physical : o.leaf.physical ≡ p
-  pub repetition : max_repetition o.leaf ≡ way_repetition o.column.way
-  pub definition : max_definition o.leaf ≡ way_definition o.column.way
-  pub levels : All (IsOfLevels (leaf_levels o.leaf)) o.outcomes
-  pub failing : All FailsAs o.outcomes
-  pub lists : length o.column.limits ≡ way_repetition o.column.way
-  pub limited : All (λ n. n ≤ large_limit) o.column.limits
-  pub some : o.chunk_size ≢ Some 0
-
 -- ---- its pieces
 
 -- The dictionary page has these entries, so many in this body, and these outcomes behind it; as values of the entries' type they are those.
@@ -93,35 +73,9 @@ pub record HasDictionary (o : ColumnOpening) (vs : List Value) : Type 0 where
 
 -- A piece of the column, and its dictionary array, which has this type and all entries of the dictionary page in order.
 pub record IsDictionaryPiece (o : ColumnOpening) (t : TypeTree) (ts : List Triple) (p : ColumnPiece) : Type 0 where
-  pub is : IsPiece o.column.way ts p.nested (slots (boxed p.values))
-  pub typed : type_of (boxed p.values) ≡ t
   pub values : List Value
-  pub entries : entries_in (boxed p.values) ≡ Some (map Some values) ∷ []
+  pub piece : IsPieceOf o.column t ts (Some (map Some values)) p
   pub dictionary : HasDictionary o values
-
--- ---- why no piece comes
-
--- the entries of the dictionary page, each of which is a value of the leaf type, pass the offsets of their array
-pub record HasLongEntries (o : ColumnOpening) : Type 0 where
-  pub n : ℕ
-  pub body : List ℕ
-  pub behind : List Outcome
-  pub outcomes : o.outcomes ≡ gives_dictionary n body ∷ behind
-  pub entries : List Value
-  pub are : AreEntriesIn o.leaf n body entries
-  pub inside : All (λ v. ¬ IsOutside (leaf_type o.column.data_type) o.leaf.physical v) entries
-  pub long : EntriesPass o.column.data_type (Some entries)
-
--- As of any column; and where the dictionary page has more entries than the key type has numbers from 0, or where they are too long, whatever pages
--- are behind them.
-abbrev pub RefusesDictionary : ColumnOpening → Error → Type 0
-RefusesDictionary o e = RefusesPiece o e ⊎ ((e ≡ Overflow V2) × SomeV2 (o.column ∷ []) (o.outcomes ∷ [])) ⊎ ((e ≡ Overflow V1) × HasLongEntries o)
-
--- what a call for the next piece gives where these were given
-abbrev pub GivesDictionary : {R V : Type 0} → (List (List Triple) → R → Type 0) → (V → List Triple → Type 0) → ColumnOpening → List (List Triple) → Option (Result V Error) → R → Type 0
-GivesDictionary Reading Holds o pieces None now = IsWhole o pieces
-GivesDictionary Reading Holds o pieces (Some (Ok v)) now = (ts : List Triple) × IsNextPiece o (rows_of_all pieces) ts × Holds v ts × Reading (pieces ++ ts ∷ []) now
-GivesDictionary Reading Holds o pieces (Some (Err e)) now = RefusesDictionary o e
 
 -- ---- between two calls, once the entries were read
 
@@ -158,7 +112,7 @@ pub record AreParts (t : TypeTree) (p : Physical) (e : EntryReading) : Type 0 wh
 -- rows are read.
 pub record IsUnreadDictionary (o : ColumnOpening) (t : TypeTree) (e : EntryReading) (given : List Outcome) (parts : List InitNested) (size : Option ℕ) (n : ℕ) : Type 0 where
   pub physical : Physical
-  pub opening : IsDictionaryOpening o t physical
+  pub opening : IsColumnOpening o t physical
   pub are : AreParts t physical e
   pub outcomes : o.outcomes ≡ given
   pub way : IsWay parts (thin o.column.way)

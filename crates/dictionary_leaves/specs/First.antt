@@ -9,8 +9,8 @@ use Rattle.columns_core.specs.Tree.{TypeTree}
 use Rattle.dictionary_columns.specs.Sources.{has_indices}
 use Rattle.pq_files.specs.Chunk.{IsData}
 use Rattle.pq_pages.specs.Outcomes.{Outcome, fails, gives_dictionary, gives_page, page_shown}
-use Rattle.read_pieces.specs.Columns.{ColumnOpening, IsWhole}
-use Rattle.dictionary_leaves.specs.Dictionaries.{AreRead, CannotRead, IsOpenDictionary, RefusesDictionary}
+use Rattle.read_pieces.specs.Columns.{ColumnOpening, IsWhole, RefusesPiece}
+use Rattle.dictionary_leaves.specs.Dictionaries.{AreRead, CannotRead, IsOpenDictionary}
 use Rattle.dictionary_leaves.specs.EntryTypes.{EntryReading}
 use Rattle.dictionary_leaves.specs.KeyColumns.{key_in, reader_in}
 use Rattle.dictionary_leaves.specs.declared.entry_type.ReadEntries.{ReadEntries}
@@ -36,4 +36,4 @@ IsFirst e num None (Err x) = (x ≡ OutOfSpec S9) × (0 < num)
 abbrev pub Opens : {I : Type 0} → ColumnOpening → TypeTree → Result (Option (Opened I)) Error → Type 0
 Opens o t (Ok (Some v)) = IsOpenDictionary o t [] (key_in v.keys) (reader_in v.keys) (boxed v.entries)
 Opens o t (Ok None) = IsWhole o []
-Opens o t (Err e) = RefusesDictionary o e
+Opens o t (Err e) = RefusesPiece o e

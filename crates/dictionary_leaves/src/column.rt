@@ -6,11 +6,11 @@ ghost use Rattle.columns_base.specs.declared.error.N.TheVariants.{N5};
 ghost use Rattle.columns_core.specs.Shapes.{base};
 ghost use Rattle.columns_core.specs.Tree.{TypeTree};
 ghost use Rattle.columns_core.specs.View.{type_view};
-ghost use Rattle.dictionary_leaves.specs.Dictionaries.{GivesDictionary, IsDictionaryOpening, IsDictionaryPiece, IsOpenDictionary, is_dictionary_read};
+ghost use Rattle.dictionary_leaves.specs.Dictionaries.{IsDictionaryPiece, IsOpenDictionary, is_dictionary_read};
 ghost use Rattle.dictionary_leaves.specs.KeyColumns.{key_in, reader_in};
 ghost use Rattle.dictionary_leaves.specs.Stages.{IsReadingDictionary};
 ghost use Rattle.pq_tree.specs.Views.{physical_view};
-ghost use Rattle.read_pieces.specs.Columns.{ColumnOpening};
+ghost use Rattle.read_pieces.specs.Columns.{ColumnOpening, GivesPiece, IsColumnOpening};
 ghost use Rattle.read_state.specs.Initial.{IsWay};
 ghost use Rattle.shredding.specs.Along.{thin};
 ghost use Rattle.shredding.specs.Shred.{Triple};
@@ -24,6 +24,7 @@ use pq_pages::Pages;
 use read_pieces::ColumnPiece;
 use read_state::InitNested;
 use std::alloc::Global;
+use std::marker::Model;
 use std::mem;
 
 /// How far a column was read.
@@ -49,6 +50,21 @@ pub struct DictionaryColumn<I: Pages> {
     stage: Stage<I>,
 }
 
+impl<I: Pages> Model for DictionaryColumn<I> {
+    ghost use Rattle.std.specs.Coded.{codes};
+    ghost use Rattle.columns_core.specs.TypeCode.{type_code};
+    ghost use Rattle.columns_core.specs.View.{type_view};
+    ghost use Rattle.columns_slots.specs.Tree.{tree_code};
+    ghost use Rattle.read_column.specs.SlotCode.{slot_code};
+    ghost use Rattle.dictionary_leaves.specs.Stages.{DictionaryReading, stage_view};
+
+    ghost Value = { DictionaryReading };
+
+    ghost coded = { Prim.hlevel (codes, slot_code, type_code, tree_code) };
+
+    ghost view = { λ c. record { data_type = type_view c.data_type; entries = c.entries; stage = stage_view I.outcomes c.stage } };
+}
+
 impl<I: Pages> DictionaryColumn<I> {
     /// The reader of a column of this dictionary type, whose entries are stored under this physical type, of so many rows, whose pages the source
     /// gives, along the parts of the way to its leaf; with a chunk size each piece has as many rows, or as are left.
@@ -66,7 +82,7 @@ impl<I: Pages> DictionaryColumn<I> {
         chunk_size: Option<usize>,
         num_rows: usize,
     ) -> Result<Self>
-        ensures ok { (o : ColumnOpening) → IsDictionaryOpening o (type_view data_type) (physical_view physical_type) → o.outcomes ≡ I.outcomes pages → IsWay nested.items (thin o.column.way) → o.rows ≡ num_rows → o.chunk_size ≡ chunk_size → IfOk result (λ c. IsReadingDictionary I.outcomes o (type_view data_type) [] c) }
+        ensures ok { (o : ColumnOpening) → IsColumnOpening o (type_view data_type) (physical_view physical_type) → o.outcomes ≡ I.outcomes pages → IsWay nested.items (thin o.column.way) → o.rows ≡ num_rows → o.chunk_size ≡ chunk_size → IfOk result (λ c. IsReadingDictionary o (type_view data_type) [] c) }
         ensures unserved { IsErrOf result (NotYetImplemented N5) ↔ (is_dictionary_read nested.items (base (type_view data_type)) (physical_view physical_type) ≡ false) }
         ensures err { IfErr result (λ e. (e ≡ Memory) ⊎ (e ≡ NotYetImplemented N5)) }
     {
@@ -90,7 +106,7 @@ impl<I: Pages> DictionaryColumn<I> {
 
     // The next piece of a column whose entries were read.
     fn go_on(&mut self, opened: Opened<I>) -> Option<Result<ColumnPiece>>
-        ensures { (o : ColumnOpening) (pieces : List (List Triple)) → IsOpenDictionary o (type_view self.old.data_type) pieces (key_in opened.keys) (reader_in opened.keys) (boxed opened.entries) → GivesDictionary (λ ps r. IsReadingDictionary I.outcomes o (type_view self.old.data_type) ps r) (λ p ts. IsDictionaryPiece o (type_view self.old.data_type) ts p) o pieces result self.new }
+        ensures { (o : ColumnOpening) (pieces : List (List Triple)) → IsOpenDictionary o (self.old.data_type) pieces (key_in opened.keys) (reader_in opened.keys) (boxed opened.entries) → GivesPiece (λ x ps r. IsReadingDictionary x (self.old.data_type) ps r) (λ p ts. IsDictionaryPiece o (self.old.data_type) ts p) o pieces result self.new }
     {
         let Opened { mut keys, entries } = opened;
         match next_of(&mut keys, &entries, self.alloc, &self.data_type) {
@@ -111,7 +127,7 @@ impl<I: Pages> DictionaryColumn<I> {
     /// where the dictionary page has not its entries, used or not, V1 where they pass the offsets of their array, and V2 where they are more than the
     /// keys' type numbers.
     pub fn next_piece(&mut self) -> Option<Result<ColumnPiece>>
-        ensures { (o : ColumnOpening) (t : TypeTree) (pieces : List (List Triple)) → IsReadingDictionary I.outcomes o t pieces self.old → GivesDictionary (λ ps r. IsReadingDictionary I.outcomes o t ps r) (λ p ts. IsDictionaryPiece o t ts p) o pieces result self.new }
+        ensures { (o : ColumnOpening) (t : TypeTree) (pieces : List (List Triple)) → IsReadingDictionary o t pieces self.old → GivesPiece (λ x ps r. IsReadingDictionary x t ps r) (λ p ts. IsDictionaryPiece o t ts p) o pieces result self.new }
     {
         match mem::replace(&mut self.stage, Stage::Ended) {
             Stage::Ended => None,

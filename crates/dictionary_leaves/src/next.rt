@@ -7,10 +7,10 @@ ghost use Rattle.columns_core.specs.Shapes.{base};
 ghost use Rattle.columns_core.specs.View.{type_view};
 ghost use Rattle.columns_leaf.specs.Keyed.{key_mask, keys_of};
 ghost use Rattle.columns_slots.specs.Tree.{dictionary_array};
-ghost use Rattle.dictionary_leaves.specs.Dictionaries.{GivesDictionary, IsDictionaryPiece, IsOpenDictionary};
+ghost use Rattle.dictionary_leaves.specs.Dictionaries.{IsDictionaryPiece, IsOpenDictionary};
 ghost use Rattle.dictionary_leaves.specs.KeyColumns.{key_in, reader_in};
 ghost use Rattle.dictionary_leaves.specs.Pieces.{MakesDictionary};
-ghost use Rattle.read_pieces.specs.Columns.{ColumnOpening};
+ghost use Rattle.read_pieces.specs.Columns.{ColumnOpening, GivesPiece};
 ghost use Rattle.shredding.specs.Shred.{Triple};
 
 use crate::key_column::KeyColumn;
@@ -81,7 +81,7 @@ pub fn next_of<I: Pages>(
     data_type: &DataType,
 ) -> Option<Result<ColumnPiece>>
     ensures kind { key_in column.new ≡ key_in column.old }
-    ensures gives { (o : ColumnOpening) (pieces : List (List Triple)) → IsOpenDictionary o (type_view data_type.now) pieces (key_in column.old) (reader_in column.old) (boxed entries.now) → GivesDictionary (λ ps r. IsOpenDictionary o (type_view data_type.now) ps (key_in column.old) r (boxed entries.now)) (λ p ts. IsDictionaryPiece o (type_view data_type.now) ts p) o pieces result (reader_in column.new) }
+    ensures gives { (o : ColumnOpening) (pieces : List (List Triple)) → IsOpenDictionary o (type_view data_type.now) pieces (key_in column.old) (reader_in column.old) (boxed entries.now) → GivesPiece (λ x ps r. IsOpenDictionary x (type_view data_type.now) ps (key_in column.old) r (boxed entries.now)) (λ p ts. IsDictionaryPiece o (type_view data_type.now) ts p) o pieces result (reader_in column.new) }
 {
     pieces_are_entered();
     states_are_entered();

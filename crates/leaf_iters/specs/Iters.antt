@@ -40,7 +40,7 @@ IsGivingPieces o t pieces (Some r) = IsReadingLeaf o t pieces r
 
 -- the state and the array of a piece
 abbrev pub HoldsPiece : ArrowColumn → TypeTree → List Kept × ArrayBox → List Triple → Type 0
-HoldsPiece c t item ts = IsPieceOf c t ts (record { nested = item.0; values = item.1 })
+HoldsPiece c t item ts = IsPieceOf c t ts None (record { nested = item.0; values = item.1 })
 
 -- what a call gives where these pieces were given
 abbrev pub GivesItem : ColumnOpening → TypeTree → List (List Triple) → Option (Result (List Kept × ArrayBox) Error) → Option LeafReading → Type 0

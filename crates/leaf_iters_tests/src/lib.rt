@@ -2,6 +2,8 @@
 #![tactic(auto)]
 
 #[cfg(test)]
+mod dictionary_tests;
+#[cfg(test)]
 mod field_tests;
 #[cfg(test)]
 mod flat_tests;

@@ -2,13 +2,13 @@
 use Rattle.std.proofs.Common.{◌≡◌, ◌+◌, ℕ, zero, suc, Bool, true, false, List, [], ◌∷◌, ◌++◌, ◌&&◌, map, refl, sym, ap, ◌∙◌, arith, true≢false}
 use Rattle.std.proofs.lemmas.Bool.{and_from, and_parts}
 use Rattle.std.proofs.lemmas.List.{map-append}
-use Rattle.columns_core.specs.Shapes.{shape_of, shapes_of, type_shape}
+use Rattle.columns_core.specs.Shapes.{base, shape_of, shapes_of, type_shape}
 use Rattle.columns_core.specs.Tree.{TypeTree, t_list, t_fixed_size_list, t_large_list, t_struct, t_map, t_dictionary, t_extension, FieldTree, field, FieldTrees, no_fields, more_fields}
-use Rattle.shredding.specs.Shape.{Way, in_list, in_struct, one_on, struct, ways, ways_of}
-use Rattle.pq_headline.specs.Columns.{ArrowColumn, type_columns, field_columns, columns_from, schema_columns, beneath_list, beneath_struct, small_limit, large_limit}
+use Rattle.shredding.specs.Shape.{Way, at_leaf, in_list, in_struct, one_on, struct, ways, ways_of}
+use Rattle.pq_headline.specs.Columns.{ArrowColumn, type_columns, field_columns, columns_from, schema_columns, beneath_list, beneath_struct, has_no_parts, small_limit, large_limit}
 use Rattle.pq_headline.specs.Served.{is_served_type, is_served_field, are_served_fields}
 
--- No dictionary is in it: its values may be anything, and a dictionary is one column.
+-- No dictionary is in it but of entries without parts: a dictionary is one column.
 abbrev mutual
   pub is_direct : TypeTree → Bool
   is_direct (t_list item) = is_direct_field item
@@ -16,7 +16,7 @@ abbrev mutual
   is_direct (t_fixed_size_list item n) = is_direct_field item
   is_direct (t_map entry is_sorted) = is_direct_field entry
   is_direct (t_struct fs) = are_direct_fields fs
-  is_direct (t_dictionary key t is_sorted) = false
+  is_direct (t_dictionary key t is_sorted) = has_no_parts (base t)
   is_direct (t_extension name inner metadata) = is_direct inner
   is_direct t = true
 
@@ -80,6 +80,16 @@ from_zero n [] = refl
 from_zero n (p ∷ ps) =
     let e : zero + p.0 ≡ p.0 = omega arith in ap (λ q. in_struct n q p.1 ∷ map (λ r. way_at n (placed zero r)) ps) e ∙ ap (λ vs. in_struct n p.0 p.1 ∷ vs) (from_zero n ps)
 
+entry_ways : (n : Bool) (t : TypeTree) → has_no_parts (base t) ≡ true → at_leaf n ∷ [] ≡ ways (type_shape n t)
+entry_ways n (t_extension name inner m) h = entry_ways n inner h
+entry_ways n (t_list item) h = absurd (true≢false (sym h))
+entry_ways n (t_large_list item) h = absurd (true≢false (sym h))
+entry_ways n (t_fixed_size_list item w) h = absurd (true≢false (sym h))
+entry_ways n (t_map entry s) h = absurd (true≢false (sym h))
+entry_ways n (t_struct fs) h = absurd (true≢false (sym h))
+entry_ways n (t_dictionary k t s) h = absurd (true≢false (sym h))
+entry_ways n t h = refl
+
 mutual
   ways_by : (n : Bool) (t : TypeTree) → is_direct t ≡ true → ways_in (type_columns n t) ≡ ways (type_shape n t)
   ways_by n (t_list item) h = lists_ways n small_limit (field_columns item) ∙ ap (map (in_list n)) (ways_are item h)
@@ -87,7 +97,7 @@ mutual
   ways_by n (t_fixed_size_list item w) h = lists_ways n large_limit (field_columns item) ∙ ap (map (in_list n)) (ways_are item h)
   ways_by n (t_map entry s) h = lists_ways n small_limit (field_columns entry) ∙ ap (map (in_list n)) (ways_are entry h)
   ways_by n (t_struct fs) h = ways_from n zero fs h ∙ from_zero n (ways_of (shapes_of fs))
-  ways_by n (t_dictionary k t s) h = absurd (true≢false (sym h))
+  ways_by n (t_dictionary k t s) h = entry_ways n t h
   ways_by n (t_extension name inner m) h = ways_by n inner h
   ways_by n t h = refl
 

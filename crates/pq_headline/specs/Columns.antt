@@ -54,6 +54,16 @@ abbrev pub is_dictionary : TypeTree → Bool
 is_dictionary (t_dictionary key t is_sorted) = true
 is_dictionary t = false
 
+-- nothing is inside a value of the type: it is no list, struct, map or dictionary
+abbrev pub has_no_parts : TypeTree → Bool
+has_no_parts (t_list item) = false
+has_no_parts (t_large_list item) = false
+has_no_parts (t_fixed_size_list item n) = false
+has_no_parts (t_map entry is_sorted) = false
+has_no_parts (t_struct fs) = false
+has_no_parts (t_dictionary key t is_sorted) = false
+has_no_parts t = true
+
 -- of a field whose own type is a leaf's
 abbrev pub is_alone : Way → Bool
 is_alone (at_leaf n) = true

@@ -156,10 +156,25 @@ pub record PassesOffsets (chunk_size : Option ℕ) (c : ArrowColumn) (l : Leaf) 
   pub reads : ReadsColumn c l outcomes entries triples
   pub piece : List Triple
   pub is_piece : IsPieceOf chunk_size triples piece
-  pub passes : PassesLists c.way 1 c.limits piece ⊎ PassesTexts c.data_type (values_in piece) ⊎ EntriesPass c.data_type entries
+  pub passes : PassesLists c.way 1 c.limits piece ⊎ PassesTexts c.data_type (values_in piece)
+
+-- The text bytes of the entries of its dictionary page, each of which is a value of the leaf type, whatever pages are behind it.
+pub record HasLongEntries (c : ArrowColumn) (l : Leaf) (outcomes : List Outcome) : Type 0 where
+  pub n : ℕ
+  pub body : List ℕ
+  pub behind : List Outcome
+  pub outcomes_are : outcomes ≡ gives_dictionary n body ∷ behind
+  pub entries : List Value
+  pub are : AreEntriesIn l n body entries
+  pub inside : All (λ v. ¬ IsOutside (leaf_type c.data_type) l.physical v) entries
+  pub long : EntriesPass c.data_type (Some entries)
+
+-- of an array of this column, or of its dictionary
+abbrev pub HasV1 : Option ℕ → ArrowColumn → Leaf → List Outcome → Type 0
+HasV1 n c l os = PassesOffsets n c l os ⊎ HasLongEntries c l os
 
 abbrev pub SomeV1 : Option ℕ → List ArrowColumn → List Leaf → List (List Outcome) → Type 0
-SomeV1 n (c ∷ cs) (l ∷ ls) (os ∷ others) = PassesOffsets n c l os ⊎ SomeV1 n cs ls others
+SomeV1 n (c ∷ cs) (l ∷ ls) (os ∷ others) = HasV1 n c l os ⊎ SomeV1 n cs ls others
 SomeV1 n _ _ _ = ⊥
 
 -- ---- V2: what passes the keys of a dictionary

@@ -19,7 +19,7 @@ use Rattle.pq_files.specs.RowReasons.{ReadsTriples}
 use Rattle.pq_files.specs.Stored.{AreStored}
 use Rattle.pq_files.proofs.Unique.{split_same}
 use Rattle.pq_headline.specs.Columns.{is_alone}
-use Rattle.pq_headline.specs.FieldReasons.{EntriesPass, IsPieceOf, PassesLists, PassesOffsets, PassesTexts, ReadsFront}
+use Rattle.pq_headline.specs.FieldReasons.{IsPieceOf, PassesLists, PassesOffsets, PassesTexts, ReadsFront}
 use Rattle.pq_headline.specs.Openings.{leaf_levels, piece_size}
 use Rattle.pq_pages.specs.Outcomes.{Levels, Outcome, gives_page}
 use Rattle.pq_runs.specs.Hybrid.{given, hybrid}
@@ -213,7 +213,7 @@ behind-two : {A : Type 0} (xs ys rest all next : List A) → all ≡ xs ++ next 
 behind-two xs ys rest all next a b = a ∙ (ap (λ t. xs ++ t) b ∙ sym (append_assoc xs ys rest))
 
 pub passes : (stored : List ℕ → List Stored) (limit : ℕ) (o : ColumnOpening) (pieces : List (List Triple)) (p : RawPage) (levels : Levels) (os : List Outcome) (d : Means) (q : Waiting) (b : Bool) (items : List Item) (values : List ℕ) (n : Option ℕ) (queue : Waiting) (page' : List Item) (left' : List Stored) (more : List Triple) (rest : List Item) (behind : List Stored) → (r : IsReading stored limit o pieces (reading (gives_page p levels ∷ os) d q b)) → HasItems (in_bytes stored) d p levels items values → levels ≡ leaf_levels o.leaf → BeginsPair items → n ≡ o.chunk_size → (takes : TakesPairs n o.column.way r.middle (joined r.whole ++ r.last) queue items page' (stored values) left') → 0 < queue.rows → page' ≡ map Ok (map pair_of more) ++ rest → left' ≡ map Some (values_of more) ++ behind → ArePresent (max_definition o.leaf) more → rows_in more ≤ queue.rows - count queue.state →
-    ((piece : List Triple) → AreStored (leaf_type o.column.data_type) o.leaf.physical (takes.last ++ more) piece → PassesLists o.column.way 1 o.column.limits piece ⊎ PassesTexts o.column.data_type (values_in piece) ⊎ EntriesPass o.column.data_type r.entries) → PassesOffsets o.chunk_size o.column o.leaf o.outcomes
+    ((piece : List Triple) → AreStored (leaf_type o.column.data_type) o.leaf.physical (takes.last ++ more) piece → PassesLists o.column.way 1 o.column.limits piece ⊎ PassesTexts o.column.data_type (values_in piece)) → PassesOffsets o.chunk_size o.column o.leaf o.outcomes
 passes stored limit o pieces p levels os d q b items values n queue page' left' more rest behind r has of-leaf first size takes some next vals present few long =
     let w = o.column.way in
     let t = leaf_type o.column.data_type in
@@ -240,7 +240,7 @@ passes stored limit o pieces p levels os d q b items values n queue page' left' 
     let passed = long cut.1 cut.4 in
     let other : has.encoding ≡ delta → ⊥ = λ e. (
     let read : IsReadBy (in_bytes stored) d.deltas delta = rw (← e) has.opened.read in
-    not-long o.column t l.physical r.entries (takes.last ++ more) cut.1 (is-flat (in_bytes stored) (is_alone w) d.deltas l.physical delta (inl refl) r.deltas read) (of-numbers (in_bytes stored) (is_alone w) d.deltas l.physical r.deltas read) r.readable.lists r.readable.direct cut.4 passed) in
+    not-long o.column t l.physical (takes.last ++ more) cut.1 (is-flat (in_bytes stored) (is_alone w) d.deltas l.physical delta (inl refl) r.deltas read) (of-numbers (in_bytes stored) (is_alone w) d.deltas l.physical r.deltas read) r.readable.lists cut.4 passed) in
     let reads = part-reads t l stored d r.entries (is_alone w) p levels items values ts rest r.readable.values.plain r.texts r.deltas of-leaf has other e-items part there (begins-taken items rest ts e-items first) in
     let whole-is : cut.0 ++ (cut.1 ++ []) ≡ stored_in r.pages ++ part.stored = ap (λ (xs : List Triple). cut.0 ++ xs) (append-nil cut.1) ∙ sym cut.2 in
     record {
@@ -291,7 +291,7 @@ texts-long stored limit o pieces p levels os d q b items values n queue page' le
     let vals : left' ≡ map Some (values_of more) ++ x.rest = rw f.values x.next in
     let few : rows_in more ≤ queue.rows - count queue.state = omega (arith, begun-pairs more, ap begun f.pairs, wanted.few, ap begun c.parts, begun-append c.front c.back) in
     let bytes : limit ≤ bytes_of (values_of (takes.last ++ more)) = omega (arith, ap bytes_of (values-append takes.last more), bytes-append (values_of takes.last) (values_of more), k.bytes, ap bytes_of f.values, x.long) in
-    passes stored limit o pieces p levels os d q b items values n queue page' left' more (map Ok c.back ++ rest) x.rest r has of-leaf first size takes some next vals f.present few (λ piece are. inr (inl (texts-pass o.column.data_type t l.physical limit (values_of (takes.last ++ more)) (values_in piece) r.readable.values.limited (values-stored t l.physical (takes.last ++ more) piece are) x.some bytes)))
+    passes stored limit o pieces p levels os d q b items values n queue page' left' more (map Ok c.back ++ rest) x.rest r has of-leaf first size takes some next vals f.present few (λ piece are. inr (texts-pass o.column.data_type t l.physical limit (values_of (takes.last ++ more)) (values_in piece) r.readable.values.limited (values-stored t l.physical (takes.last ++ more) piece are) x.some bytes))
 
 -- ---- a page that goes on with a row
 first-pair : (items : List Item) → first_goes_on items ≡ true → (p : Pair) × (rest : List Item) × (items ≡ Ok p ∷ rest) × (0 < p.0)

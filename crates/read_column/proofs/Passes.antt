@@ -3,7 +3,7 @@ use Rattle.std.proofs.Common.{◌≡◌, ◌⊎◌, inl, inr, ℕ, zero, suc, �
 use Rattle.std.specs.List.{AllZip, cons_option}
 use Rattle.std.proofs.lemmas.List.Elements.{All-nil, All-cons, All-head, All-tail}
 use Rattle.std.proofs.lemmas.List.Sums.{sum_by-cons}
-use Rattle.columns_core.specs.Tree.{TypeTree, t_binary, t_large_binary, t_utf8, t_large_utf8, t_dictionary}
+use Rattle.columns_core.specs.Tree.{TypeTree, t_binary, t_large_binary, t_utf8, t_large_utf8}
 use Rattle.shredding.specs.Local.{inside}
 use Rattle.shredding.specs.Shape.{LeafType, Way, at_leaf, in_list, in_struct, nothing, truths, text, binary, signed, unsigned, fixed_bytes, decimal, months, days}
 use Rattle.shredding.specs.Shred.{Triple, max_repetition}
@@ -11,8 +11,8 @@ use Rattle.shredding.specs.Slot.{Value, truth, number, bytes}
 use Rattle.pq_files.specs.Page.{values_in}
 use Rattle.pq_files.specs.Reasons.{AnyOf}
 use Rattle.pq_files.specs.Stored.{AreStored, IsStored, IsStoredOption}
-use Rattle.pq_headline.specs.Columns.{ArrowColumn, is_alone, is_dictionary, large_limit}
-use Rattle.pq_headline.specs.FieldReasons.{EntriesPass, PassesLists, PassesTexts, items_in, text_size}
+use Rattle.pq_headline.specs.Columns.{ArrowColumn, is_alone, large_limit}
+use Rattle.pq_headline.specs.FieldReasons.{PassesLists, PassesTexts, items_in, text_size}
 use Rattle.pq_tree.specs.Physical.{Physical, boolean, int32, int64, byte_array, fixed}
 use Rattle.read_items.specs.Items.{items_from, list_counts}
 use Rattle.read_laws.specs.State.{Kept, kept_leaf, kept_list, kept_struct}
@@ -214,14 +214,9 @@ no-lists (at_leaf m) (limit ∷ limits) ts flat n h = omega (arith, n)
 no-lists (in_list m w) (limit ∷ limits) ts flat n h = cc flat
 no-lists (in_struct m i w) (limit ∷ limits) ts flat n h = cc flat
 
-no-entries : (t : TypeTree) (es : Option (List Value)) → is_dictionary t ≡ false → EntriesPass t es → ⊥
-no-entries (t_dictionary key t s) es e h = cc e
-no-entries t es e h = h
-
-pub not-long : (c : ArrowColumn) (t : LeafType) (p : Physical) (es : Option (List Value)) (ts zs : List Triple) → is_alone c.way ≡ true → (p ≡ int32) ⊎ (p ≡ int64) → length c.limits ≡ max_repetition c.way → is_dictionary c.data_type ≡ false → AreStored t p ts zs → PassesLists c.way 1 c.limits zs ⊎ PassesTexts c.data_type (values_in zs) ⊎ EntriesPass c.data_type es → ⊥
-not-long c t p es ts zs flat n lists direct a (inl h) = no-lists c.way c.limits zs flat lists h
-not-long c t p es ts zs flat n lists direct a (inr (inl h)) = no-texts c.data_type (values_in zs) (all-sized t p ts zs n a) h
-not-long c t p es ts zs flat n lists direct a (inr (inr h)) = no-entries c.data_type es direct h
+pub not-long : (c : ArrowColumn) (t : LeafType) (p : Physical) (ts zs : List Triple) → is_alone c.way ≡ true → (p ≡ int32) ⊎ (p ≡ int64) → length c.limits ≡ max_repetition c.way → AreStored t p ts zs → PassesLists c.way 1 c.limits zs ⊎ PassesTexts c.data_type (values_in zs) → ⊥
+not-long c t p ts zs flat n lists a (inl h) = no-lists c.way c.limits zs flat lists h
+not-long c t p ts zs flat n lists a (inr h) = no-texts c.data_type (values_in zs) (all-sized t p ts zs n a) h
 
 -- ---- pairs with their values
 pub record IsFill (top : ℕ) (ps : List Pair) (vs : List Value) : Type 0 where

@@ -230,12 +230,12 @@ stops counts stored limit o pieces p levels os d q b items values n e r has firs
       | inl (some, inl unread) ↦ of-rows o e (inl unread.0) (λ rows a. let c = comes rows a in not-unreadable w _ c.own _ s.page' way c.comes.within c.comes.pairs unread.1)
       | inl (some, inr (inl on)) ↦ absurd (not-on s.page' s.takes.begins on.1)
       | inl (some, inr (inr (inl order))) ↦ of-rows o e (inr (inr (inr (inr (inr order.0))))) (λ rows a. let c = comes rows a in not-out-of-order w _ c.own _ s.page' way c.comes.chained c.comes.pairs order.1)
-      | inl (some, inr (inr (inr (inl long)))) ↦ inr (inr (inr (inr (inr (inl (long.0, lists-long counts stored limit o pieces p levels os d q b items values n s.queue s.page' s.left' r has of-leaf first size s.takes some long.1))))))
+      | inl (some, inr (inr (inr (inl long)))) ↦ inr (inr (inr (inr (inr (inl (inl (long.0, inl (lists-long counts stored limit o pieces p levels os d q b items values n s.queue s.page' s.left' r has of-leaf first size s.takes some long.1))))))))
       | inl (some, inr (inr (inr (inr fill)))) ↦ elim fill.why [
         | inl memory ↦ inl memory
         | inr (inl few) ↦ of-rows o e (inr (inr (inl few.0))) (λ rows a. let c = comes rows a in not-too-few w _ c.own fill.pairs s.page' fill.rest s.left' c.comes.rest way c.comes.within c.comes.pairs fill.wanted.pairs c.comes.values few.1)
         | inr (inr (inl out)) ↦ of-rows o e (inr (inr (inr (inl out.0)))) (λ rows a. let c = comes rows a in not-outside w _ c.own fill.pairs s.page' fill.rest s.left' c.comes.rest way c.comes.within c.comes.pairs fill.wanted.pairs c.comes.values out.1)
-        | inr (inr (inr long)) ↦ inr (inr (inr (inr (inr (inl (long.0, texts-long stored limit o pieces p levels os d q b items values n s.queue s.page' s.left' fill.pairs fill.rest r has of-leaf first size s.takes some fill.wanted long.1))))))
+        | inr (inr (inr long)) ↦ inr (inr (inr (inr (inr (inl (inl (long.0, inl (texts-long stored limit o pieces p levels os d q b items values n s.queue s.page' s.left' fill.pairs fill.rest r has of-leaf first size s.takes some fill.wanted long.1))))))))
       ]
       | inr x ↦ elim x.1 [
         | inl more ↦ of-rows o e (inr (inr (inr (inr (inl more.0))))) (λ rows a. too-many stored limit o pieces p levels os d q b items values n s.queue s.page' s.left' rows more.1.0 more.1.1 r has s.takes x.0 more.1.2 a)

@@ -58,7 +58,7 @@ opens o t p k opened stored made =
     let values : ReadsLeaf o.column o.leaf.physical (stored_of k) (limit_of k) = rw same (leaves-read k o.column typed) in
     opened.readable (stored_of k) (limit_of k) values (direct o.column.data_type k typed)
 
-pub leaf-gives : (o : ColumnOpening) (t : TypeTree) (pieces : List (List Triple)) (k k' : LeafKind) (reader : Reading) (result : Option (Result ColumnPiece Error)) → k' ≡ k → types_of k (base t) ≡ true → GivesPiece (IsReading (stored_of k) (limit_of k)) (λ p ts. IsPieceOf o.column t ts p) o pieces result reader → GivesPiece (λ o ps r. IsReadingLeaf o t ps r) (λ p ts. IsPieceOf o.column t ts p) o pieces result (record { data_type = t; kind = k'; reader = reader })
+pub leaf-gives : (o : ColumnOpening) (t : TypeTree) (pieces : List (List Triple)) (k k' : LeafKind) (reader : Reading) (result : Option (Result ColumnPiece Error)) → k' ≡ k → types_of k (base t) ≡ true → GivesPiece (IsReading (stored_of k) (limit_of k)) (λ p ts. IsPieceOf o.column t ts None p) o pieces result reader → GivesPiece (λ o ps r. IsReadingLeaf o t ps r) (λ p ts. IsPieceOf o.column t ts None p) o pieces result (record { data_type = t; kind = k'; reader = reader })
 leaf-gives o t pieces k k' reader None same made g = g
 leaf-gives o t pieces k k' reader (Some (Err e)) same made g = g
 leaf-gives o t pieces k k' reader (Some (Ok p)) same made g = rw same (g.0, g.1, g.2, record { typed = refl; made = made; reads = g.3 })

@@ -1,5 +1,5 @@
 //! The reader of a column of each kind.
-ghost use Rattle.std.specs.Prelude.{◌≡◌, ◌≢◌, [], List, ℕ, true, IfErr, IfOk, Some};
+ghost use Rattle.std.specs.Prelude.{◌≡◌, ◌≢◌, [], List, ℕ, true, IfErr, IfOk, None, Some};
 ghost use Rattle.columns_base.specs.declared.error.Error.TheVariants.{Memory};
 ghost use Rattle.columns_core.specs.Shapes.{base};
 ghost use Rattle.columns_core.specs.View.{type_view};
@@ -96,7 +96,7 @@ fn next_of<I: Pages, L: LeafArray>(
     data_type: &DataType,
 ) -> Option<Result<ColumnPiece>>
     requires { L.makes (base (type_view data_type.now)) ≡ true }
-    ensures { (o : ColumnOpening) (pieces : List (List Triple)) → IsReading (λ text. L.stored leaf.now text 0) L.byte_limit o pieces reader.old → GivesPiece (IsReading (λ text. L.stored leaf.now text 0) L.byte_limit) (λ p ts. IsPieceOf o.column (type_view data_type.now) ts p) o pieces result reader.new }
+    ensures { (o : ColumnOpening) (pieces : List (List Triple)) → IsReading (λ text. L.stored leaf.now text 0) L.byte_limit o pieces reader.old → GivesPiece (IsReading (λ text. L.stored leaf.now text 0) L.byte_limit) (λ p ts. IsPieceOf o.column (type_view data_type.now) ts None p) o pieces result reader.new }
 {
     piece_of::<L>(alloc, data_type, reader.next_piece(leaf))
 }
@@ -109,7 +109,7 @@ fn next_fixed<I: Pages, T: FixedValue + NumberBox>(
     data_type: &DataType,
 ) -> Option<Result<ColumnPiece>>
     requires { makes_fixed T.stores (base (type_view data_type.now)) ≡ true }
-    ensures { (o : ColumnOpening) (pieces : List (List Triple)) → IsReading (stored_fixed T.loaded size) 0 o pieces reader.old → GivesPiece (IsReading (stored_fixed T.loaded size) 0) (λ p ts. IsPieceOf o.column (type_view data_type.now) ts p) o pieces result reader.new }
+    ensures { (o : ColumnOpening) (pieces : List (List Triple)) → IsReading (stored_fixed T.loaded size) 0 o pieces reader.old → GivesPiece (IsReading (stored_fixed T.loaded size) 0) (λ p ts. IsPieceOf o.column (type_view data_type.now) ts None p) o pieces result reader.new }
 {
     let leaf = Fixed {
         size,
@@ -127,7 +127,7 @@ fn next_chunks<I: Pages>(
     data_type: &DataType,
 ) -> Option<Result<ColumnPiece>>
     requires { reads_chunks size (base (type_view data_type.now)) ≡ true }
-    ensures { (o : ColumnOpening) (pieces : List (List Triple)) → IsReading (stored_fixed loaded_bytes size) 0 o pieces reader.old → GivesPiece (IsReading (stored_fixed loaded_bytes size) 0) (λ p ts. IsPieceOf o.column (type_view data_type.now) ts p) o pieces result reader.new }
+    ensures { (o : ColumnOpening) (pieces : List (List Triple)) → IsReading (stored_fixed loaded_bytes size) 0 o pieces reader.old → GivesPiece (IsReading (stored_fixed loaded_bytes size) 0) (λ p ts. IsPieceOf o.column (type_view data_type.now) ts None p) o pieces result reader.new }
 {
     next_of(reader, &FixedBytes { size }, alloc, data_type)
 }
@@ -176,7 +176,7 @@ impl<I: Pages> KindColumn<I> {
     pub fn next_piece(&mut self, alloc: Global, data_type: &DataType) -> Option<Result<ColumnPiece>>
         requires { types_of (kind_in self.old) (base (type_view data_type.now)) ≡ true }
         ensures kind { kind_in self.new ≡ kind_in self.old }
-        ensures gives { (o : ColumnOpening) (pieces : List (List Triple)) → IsReading (stored_of (kind_in self.old)) (limit_of (kind_in self.old)) o pieces (reader_in self.old) → GivesPiece (IsReading (stored_of (kind_in self.old)) (limit_of (kind_in self.old))) (λ p ts. IsPieceOf o.column (type_view data_type.now) ts p) o pieces result (reader_in self.new) }
+        ensures gives { (o : ColumnOpening) (pieces : List (List Triple)) → IsReading (stored_of (kind_in self.old)) (limit_of (kind_in self.old)) o pieces (reader_in self.old) → GivesPiece (IsReading (stored_of (kind_in self.old)) (limit_of (kind_in self.old))) (λ p ts. IsPieceOf o.column (type_view data_type.now) ts None p) o pieces result (reader_in self.new) }
     {
         match self {
             KindColumn::Boolean(reader) => next_of(reader, &Truths, alloc, data_type),

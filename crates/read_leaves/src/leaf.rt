@@ -1,5 +1,5 @@
 //! The column of a leaf.
-ghost use Rattle.std.specs.Prelude.{◌≡◌, ◌⊎◌, ◌↔◌, [], List, false, true, IfErr, IfOk, IsErrOf, MatchOption};
+ghost use Rattle.std.specs.Prelude.{◌≡◌, ◌⊎◌, ◌↔◌, [], List, false, true, IfErr, IfOk, IsErrOf, MatchOption, None};
 ghost use Rattle.columns_base.specs.declared.error.Error.TheVariants.{Memory, NotYetImplemented};
 ghost use Rattle.columns_base.specs.declared.error.N.TheVariants.{N5};
 ghost use Rattle.columns_core.specs.Shapes.{base};
@@ -168,7 +168,7 @@ impl<I: Pages> LeafColumn<I> {
     /// not those of rows; S9 where the pages have more or fewer rows than the group, or one of version 2 than its header states; V1 where a piece
     /// passes the offsets of its array; `Memory`.
     pub fn next_piece(&mut self) -> Option<Result<ColumnPiece>>
-        ensures { (o : ColumnOpening) (t : TypeTree) (pieces : List (List Triple)) → IsReadingLeaf o t pieces self.old → GivesPiece (λ o ps r. IsReadingLeaf o t ps r) (λ p ts. IsPieceOf o.column t ts p) o pieces result self.new }
+        ensures { (o : ColumnOpening) (t : TypeTree) (pieces : List (List Triple)) → IsReadingLeaf o t pieces self.old → GivesPiece (λ o ps r. IsReadingLeaf o t ps r) (λ p ts. IsPieceOf o.column t ts None p) o pieces result self.new }
     {
         self.column.next_piece(self.alloc, &self.data_type)
     }

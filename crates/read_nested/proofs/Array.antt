@@ -21,8 +21,8 @@ use Rattle.read_pieces.specs.declared.piece.ColumnPiece.{ColumnPiece}
 use Rattle.pq_headline.specs.Columns.{ArrowColumn, field_columns, type_columns}
 use Rattle.read_nested.specs.Above.{raised}
 use Rattle.read_nested.specs.Builds.{BuildsField}
-use Rattle.read_nested.specs.Joined.{IsArrayOf}
-use Rattle.read_nested.proofs.Built.{built}
+use Rattle.read_nested.specs.Joined.{IsArrayOf, HasFlatEntries, HaveFlatEntries}
+use Rattle.read_nested.proofs.Built.{Entries, AreFlatPieces, flat-pieces, built}
 use Rattle.read_nested.proofs.Goes.{kept-along}
 use Rattle.read_nested.proofs.Keeps.{slots-along}
 use Rattle.read_nested.proofs.Slots.{IsReached, is-of, loose-same, each-both}
@@ -38,9 +38,10 @@ pub raised-none : (cs : List ArrowColumn) → map (raised []) cs ≡ cs
 raised-none [] = refl
 raised-none (c ∷ cs) = ap (λ ds. c ∷ ds) (raised-none cs)
 
-pub no-pieces : (rest : List (List Triple)) (left : List ColumnPiece) → ArePiecesOf [] [] rest left → rest ≡ []
-no-pieces [] left h = refl
-no-pieces (ts ∷ rest) left h = absurd h
+pub no-pieces : (rest : List (List Triple)) (es : List Entries) (left : List ColumnPiece) → AreFlatPieces [] [] rest es left → (rest ≡ []) × (es ≡ [])
+no-pieces [] [] left h = (refl, refl)
+no-pieces [] (e ∷ es) left h = absurd h
+no-pieces (ts ∷ rest) es left h = absurd h
 
 -- ---- one column
 module _ (c : ArrowColumn) (ts : List Triple) (a : ArrayTree) (s : IsStood [] c ts [] (array_slot a) (tree_len a)) where
@@ -83,17 +84,19 @@ all-reached [] (ts ∷ tables) a s = absurd s
 all-reached (c ∷ cs) [] a s = absurd s
 all-reached (c ∷ cs) (ts ∷ tables) a s = each-both (λ x. IsReached x c) (λ x. Each (IsReached x) cs) (λ x. IsReached x c × Each (IsReached x) cs) (λ x g h. (g, h)) (slots a) (stood-reached c ts a s.0) (all-reached cs tables a s.1)
 
-pub array-of : (f : FieldTree) (tables : List (List Triple)) (pieces left : List ColumnPiece) (a : ArrayTree) (front : List Kept) →
-    HasNoEmptyStruct (shape_of f) → BuildsField f pieces left a front → ArePiecesOf (field_columns f) (leaf_types f) tables pieces → All (IsOf (loose (type_shape true (type_of a)))) (slots a) → IsArrayOf f tables a
-array-of (field n t b md) tables pieces left a front full bs are kinds =
+pub array-of : (f : FieldTree) (tables : List (List Triple)) (es : List Entries) (pieces left : List ColumnPiece) (a : ArrayTree) (front : List Kept) →
+    HasNoEmptyStruct (shape_of f) → HaveFlatEntries f → BuildsField f pieces left a front → ArePiecesOf (field_columns f) (leaf_types f) tables es pieces → All (IsOf (loose (type_shape true (type_of a)))) (slots a) → IsArrayOf f tables es a
+array-of (field n t b md) tables es pieces left a front full flat bs are kinds =
     let cs : List ArrowColumn = type_columns b t in
     let f = field n t b md in
-    let P : List ArrowColumn → Type 0 = λ ds. ArePiecesOf ds (leaf_types f ++ []) tables pieces in
-    let Q : List TypeTree → Type 0 = λ ts. ArePiecesOf cs ts tables pieces in
-    let are' : P (map (raised []) cs ++ []) = subst P (sym (append-nil (map (raised []) cs) ∙ raised-none cs)) (subst Q (sym (append-nil (leaf_types f))) are) in
-    let made = built t t b [] [] [] tables pieces left a front refl full bs are' in
+    let P : List ArrowColumn → Type 0 = λ ds. AreFlatPieces ds (leaf_types f ++ []) tables es pieces in
+    let Q : List TypeTree → Type 0 = λ ts. AreFlatPieces cs ts tables es pieces in
+    let are' : P (map (raised []) cs ++ []) = subst P (sym (append-nil (map (raised []) cs) ∙ raised-none cs)) (subst Q (sym (append-nil (leaf_types f))) (flat-pieces cs (leaf_types f) tables es pieces (recursion_from_All (λ c. HasFlatEntries c.data_type) cs flat) are)) in
+    let made = built t t b [] [] [] tables es pieces left a front refl full bs are' in
     let sp = made.split in
-    let tables-are : tables ≡ sp.first = sp.tables_are ∙ ap (λ xs. sp.first ++ xs) (no-pieces sp.rest left sp.behind) ∙ append-nil sp.first in
+    let none = no-pieces sp.rest sp.rest_entries left sp.behind in
+    let tables-are : tables ≡ sp.first = sp.tables_are ∙ ap (λ xs. sp.first ++ xs) none.0 ∙ append-nil sp.first in
+    let entries-are : es ≡ sp.first_entries = sp.entries_are ∙ ap (λ xs. sp.first_entries ++ xs) none.1 ∙ append-nil sp.first_entries in
     let F : List Kept → Type 0 = λ ks. AllStood [] cs sp.first ks (array_slot a) (tree_len a) in
     let stood : AllStood [] cs sp.first [] (array_slot a) (tree_len a) = subst F (no-front front made.aligned) sp.stood in
     let Z : List (List Triple) → Type 0 = λ xs. AllZip (λ c ts. column c.way (slots a) ≡ ts) cs xs in
@@ -105,5 +108,5 @@ array-of (field n t b md) tables pieces left a front full bs are kinds =
       typed = made.typed;
       slots_are = All-from_recursion (IsOf (type_shape b t)) (slots a) (each-both (IsOf (loose (type_shape b t))) (λ x. Each (IsReached x) cs) (IsOf (type_shape b t)) (is-of b t full) (slots a) kinds' (all-reached cs sp.first a stood));
       columns = subst Z (sym tables-are) (all-columns cs sp.first a stood);
-      entries = made.entries;
+      entries = made.entries ∙ sym entries-are;
     }

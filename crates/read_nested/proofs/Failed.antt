@@ -1,6 +1,7 @@
 -- Why no array is put together of pieces.
 use Rattle.std.proofs.Common.{◌≡◌, ◌⊎◌, ℕ, zero, suc, ◌+◌, ◌-◌, ◌<◌, ◌≤◌, Bool, Option, Some, List, [], ◌∷◌, ◌++◌, map, length, take, get_or, refl, arith, ap, sym, ◌∙◌, subst, inl, inr, length-append, append_assoc, zero-add, append-nil}
 use Rattle.std.proofs.Math.Seq.{take-append_seam}
+use Rattle.std.proofs.lemmas.List.Elements.{recursion_from_All}
 use Rattle.columns_base.specs.declared.error.Error.{Error}
 use Rattle.columns_base.specs.declared.error.Error.TheVariants.{Memory, OutOfSpec, NotYetImplemented, Overflow}
 use Rattle.columns_base.specs.declared.error.S.TheVariants.{S10}
@@ -26,9 +27,9 @@ use Rattle.pq_headline.specs.FieldReasons.{PassesLists, items_in}
 use Rattle.read_nested.specs.Above.{Above, above_list, above_struct, way_beneath, raised}
 use Rattle.read_nested.specs.Builds.{Fails, FailsLeaf, FailsField, FailsAll, FailsOthers}
 use Rattle.read_nested.specs.Fronts.{built as built_of}
-use Rattle.read_nested.specs.Joined.{CannotJoin, Disagree, DisagreesWith, SomePass, HasFixedList, HaveFixedList}
+use Rattle.read_nested.specs.Joined.{CannotJoin, HasFlatEntries, HaveFlatEntries, Disagree, DisagreesWith, SomePass, HasFixedList, HaveFixedList}
 use Rattle.read_nested.specs.Made.{innermost, kind_of, RefusesKind, RefusesLists, RefusesStruct, FitsPart, FitsStructPart}
-use Rattle.read_nested.proofs.Built.{IsBuilt, AreBuilt, IsStructFits, built, children-end, all-built, first-pieces, first-columns, some-columns, fit-len, all-full}
+use Rattle.read_nested.proofs.Built.{Entries, AreFlatPieces, flat-pieces, IsBuilt, AreBuilt, IsStructFits, built, children-end, all-built, first-pieces, first-columns, some-columns, fit-len, all-full}
 use Rattle.read_nested.proofs.Array.{raised-none}
 use Rattle.read_nested.proofs.Fronts.{fronts-agree}
 use Rattle.read_nested.proofs.Keeps.{list-len}
@@ -121,10 +122,10 @@ module _ (counted : ItemsAreCounted) where
       let counts' : list_counts (end.front ++ (kept_list end.mask end.starts ∷ s.back)) ≡ items_from (max_repetition w) 1 w ts = sym (ap list_counts parts) ∙ counts in
       passes end.front above b l c end.mask end.starts s.back 1 w ts (max_repetition w) end.aligned counts' (omega (arith, s.stands.count))
 
-  list-refused : (F : Type 0) (above : List Above) (b : Bool) (l : ℕ) (item : Option TypeTree) (u : TypeTree) (cs others : List ArrowColumn) (types : List TypeTree) (tables : List (List Triple)) (left : List ColumnPiece) (old : List Kept) (its : ArrayTree) (e : Error) →
-      (cs ≡ [] → ⊥) → item ≡ Some u → IsBuilt (above ++ above_list b l ∷ []) u cs others types tables left old its → RefusesLists l item (innermost old) its e → Cannot F (map (raised (above ++ above_list b l ∷ [])) cs ++ others) tables e
-  list-refused F above b l item u [] others types tables left old its e some is made h = absurd (some refl)
-  list-refused F above b l item u (c ∷ cs) others types tables left old its e some is made h =
+  list-refused : (F : Type 0) (above : List Above) (b : Bool) (l : ℕ) (item : Option TypeTree) (u : TypeTree) (cs others : List ArrowColumn) (types : List TypeTree) (tables : List (List Triple)) (es : List Entries) (left : List ColumnPiece) (old : List Kept) (its : ArrayTree) (e : Error) →
+      (cs ≡ [] → ⊥) → item ≡ Some u → IsBuilt (above ++ above_list b l ∷ []) u cs others types tables es left old its → RefusesLists l item (innermost old) its e → Cannot F (map (raised (above ++ above_list b l ∷ [])) cs ++ others) tables e
+  list-refused F above b l item u [] others types tables es left old its e some is made h = absurd (some refl)
+  list-refused F above b l item u (c ∷ cs) others types tables es left old its e some is made h =
       let A : List Above = above ++ above_list b l ∷ [] in
       let T : List (List Triple) → Type 0 = λ xs. Cannot F (map (raised A) (c ∷ cs) ++ others) xs e in
       subst T (sym made.split.tables_are) (go made.split.first made.split.stood)
@@ -180,10 +181,10 @@ other-disagrees above b i j c ts front other at at' n n' (d ∷ ds) others (us �
     inl (λ agree. ne (fronts-same above b i j c d ts us front other at at' n n' apart s a s'.0 a' agree))
 
 -- ---- structs
-struct-refused : (F : Type 0) (above : List Above) (b : Bool) (own : TypeTree) (fs : FieldTrees) (cs others : List ArrowColumn) (types : List TypeTree) (tables : List (List Triple)) (left : List ColumnPiece) (old : List Kept) (children : ArrayTrees) (e : Error) →
-    base own ≡ t_struct fs → HasNoEmptyStruct (struct b (shapes_of fs)) → (end : IsStructFits old above b) → AreBuilt above fs cs others types tables left end.end.front end.end.mask end.end.size children (λ k. slots_at children k) → RefusesStruct own (innermost old) children e →
+struct-refused : (F : Type 0) (above : List Above) (b : Bool) (own : TypeTree) (fs : FieldTrees) (cs others : List ArrowColumn) (types : List TypeTree) (tables : List (List Triple)) (es : List Entries) (left : List ColumnPiece) (old : List Kept) (children : ArrayTrees) (e : Error) →
+    base own ≡ t_struct fs → HasNoEmptyStruct (struct b (shapes_of fs)) → (end : IsStructFits old above b) → AreBuilt above fs cs others types tables es left end.end.front end.end.mask end.end.size children (λ k. slots_at children k) → RefusesStruct own (innermost old) children e →
     Cannot F (map (raised above) cs ++ others) tables e
-struct-refused F above b own fs cs others types tables left old children e is full end made h =
+struct-refused F above b own fs cs others types tables es left old children e is full end made h =
     let o : innermost old ≡ Some (kept_struct end.end.mask end.end.size) = ap innermost end.end.parts ∙ innermost-end end.end.front (kept_struct end.end.mask end.end.size) in
     let P : Option Kept → Type 0 = λ part. FitsStructPart (base own) part children in
     let len : first_len children ≡ end.end.size = fit-len b end.end.size fs children full made.fit in
@@ -200,17 +201,18 @@ struct-refused F above b own fs cs others types tables left old children e is fu
     some-children b size (more_fields (field n t c md) fs) (more_arrays child children) s f = omega arith
 
 -- ---- leaves
-leaf-fails : (F : Type 0) (c : ArrowColumn) (own : TypeTree) (others : List ArrowColumn) (types : List TypeTree) (tables : List (List Triple)) (pieces : List ColumnPiece) (e : Error) → FailsLeaf pieces e → ArePiecesOf (c ∷ others) (own ∷ types) tables pieces → Cannot F (c ∷ others) tables e
-leaf-fails F c own others types [] pieces e h are = absurd are
-leaf-fails F c own others types (ts ∷ tables) [] e h are = absurd are
-leaf-fails F c own others types (ts ∷ tables) (p ∷ pieces) e h are =
+leaf-fails : (F : Type 0) (c : ArrowColumn) (own : TypeTree) (others : List ArrowColumn) (types : List TypeTree) (tables : List (List Triple)) (es : List Entries) (pieces : List ColumnPiece) (e : Error) → FailsLeaf pieces e → AreFlatPieces (c ∷ others) (own ∷ types) tables es pieces → Cannot F (c ∷ others) tables e
+leaf-fails F c own others types [] es pieces e h are = absurd are
+leaf-fails F c own others types (ts ∷ tables) [] pieces e h are = absurd are
+leaf-fails F c own others types (ts ∷ tables) (en ∷ es) [] e h are = absurd are
+leaf-fails F c own others types (ts ∷ tables) (en ∷ es) (p ∷ pieces) e h are =
     elim h.1 [
       | inl x ↦ absurd (cc x)
       | inr x ↦
           let same : p ≡ x.0 = let q = x.2 in cc in
           let none : p.nested ≡ [] = ap (λ (y : ColumnPiece). y.nested) same ∙ x.3 in
           let S : List Kept → Type 0 = λ ks. StateFits ks in
-          absurd (let bad : S [] = subst S none are.0.is.fits in bad)
+          absurd (let bad : S [] = subst S none are.0.piece.is.fits in bad)
     ]
 
 -- what comes of the fields behind one whose column this is
@@ -235,122 +237,122 @@ first-failed F above b (c ∷ cs) ds (ts ∷ first) rest front at n e some s go 
 
 module _ (counted : ItemsAreCounted) where
   mutual
-    pub failed : (own t : TypeTree) (b : Bool) (above : List Above) (others : List ArrowColumn) (types : List TypeTree) (tables : List (List Triple)) (pieces : List ColumnPiece) (e : Error) →
-        base own ≡ base t → HasNoEmptyStruct (type_shape b t) → Fails own t pieces e → ArePiecesOf (map (raised above) (type_columns b t) ++ others) (type_leaves own t ++ types) tables pieces →
+    pub failed : (own t : TypeTree) (b : Bool) (above : List Above) (others : List ArrowColumn) (types : List TypeTree) (tables : List (List Triple)) (es : List Entries) (pieces : List ColumnPiece) (e : Error) →
+        base own ≡ base t → HasNoEmptyStruct (type_shape b t) → Fails own t pieces e → AreFlatPieces (map (raised above) (type_columns b t) ++ others) (type_leaves own t ++ types) tables es pieces →
         Cannot (HasFixedList t) (map (raised above) (type_columns b t) ++ others) tables e
-    failed own (t_list (field n t c md)) b above others types tables pieces e is h fs are =
+    failed own (t_list (field n t c md)) b above others types tables es pieces e is h fs are =
         let cs : List ArrowColumn = field_columns (field n t c md) in
         let q = raised-list above b small_limit cs in
-        let P : List ArrowColumn → Type 0 = λ xs. ArePiecesOf (xs ++ others) (leaf_types (field n t c md) ++ types) tables pieces in
+        let P : List ArrowColumn → Type 0 = λ xs. AreFlatPieces (xs ++ others) (leaf_types (field n t c md) ++ types) tables es pieces in
         let C : List ArrowColumn → Type 0 = λ xs. Cannot (HasFixedList t) (xs ++ others) tables e in
         elim fs [
           | inl m ↦ inl m
           | inr r ↦ elim r [
-            | inl f ↦ subst C (sym q) (failed t t c (above ++ above_list b small_limit ∷ []) others types tables pieces e refl h f (subst P q are))
+            | inl f ↦ subst C (sym q) (failed t t c (above ++ above_list b small_limit ∷ []) others types tables es pieces e refl h f (subst P q are))
             | inr x ↦
-                let made = built t t c (above ++ above_list b small_limit ∷ []) others types tables pieces x.2 x.0 x.1 refl h x.3 (subst P q are) in
+                let made = built t t c (above ++ above_list b small_limit ∷ []) others types tables es pieces x.2 x.0 x.1 refl h x.3 (subst P q are) in
                 let M : TypeTree → Type 0 = λ u. RefusesKind (kind_of u) own (innermost x.1) x.0 e in
-                subst C (sym q) (list-refused counted (HasFixedList t) above b small_limit (small_item (base own)) t cs others types tables x.2 x.1 x.0 e (some-columns c t h) (ap small_item is) made (subst M is x.4))
+                subst C (sym q) (list-refused counted (HasFixedList t) above b small_limit (small_item (base own)) t cs others types tables es x.2 x.1 x.0 e (some-columns c t h) (ap small_item is) made (subst M is x.4))
           ]
         ]
-    failed own (t_large_list (field n t c md)) b above others types tables pieces e is h fs are =
+    failed own (t_large_list (field n t c md)) b above others types tables es pieces e is h fs are =
         let cs : List ArrowColumn = field_columns (field n t c md) in
         let q = raised-list above b large_limit cs in
-        let P : List ArrowColumn → Type 0 = λ xs. ArePiecesOf (xs ++ others) (leaf_types (field n t c md) ++ types) tables pieces in
+        let P : List ArrowColumn → Type 0 = λ xs. AreFlatPieces (xs ++ others) (leaf_types (field n t c md) ++ types) tables es pieces in
         let C : List ArrowColumn → Type 0 = λ xs. Cannot (HasFixedList t) (xs ++ others) tables e in
         elim fs [
           | inl m ↦ inl m
           | inr r ↦ elim r [
-            | inl f ↦ subst C (sym q) (failed t t c (above ++ above_list b large_limit ∷ []) others types tables pieces e refl h f (subst P q are))
+            | inl f ↦ subst C (sym q) (failed t t c (above ++ above_list b large_limit ∷ []) others types tables es pieces e refl h f (subst P q are))
             | inr x ↦
-                let made = built t t c (above ++ above_list b large_limit ∷ []) others types tables pieces x.2 x.0 x.1 refl h x.3 (subst P q are) in
+                let made = built t t c (above ++ above_list b large_limit ∷ []) others types tables es pieces x.2 x.0 x.1 refl h x.3 (subst P q are) in
                 let M : TypeTree → Type 0 = λ u. RefusesKind (kind_of u) own (innermost x.1) x.0 e in
-                subst C (sym q) (list-refused counted (HasFixedList t) above b large_limit (large_item (base own)) t cs others types tables x.2 x.1 x.0 e (some-columns c t h) (ap large_item is) made (subst M is x.4))
+                subst C (sym q) (list-refused counted (HasFixedList t) above b large_limit (large_item (base own)) t cs others types tables es x.2 x.1 x.0 e (some-columns c t h) (ap large_item is) made (subst M is x.4))
           ]
         ]
-    failed own (t_map (field n t c md) s) b above others types tables pieces e is h fs are =
+    failed own (t_map (field n t c md) s) b above others types tables es pieces e is h fs are =
         let cs : List ArrowColumn = field_columns (field n t c md) in
         let q = raised-list above b small_limit cs in
-        let P : List ArrowColumn → Type 0 = λ xs. ArePiecesOf (xs ++ others) (leaf_types (field n t c md) ++ types) tables pieces in
+        let P : List ArrowColumn → Type 0 = λ xs. AreFlatPieces (xs ++ others) (leaf_types (field n t c md) ++ types) tables es pieces in
         let C : List ArrowColumn → Type 0 = λ xs. Cannot (HasFixedList t) (xs ++ others) tables e in
         elim fs [
           | inl m ↦ inl m
           | inr r ↦ elim r [
-            | inl f ↦ subst C (sym q) (failed t t c (above ++ above_list b small_limit ∷ []) others types tables pieces e refl h f (subst P q are))
+            | inl f ↦ subst C (sym q) (failed t t c (above ++ above_list b small_limit ∷ []) others types tables es pieces e refl h f (subst P q are))
             | inr x ↦
-                let made = built t t c (above ++ above_list b small_limit ∷ []) others types tables pieces x.2 x.0 x.1 refl h x.3 (subst P q are) in
-                subst C (sym q) (list-refused counted (HasFixedList t) above b small_limit (map_item (base own)) t cs others types tables x.2 x.1 x.0 e (some-columns c t h) (ap map_item is) made x.4)
+                let made = built t t c (above ++ above_list b small_limit ∷ []) others types tables es pieces x.2 x.0 x.1 refl h x.3 (subst P q are) in
+                subst C (sym q) (list-refused counted (HasFixedList t) above b small_limit (map_item (base own)) t cs others types tables es x.2 x.1 x.0 e (some-columns c t h) (ap map_item is) made x.4)
           ]
         ]
-    failed own (t_fixed_size_list item k) b above others types tables pieces e is h fs are = inr (inr (inr (fs, tt)))
-    failed own (t_struct fields) b above others types tables pieces e is h fs are =
+    failed own (t_fixed_size_list item k) b above others types tables es pieces e is h fs are = inr (inr (inr (fs, tt)))
+    failed own (t_struct fields) b above others types tables es pieces e is h fs are =
         elim fs [
           | inl m ↦ inl m
           | inr r ↦ elim r [
-            | inl f ↦ all-failed fields b above others types tables pieces e h f are
+            | inl f ↦ all-failed fields b above others types tables es pieces e h f are
             | inr x ↦
-                let end = children-end fields b above others types tables pieces x.2 x.0 x.1 h x.3 are in
-                let made = all-built fields b zero above others types tables pieces x.2 x.0 x.1 end.end.front end.end.mask end.end.size (λ k. slots_at x.0 k) end.end.parts end.end.nullable (all-full b fields h) x.3 are (λ k i. rw zero-add refl) in
-                struct-refused (HaveFixedList fields) above b own fields (columns_from b zero fields) others types tables x.2 x.1 x.0 e is h end made x.4
+                let end = children-end fields b above others types tables es pieces x.2 x.0 x.1 h x.3 are in
+                let made = all-built fields b zero above others types tables es pieces x.2 x.0 x.1 end.end.front end.end.mask end.end.size (λ k. slots_at x.0 k) end.end.parts end.end.nullable (all-full b fields h) x.3 are (λ k i. rw zero-add refl) in
+                struct-refused (HaveFixedList fields) above b own fields (columns_from b zero fields) others types tables es x.2 x.1 x.0 e is h end made x.4
           ]
         ]
-    failed own (t_extension n t md) b above others types tables pieces e is h fs are = failed own t b above others types tables pieces e is h fs are
-    failed own t b above others types tables pieces e is h fs are = leaf-fails ⊥ (raised above (record { way = at_leaf b; limits = []; data_type = t })) own others types tables pieces e fs are
+    failed own (t_extension n t md) b above others types tables es pieces e is h fs are = failed own t b above others types tables es pieces e is h fs are
+    failed own t b above others types tables es pieces e is h fs are = leaf-fails ⊥ (raised above (record { way = at_leaf b; limits = []; data_type = t })) own others types tables es pieces e fs are
 
-    all-failed : (fields : FieldTrees) (b : Bool) (above : List Above) (others : List ArrowColumn) (types : List TypeTree) (tables : List (List Triple)) (pieces : List ColumnPiece) (e : Error) →
-        HasNoEmptyStruct (struct b (shapes_of fields)) → FailsAll fields pieces e → ArePiecesOf (map (raised above) (columns_from b zero fields) ++ others) (all_leaf_types fields ++ types) tables pieces →
+    all-failed : (fields : FieldTrees) (b : Bool) (above : List Above) (others : List ArrowColumn) (types : List TypeTree) (tables : List (List Triple)) (es : List Entries) (pieces : List ColumnPiece) (e : Error) →
+        HasNoEmptyStruct (struct b (shapes_of fields)) → FailsAll fields pieces e → AreFlatPieces (map (raised above) (columns_from b zero fields) ++ others) (all_leaf_types fields ++ types) tables es pieces →
         Cannot (HaveFixedList fields) (map (raised above) (columns_from b zero fields) ++ others) tables e
-    all-failed no_fields b above others types tables pieces e h fs are = absurd h
-    all-failed (more_fields (field n t c md) fields) b above others types tables pieces e h fs are =
+    all-failed no_fields b above others types tables es pieces e h fs are = absurd h
+    all-failed (more_fields (field n t c md) fields) b above others types tables es pieces e h fs are =
         let cs : List ArrowColumn = type_columns c t in
         let ds : List ArrowColumn = columns_from b 1 fields in
         let A : List Above = above ++ above_struct b zero ∷ [] in
         let q = first-columns above b zero cs ds others in
         let D : List ArrowColumn = map (raised above) ds ++ others in
-        let are' = first-pieces above b zero cs ds others (leaf_types (field n t c md)) (all_leaf_types fields) types tables pieces are in
+        let are' = first-pieces above b zero cs ds others (leaf_types (field n t c md)) (all_leaf_types fields) types tables es pieces are in
         let F : Type 0 = HasFixedList t ⊎ HaveFixedList fields in
         let C : List ArrowColumn → Type 0 = λ xs. Cannot F xs tables e in
         elim fs [
           | inl m ↦ inl m
           | inr r ↦ elim r [
-            | inl f ↦ subst C (sym q) (cannot-fixed (HasFixedList t) F (map (raised A) cs ++ D) tables e (λ x. inl x) (failed t t c A D (all_leaf_types fields ++ types) tables pieces e refl h.0 f are'))
+            | inl f ↦ subst C (sym q) (cannot-fixed (HasFixedList t) F (map (raised A) cs ++ D) tables e (λ x. inl x) (failed t t c A D (all_leaf_types fields ++ types) tables es pieces e refl h.0 f are'))
             | inr x ↦
-                let made = built t t c A D (all_leaf_types fields ++ types) tables pieces x.0 x.1 x.2 refl h.0 x.3 are' in
+                let made = built t t c A D (all_leaf_types fields ++ types) tables es pieces x.0 x.1 x.2 refl h.0 x.3 are' in
                 let T : List (List Triple) → Type 0 = λ xs. Cannot F (map (raised A) cs ++ D) xs e in
                 subst C (sym q) (subst T (sym made.split.tables_are) (first-failed F above b cs D made.split.first made.split.rest x.2 (array_slot x.1) (tree_len x.1) e (some-columns c t h.0) made.split.stood
-                (λ c0 ts0 s. elim (others-failed fields b 1 above others types made.split.rest x.0 x.2 c0 ts0 (array_slot x.1) (tree_len x.1) e (omega arith) s made.aligned h.1 x.4 made.split.behind) [
+                (λ c0 ts0 s. elim (others-failed fields b 1 above others types made.split.rest made.split.rest_entries x.0 x.2 c0 ts0 (array_slot x.1) (tree_len x.1) e (omega arith) s made.aligned h.1 x.4 made.split.behind) [
                   | inl y ↦ inl (cannot-fixed (HaveFixedList fields) F D made.split.rest e (λ z. inr z) y)
                   | inr y ↦ inr y
                 ])))
           ]
         ]
 
-    others-failed : (fields : FieldTrees) (b : Bool) (place : ℕ) (above : List Above) (others : List ArrowColumn) (types : List TypeTree) (tables : List (List Triple)) (pieces : List ColumnPiece) (front : List Kept) (c0 : ArrowColumn) (ts0 : List Triple) (at : ℕ → Slot) (size : ℕ) (e : Error) →
-        0 < place → IsStood (above ++ above_struct b zero ∷ []) c0 ts0 front at size → Aligned front (above ++ above_struct b zero ∷ []) → HaveNoEmptyStruct (shapes_of fields) → FailsOthers front fields pieces e → ArePiecesOf (map (raised above) (columns_from b place fields) ++ others) (all_leaf_types fields ++ types) tables pieces →
+    others-failed : (fields : FieldTrees) (b : Bool) (place : ℕ) (above : List Above) (others : List ArrowColumn) (types : List TypeTree) (tables : List (List Triple)) (es : List Entries) (pieces : List ColumnPiece) (front : List Kept) (c0 : ArrowColumn) (ts0 : List Triple) (at : ℕ → Slot) (size : ℕ) (e : Error) →
+        0 < place → IsStood (above ++ above_struct b zero ∷ []) c0 ts0 front at size → Aligned front (above ++ above_struct b zero ∷ []) → HaveNoEmptyStruct (shapes_of fields) → FailsOthers front fields pieces e → AreFlatPieces (map (raised above) (columns_from b place fields) ++ others) (all_leaf_types fields ++ types) tables es pieces →
         Others (HaveFixedList fields) (raised (above ++ above_struct b zero ∷ []) c0) ts0 (map (raised above) (columns_from b place fields) ++ others) tables e
-    others-failed no_fields b place above others types tables pieces front c0 ts0 at size e later s aligned h fs are = absurd fs
-    others-failed (more_fields (field n t c md) fields) b place above others types tables pieces front c0 ts0 at size e later s aligned h fs are =
+    others-failed no_fields b place above others types tables es pieces front c0 ts0 at size e later s aligned h fs are = absurd fs
+    others-failed (more_fields (field n t c md) fields) b place above others types tables es pieces front c0 ts0 at size e later s aligned h fs are =
         let cs : List ArrowColumn = type_columns c t in
         let ds : List ArrowColumn = columns_from b (suc place) fields in
         let A : List Above = above ++ above_struct b place ∷ [] in
         let q = first-columns above b place cs ds others in
         let D : List ArrowColumn = map (raised above) ds ++ others in
         let c1 : ArrowColumn = raised (above ++ above_struct b zero ∷ []) c0 in
-        let are' = first-pieces above b place cs ds others (leaf_types (field n t c md)) (all_leaf_types fields) types tables pieces are in
+        let are' = first-pieces above b place cs ds others (leaf_types (field n t c md)) (all_leaf_types fields) types tables es pieces are in
         let F : Type 0 = HasFixedList t ⊎ HaveFixedList fields in
         let C : List ArrowColumn → Type 0 = λ xs. Others F c1 ts0 xs tables e in
         elim fs [
           | inl m ↦ inl (inl m)
           | inr r ↦ elim r [
-            | inl f ↦ subst C (sym q) (inl (cannot-fixed (HasFixedList t) F (map (raised A) cs ++ D) tables e (λ x. inl x) (failed t t c A D (all_leaf_types fields ++ types) tables pieces e refl h.0 f are')))
+            | inl f ↦ subst C (sym q) (inl (cannot-fixed (HasFixedList t) F (map (raised A) cs ++ D) tables e (λ x. inl x) (failed t t c A D (all_leaf_types fields ++ types) tables es pieces e refl h.0 f are')))
             | inr x ↦
-                let made = built t t c A D (all_leaf_types fields ++ types) tables pieces x.0 x.1 x.2 refl h.0 x.3 are' in
+                let made = built t t c A D (all_leaf_types fields ++ types) tables es pieces x.0 x.1 x.2 refl h.0 x.3 are' in
                 let sp = made.split in
                 let T : List (List Triple) → Type 0 = λ xs. Others F c1 ts0 (map (raised A) cs ++ D) xs e in
                 subst C (sym q) (subst T (sym sp.tables_are) (elim x.4 [
                   | inl y ↦ inr (y.0, other-disagrees above b zero place c0 ts0 front x.2 at (array_slot x.1) size (tree_len x.1) cs D sp.first sp.rest (λ z. absurd (omega arith)) (some-columns c t h.0) s aligned sp.stood made.aligned y.1)
                   | inr y ↦ others-later F c1 ts0 A cs D sp.first sp.rest x.2 (array_slot x.1) (tree_len x.1) e sp.stood
-                      (elim (others-failed fields b (suc place) above others types sp.rest x.0 front c0 ts0 at size e (omega arith) s aligned h.1 y.1 sp.behind) [
+                      (elim (others-failed fields b (suc place) above others types sp.rest sp.rest_entries x.0 front c0 ts0 at size e (omega arith) s aligned h.1 y.1 sp.behind) [
                         | inl z ↦ inl (cannot-fixed (HaveFixedList fields) F D sp.rest e (λ u. inr u) z)
                         | inr z ↦ inr z
                       ])
@@ -358,13 +360,13 @@ module _ (counted : ItemsAreCounted) where
           ]
         ]
 
-  pub field-failed : (f : FieldTree) (tables : List (List Triple)) (pieces : List ColumnPiece) (e : Error) → HasNoEmptyStruct (shape_of f) → FailsField f pieces e → ArePiecesOf (field_columns f) (leaf_types f) tables pieces → CannotJoin f tables e
-  field-failed (field n t b md) tables pieces e full h are =
+  pub field-failed : (f : FieldTree) (tables : List (List Triple)) (es : List Entries) (pieces : List ColumnPiece) (e : Error) → HasNoEmptyStruct (shape_of f) → HaveFlatEntries f → FailsField f pieces e → ArePiecesOf (field_columns f) (leaf_types f) tables es pieces → CannotJoin f tables e
+  field-failed (field n t b md) tables es pieces e full flat h are =
       let cs : List ArrowColumn = type_columns b t in
       let f = field n t b md in
-      let P : List ArrowColumn → Type 0 = λ ds. ArePiecesOf ds (leaf_types f ++ []) tables pieces in
-      let Q : List TypeTree → Type 0 = λ ts. ArePiecesOf cs ts tables pieces in
+      let P : List ArrowColumn → Type 0 = λ ds. AreFlatPieces ds (leaf_types f ++ []) tables es pieces in
+      let Q : List TypeTree → Type 0 = λ ts. AreFlatPieces cs ts tables es pieces in
       let q : map (raised []) cs ++ [] ≡ cs = append-nil (map (raised []) cs) ∙ raised-none cs in
-      let are' : P (map (raised []) cs ++ []) = subst P (sym q) (subst Q (sym (append-nil (leaf_types f))) are) in
+      let are' : P (map (raised []) cs ++ []) = subst P (sym q) (subst Q (sym (append-nil (leaf_types f))) (flat-pieces cs (leaf_types f) tables es pieces (recursion_from_All (λ c. HasFlatEntries c.data_type) cs flat) are)) in
       let C : List ArrowColumn → Type 0 = λ ds. Cannot (HasFixedList t) ds tables e in
-      subst C q (failed t t b [] [] [] tables pieces e refl full h are')
+      subst C q (failed t t b [] [] [] tables es pieces e refl full h are')

@@ -1,21 +1,22 @@
 -- Slots that go along each way of a field, and are of its kinds, are the field's.
-use Rattle.std.proofs.Common.{◌≡◌, ℕ, zero, suc, ◌+◌, Bool, true, false, IsTrue, List, [], ◌∷◌, ◌++◌, map, refl, arith, ap, ◌∙◌, subst}
+use Rattle.std.proofs.Common.{◌≡◌, ℕ, zero, suc, ◌+◌, Bool, true, IsTrue, List, [], ◌∷◌, ◌++◌, map, refl, arith, ap, ◌∙◌, subst}
 use Rattle.std.specs.List.{AllByRecursion as Each}
 use Rattle.std.proofs.lemmas.List.Elements.{recursion_from_All, All-from_recursion}
 use Rattle.shredding.specs.Along.{IsAlong, along, thin}
 use Rattle.shredding.specs.Shape.{Way, at_leaf, in_list, in_struct, LeafType, Shape, leaf, list, struct, IsOf, AreOf, HasNoEmptyStruct, HaveNoEmptyStruct}
 use Rattle.shredding.specs.Slot.{Slot, Slots, null, value, items, fields, no_slots, slot, slot_at, list_of}
 use Rattle.shredding.proofs.Along.{list_of-slots_of}
-use Rattle.columns_core.specs.Shapes.{leaf_type, type_shape, shapes_of}
+use Rattle.columns_core.specs.Shapes.{base, leaf_type, type_shape, shapes_of}
 use Rattle.columns_core.specs.Tree.{TypeTree, t_list, t_fixed_size_list, t_large_list, t_struct, t_map, t_dictionary, t_extension, field, FieldTrees, no_fields, more_fields}
 use Rattle.columns_slots.specs.Loose.{loose, loose_all}
-use Rattle.pq_headline.specs.Columns.{ArrowColumn, beneath_list, beneath_struct, is_dictionary, small_limit, large_limit, type_columns, columns_from}
+use Rattle.pq_headline.specs.Columns.{ArrowColumn, beneath_list, beneath_struct, has_no_parts, small_limit, large_limit, type_columns, columns_from}
+use Rattle.read_nested.specs.Joined.{HasFlatEntries}
 use Rattle.read_nested.proofs.Built.{some-columns, all-full}
 
--- along the column's way the slot goes, and the column has no dictionary
+-- along the column's way the slot goes, and entries of a dictionary have nothing inside them
 pub record IsReached (s : Slot) (c : ArrowColumn) : Type 0 where
   pub goes : IsAlong (thin c.way) (along c.way s)
-  pub plain : is_dictionary c.data_type ≡ false
+  pub plain : HasFlatEntries c.data_type
 
 each-always : {A : Type 0} (P : A → Type 0) → ((x : A) → P x) → (xs : List A) → Each P xs
 each-always P f [] = tt
@@ -86,6 +87,17 @@ leaf-of b k (value v) h g = h
 leaf-of b k (items ss) h g = absurd h
 leaf-of b k (fields ss) h g = absurd h
 
+-- the entries of a dictionary
+entry-of : (b : Bool) (t : TypeTree) → has_no_parts (base t) ≡ true → (s : Slot) → IsOf (loose (type_shape b t)) s → IsAlong (at_leaf b) (along (at_leaf b) s) → IsOf (type_shape b t) s
+entry-of b (t_extension n t m) e s h g = entry-of b t e s h g
+entry-of b (t_list f) e s h g = absurd (cc e)
+entry-of b (t_large_list f) e s h g = absurd (cc e)
+entry-of b (t_fixed_size_list f n) e s h g = absurd (cc e)
+entry-of b (t_map f k) e s h g = absurd (cc e)
+entry-of b (t_struct fs) e s h g = absurd (cc e)
+entry-of b (t_dictionary k t d) e s h g = absurd (cc e)
+entry-of b t e s h g = leaf-of b (leaf_type t) s h g
+
 zero-plus : (i : ℕ) → 0 + i ≡ i
 zero-plus i = omega arith
 
@@ -103,7 +115,7 @@ mutual
   is-of b (t_struct fs) full (fields ss) h r = are-of fs b zero ss ss (all-full b fs full) h r (λ i. ap (slot_at ss) (zero-plus i))
   is-of b (t_struct fs) full (value v) h r = absurd h
   is-of b (t_struct fs) full (items ss) h r = absurd h
-  is-of b (t_dictionary k t d) full s h r = let p = r.0.plain in absurd (cc p)
+  is-of b (t_dictionary k t d) full s h r = entry-of b t r.0.plain s h r.0.goes
   is-of b (t_extension n t m) full s h r = is-of b t full s h r
   is-of b t full s h r = leaf-of b (leaf_type t) s h r.0.goes
 

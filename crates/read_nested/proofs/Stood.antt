@@ -1,5 +1,5 @@
 -- What stands for what while the array of a field is put together.
-use Rattle.std.proofs.Common.{◌≡◌, ℕ, ◌<◌, Bool, false, is_some, Option, Some, List, [], ◌∷◌, ◌++◌, map, length, refl, arith, ap, sym, ◌∙◌, subst, append_assoc, length-append}
+use Rattle.std.proofs.Common.{◌≡◌, ℕ, ◌<◌, Bool, is_some, Option, Some, List, [], ◌∷◌, ◌++◌, map, length, refl, arith, ap, sym, ◌∙◌, subst, append_assoc, length-append}
 use Rattle.shredding.specs.Along.{thin}
 use Rattle.shredding.specs.Shape.{at_leaf, in_list, in_struct}
 use Rattle.shredding.specs.Shred.{Triple}
@@ -10,8 +10,9 @@ use Rattle.columns_slots.specs.Tree.{ArrayTree}
 use Rattle.read_laws.specs.Column.{slot_of}
 use Rattle.read_laws.specs.State.{Kept, kept_leaf, kept_list, kept_struct, kept_way, leaf_count, StateFits}
 use Rattle.read_pieces.specs.Pieces.{IsPiece}
-use Rattle.pq_headline.specs.Columns.{ArrowColumn, beneath_list, beneath_struct, is_dictionary}
+use Rattle.pq_headline.specs.Columns.{ArrowColumn, beneath_list, beneath_struct}
 use Rattle.read_nested.specs.Above.{Above, above_list, above_struct, way_beneath, raised}
+use Rattle.read_nested.specs.Joined.{HasFlatEntries}
 use Rattle.read_nested.specs.Keeps.{Stands, IsFlat, list_of_part}
 use Rattle.read_nested.specs.Made.{innermost}
 use Rattle.read_nested.proofs.Keeps.{lists-kept, structs-kept}
@@ -39,6 +40,11 @@ pub raised-way : (above : List Above) (c : ArrowColumn) → (raised above c).way
 raised-way [] c = refl
 raised-way (above_list m k ∷ above) c = ap (in_list m) (raised-way above c)
 raised-way (above_struct m k ∷ above) c = ap (in_struct m k) (raised-way above c)
+
+pub raised-type : (above : List Above) (c : ArrowColumn) → (raised above c).data_type ≡ c.data_type
+raised-type [] c = refl
+raised-type (above_list m k ∷ above) c = raised-type above c
+raised-type (above_struct m k ∷ above) c = raised-type above c
 
 -- ---- parts that are those above
 abbrev pub Aligned : List Kept → List Above → Type 0
@@ -182,7 +188,7 @@ pub record IsStood (above : List Above) (c : ArrowColumn) (ts : List Triple) (fr
   pub parts : state ≡ front ++ back
   pub stands : Stands (slot_of leaf) c.way back at n
   pub flat : (i : ℕ) → i < leaf_count state → IsFlat (slot_of leaf i)
-  pub plain : is_dictionary c.data_type ≡ false
+  pub plain : HasFlatEntries c.data_type
 
 abbrev pub AllStood : List Above → List ArrowColumn → List (List Triple) → List Kept → (ℕ → Slot) → ℕ → Type 0
 AllStood above [] [] front at n = Unit {0}

@@ -1,5 +1,5 @@
 -- The array of a field, of one piece of each of its columns, and why there is none (Dremel paper, section 4.3; Arrow columnar format).
-use Rattle.std.specs.Prelude.{◌≡◌, ◌⊎◌, None, List, ◌∷◌, map, All}
+use Rattle.std.specs.Prelude.{◌≡◌, ◌⊎◌, true, Option, List, ◌∷◌, All}
 use Rattle.std.specs.List.{AllZip}
 use Rattle.columns_base.specs.declared.error.Error.{Error}
 use Rattle.columns_base.specs.declared.error.Error.TheVariants.{Memory, OutOfSpec, NotYetImplemented, Overflow}
@@ -8,20 +8,30 @@ use Rattle.columns_base.specs.declared.error.N.TheVariants.{N5}
 use Rattle.columns_base.specs.declared.error.V.TheVariants.{V1}
 use Rattle.shredding.specs.Share.{ColumnsAgree}
 use Rattle.shredding.specs.Shred.{Triple, column}
-use Rattle.columns_core.specs.Shapes.{IsSlotOf}
-use Rattle.columns_core.specs.Tree.{TypeTree, t_list, t_fixed_size_list, t_large_list, t_struct, t_map, t_extension, FieldTree, field, FieldTrees, no_fields, more_fields}
+use Rattle.shredding.specs.Slot.{Value}
+use Rattle.columns_core.specs.Shapes.{base, IsSlotOf}
+use Rattle.columns_core.specs.Tree.{TypeTree, t_list, t_fixed_size_list, t_large_list, t_struct, t_map, t_dictionary, t_extension, FieldTree, field, FieldTrees, no_fields, more_fields}
 use Rattle.columns_slots.specs.Slots.{slots, type_of}
 use Rattle.columns_slots.specs.Tree.{ArrayTree}
 use Rattle.pq_headline.specs.Arrays.{type_in, entries_in}
-use Rattle.pq_headline.specs.Columns.{ArrowColumn, field_columns}
+use Rattle.pq_headline.specs.Columns.{ArrowColumn, field_columns, has_no_parts}
 use Rattle.pq_headline.specs.FieldReasons.{PassesLists}
 
--- The array has the field's type and slots of the field, which shred to these columns, and no dictionary.
-pub record IsArrayOf (f : FieldTree) (tables : List (List Triple)) (a : ArrayTree) : Type 0 where
+-- The array has the field's type and slots of the field, which shred to these columns, and for each column these entries, or no dictionary.
+pub record IsArrayOf (f : FieldTree) (tables : List (List Triple)) (es : List (Option (List (Option Value)))) (a : ArrayTree) : Type 0 where
   pub typed : type_of a ≡ type_in f
   pub slots_are : All (IsSlotOf f) (slots a)
   pub columns : AllZip (λ c ts. column c.way (slots a) ≡ ts) (field_columns f) tables
-  pub entries : entries_in a ≡ map (λ c. None) (field_columns f)
+  pub entries : entries_in a ≡ es
+
+-- the entries of a dictionary have nothing inside them
+abbrev pub HasFlatEntries : TypeTree → Type 0
+HasFlatEntries (t_dictionary key t is_sorted) = has_no_parts (base t) ≡ true
+HasFlatEntries t = Unit {0}
+
+-- those of each of a field's dictionaries
+abbrev pub HaveFlatEntries : FieldTree → Type 0
+HaveFlatEntries f = All (λ c. HasFlatEntries c.data_type) (field_columns f)
 
 -- ---- why there is none
 

@@ -1,18 +1,19 @@
 //! The array of a field.
-ghost use Rattle.std.specs.Prelude.{◌≡◌, ◌⊎◌, ◌≤◌, true, IfOk, IfErr, OnOk, List};
+ghost use Rattle.std.specs.Prelude.{◌≡◌, ◌⊎◌, ◌≤◌, true, IfOk, IfErr, OnOk, List, Option};
 ghost use Rattle.std.specs.Vec.Iter.{into_iter_items};
 ghost use Rattle.columns_core.specs.View.{type_view, field_view, fields_view};
 ghost use Rattle.columns_base.specs.declared.error.Error.{Error};
 ghost use Rattle.columns_base.specs.declared.error.S.{S};
 ghost use Rattle.shredding.specs.Shape.{HasNoEmptyStruct};
 ghost use Rattle.shredding.specs.Shred.{Triple};
+ghost use Rattle.shredding.specs.Slot.{Value};
 ghost use Rattle.columns_core.specs.Measures.{field_nesting};
 ghost use Rattle.columns_core.specs.Shapes.{shape_of};
 ghost use Rattle.columns_core.specs.Tree.{t_list, t_map, t_struct};
 ghost use Rattle.columns_slots.specs.Tree.{no_arrays, more_arrays};
 ghost use Rattle.pq_headline.specs.Columns.{field_columns};
 ghost use Rattle.read_pieces.specs.Pieces.{leaf_types, ArePiecesOf};
-ghost use Rattle.read_nested.specs.Joined.{IsArrayOf, CannotJoin};
+ghost use Rattle.read_nested.specs.Joined.{IsArrayOf, CannotJoin, HaveFlatEntries};
 ghost use Rattle.read_nested.specs.Made.{innermost, IsPopped, IsListOf, IsStructOf, MakesList, RefusesList, RefusesMap, RefusesStruct};
 ghost use Rattle.columns_array.specs.Boxed.{boxed, all_boxed};
 ghost use Rattle.read_nested.specs.Builds.{joined, Builds, BuildsAll, BuildsField, BuildsLeaf, Fails, FailsAll, FailsField, FailsLeaf};
@@ -220,8 +221,8 @@ fn struct_over(alloc: Global, own: &DataType, children: Children) -> Result<Colu
 pub fn create_array(alloc: Global, field: &Field, pieces: Vec<ColumnPiece>) -> Result<ArrayBox>
     requires nesting { field_nesting (field_view field.now) ≤ 128 }
     requires structs { HasNoEmptyStruct (shape_of (field_view field.now)) }
-    ensures ok { (tables : List (List Triple)) → ArePiecesOf (field_columns (field_view field.now)) (leaf_types (field_view field.now)) tables pieces.items → IfOk result (λ a. IsArrayOf (field_view field.now) tables (boxed a)) }
-    ensures err { (tables : List (List Triple)) → ArePiecesOf (field_columns (field_view field.now)) (leaf_types (field_view field.now)) tables pieces.items → IfErr result (CannotJoin (field_view field.now) tables) }
+    ensures ok { (tables : List (List Triple)) (es : List (Option (List (Option Value)))) → HaveFlatEntries (field_view field.now) → ArePiecesOf (field_columns (field_view field.now)) (leaf_types (field_view field.now)) tables es pieces.items → IfOk result (λ a. IsArrayOf (field_view field.now) tables es (boxed a)) }
+    ensures err { (tables : List (List Triple)) (es : List (Option (List (Option Value)))) → HaveFlatEntries (field_view field.now) → ArePiecesOf (field_columns (field_view field.now)) (leaf_types (field_view field.now)) tables es pieces.items → IfErr result (CannotJoin (field_view field.now) tables) }
 {
     items_are_counted();
     let mut left = pieces.into_iter();

@@ -4,11 +4,13 @@ use Rattle.columns_base.specs.declared.error.Error.{Error}
 use Rattle.columns_base.specs.declared.error.Error.TheVariants.{Memory, OutOfSpec, NotYetImplemented, Overflow}
 use Rattle.columns_base.specs.declared.error.S.TheVariants.{S3}
 use Rattle.columns_base.specs.declared.error.N.TheVariants.{N4, N8}
-use Rattle.columns_base.specs.declared.error.V.TheVariants.{V1}
+use Rattle.columns_base.specs.declared.error.V.TheVariants.{V1, V2}
 use Rattle.shredding.specs.Along.{IsAlong}
 use Rattle.shredding.specs.Shred.{Triple, column, max_definition as way_definition, max_repetition as way_repetition}
 use Rattle.shredding.specs.Slot.{Slot, Value}
-use Rattle.columns_core.specs.Shapes.{leaf_type}
+use Rattle.columns_core.specs.Shapes.{base, leaf_type}
+use Rattle.columns_core.specs.Tree.{TypeTree}
+use Rattle.pq_tree.specs.Physical.{Physical}
 use Rattle.pq_tree.specs.Tree.{Leaf, max_definition, max_repetition}
 use Rattle.pq_files.specs.Chunk.{Chunk, triples_of}
 use Rattle.pq_files.specs.Page.{rows_in}
@@ -20,7 +22,7 @@ use Rattle.pq_pages.specs.Outcomes.{Outcome, fails, IsGiven, IsOfLevels}
 use Rattle.read_laws.specs.State.{Kept}
 use Rattle.read_walk.specs.Values.{Stored}
 use Rattle.pq_headline.specs.Columns.{ArrowColumn, is_dictionary, large_limit}
-use Rattle.pq_headline.specs.FieldReasons.{IsOfRows, HasMisplaced, HasN4Page, HasN8, PassesOffsets, ReadsColumn, IsPieceOf}
+use Rattle.pq_headline.specs.FieldReasons.{IsOfRows, HasMisplaced, HasN4Page, HasN8, HasV1, ReadsColumn, IsPieceOf, SomeV2}
 use Rattle.pq_headline.specs.Openings.{leaf_levels, piece_size, HoldsColumn}
 use Rattle.read_pieces.specs.Leaves.{ReadsLeaf}
 use Rattle.read_pieces.specs.Pieces.{IsPiece}
@@ -49,6 +51,19 @@ pub record IsReadable (o : ColumnOpening) (stored : List ℕ → List Stored) (l
   pub failing : All FailsAs o.outcomes
   pub values : ReadsLeaf o.column o.leaf.physical stored limit
   pub direct : is_dictionary o.column.data_type ≡ false
+  pub lists : length o.column.limits ≡ way_repetition o.column.way
+  pub limited : All (λ n. n ≤ large_limit) o.column.limits
+  pub some : o.chunk_size ≢ Some 0
+
+-- The column has this type without its extensions, its leaf this physical type and the levels of the column's way, the source gives pages of these
+-- levels or fails as sources do, each list has offsets of at most 64 bits, and pieces have rows.
+pub record IsColumnOpening (o : ColumnOpening) (t : TypeTree) (p : Physical) : Type 0 where
+  pub typed : o.column.data_type ≡ base t
+  pub physical : o.leaf.physical ≡ p
+  pub repetition : max_repetition o.leaf ≡ way_repetition o.column.way
+  pub definition : max_definition o.leaf ≡ way_definition o.column.way
+  pub levels : All (IsOfLevels (leaf_levels o.leaf)) o.outcomes
+  pub failing : All FailsAs o.outcomes
   pub lists : length o.column.limits ≡ way_repetition o.column.way
   pub limited : All (λ n. n ≤ large_limit) o.column.limits
   pub some : o.chunk_size ≢ Some 0
@@ -89,6 +104,10 @@ pub record IsWhole (o : ColumnOpening) (pieces : List (List Triple)) : Type 0 wh
 
 -- ---- why no piece comes
 
+-- Its arrays pass their offsets, or its dictionary the keys.
+abbrev pub HasTooMany : ColumnOpening → Error → Type 0
+HasTooMany o e = ((e ≡ Overflow V1) × HasV1 o.chunk_size o.column o.leaf o.outcomes) ⊎ ((e ≡ Overflow V2) × SomeV2 (o.column ∷ []) (o.outcomes ∷ []))
+
 -- Want of memory is free. Of the others each comes only so.
 abbrev pub RefusesPiece : ColumnOpening → Error → Type 0
 RefusesPiece o e =
@@ -97,7 +116,7 @@ RefusesPiece o e =
     ⊎ ((e ≡ OutOfSpec S3) × HasMisplaced o.outcomes)
     ⊎ ((e ≡ NotYetImplemented N4) × AnyOf (HasN4Page o.column o.leaf) o.outcomes)
     ⊎ ((e ≡ NotYetImplemented N8) × HasN8 o.leaf o.outcomes)
-    ⊎ ((e ≡ Overflow V1) × PassesOffsets o.chunk_size o.column o.leaf o.outcomes)
+    ⊎ HasTooMany o e
     ⊎ (IsOfRows e × ((rows : List Slot) → AreColumnRows o rows → ⊥))
 
 -- ---- one call

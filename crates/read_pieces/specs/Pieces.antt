@@ -1,10 +1,10 @@
 -- A piece of a column: the triples of some whole rows, and the state and the leaf slots that they were read into (Dremel paper, section 4.3).
-use Rattle.std.specs.Prelude.{◌≡◌, None, List, [], ◌∷◌, ◌++◌, map, length, All}
+use Rattle.std.specs.Prelude.{◌≡◌, Option, List, [], ◌∷◌, ◌++◌, map, length, All}
 use Rattle.shredding.specs.Along.{thin}
 use Rattle.shredding.specs.Local.{IsWithin}
 use Rattle.shredding.specs.Shape.{Way, at_leaf, in_list, in_struct}
 use Rattle.shredding.specs.Shred.{Triple}
-use Rattle.shredding.specs.Slot.{Slot}
+use Rattle.shredding.specs.Slot.{Slot, Value}
 use Rattle.columns_core.specs.Tree.{TypeTree, t_list, t_fixed_size_list, t_large_list, t_struct, t_map, t_extension, FieldTree, field, FieldTrees, no_fields, more_fields}
 use Rattle.columns_array.specs.Boxed.{boxed}
 use Rattle.columns_slots.specs.Slots.{slots, type_of}
@@ -52,14 +52,14 @@ abbrev mutual
   all_leaf_types no_fields = []
   all_leaf_types (more_fields f fs) = leaf_types f ++ all_leaf_types fs
 
--- a piece of the column, and the array of its leaf, which has this type and no dictionary
-pub record IsPieceOf (c : ArrowColumn) (t : TypeTree) (ts : List Triple) (p : ColumnPiece) : Type 0 where
+-- A piece of the column, and the array of its leaf, which has this type. Of a dictionary it has these entries, else none.
+pub record IsPieceOf (c : ArrowColumn) (t : TypeTree) (ts : List Triple) (e : Option (List (Option Value))) (p : ColumnPiece) : Type 0 where
   pub is : IsPiece c.way ts p.nested (slots (boxed p.values))
   pub typed : type_of (boxed p.values) ≡ t
-  pub entries : entries_in (boxed p.values) ≡ None ∷ []
+  pub entries : entries_in (boxed p.values) ≡ e ∷ []
 
 -- one for each column
-abbrev pub ArePiecesOf : List ArrowColumn → List TypeTree → List (List Triple) → List ColumnPiece → Type 0
-ArePiecesOf [] [] [] [] = Unit {0}
-ArePiecesOf (c ∷ cs) (t ∷ types) (ts ∷ tables) (p ∷ ps) = IsPieceOf c t ts p × ArePiecesOf cs types tables ps
-ArePiecesOf _ _ _ _ = ⊥
+abbrev pub ArePiecesOf : List ArrowColumn → List TypeTree → List (List Triple) → List (Option (List (Option Value))) → List ColumnPiece → Type 0
+ArePiecesOf [] [] [] [] [] = Unit {0}
+ArePiecesOf (c ∷ cs) (t ∷ types) (ts ∷ tables) (e ∷ es) (p ∷ ps) = IsPieceOf c t ts e p × ArePiecesOf cs types tables es ps
+ArePiecesOf _ _ _ _ _ = ⊥

@@ -19,7 +19,7 @@ use Rattle.pq_headline.specs.Columns.{ArrowColumn, type_columns, field_columns, 
 use Rattle.pq_headline.specs.Openings.{IsAlike, AreAlike}
 use Rattle.pq_headline.specs.Served.{is_served_type, is_served_field, are_served_fields}
 use Rattle.read_types.specs.LeafTypes.{is_read, reads_interval}
-use Rattle.assembly.specs.Read.{IsLeafRead, IsRead, reads_nodes, reads_nodes_of, reads_nodes_of_all}
+use Rattle.assembly.specs.Read.{IsLeafRead, IsRead, reads_nodes, reads_nodes_of, reads_nodes_of_all, value_type}
 
 -- ---- leaves
 
@@ -203,11 +203,16 @@ mutual
       let a = and_parts _ _ h in
       Each-append IsServedColumn (map (beneath_struct n place) (field_columns f)) (columns_from n (suc place) fs) (served_structs n place (field_columns f) (served_columns f a.0)) (served_from n (suc place) fs a.1)
 
+-- a leaf that is served is no dictionary's
+own_values : (t : TypeTree) (p : Physical) → is_served_type t ≡ true → is_read t p ≡ true → is_read (value_type t) p ≡ true
+own_values (t_dictionary k u s) p served h = absurd (true≢false (sym served))
+own_values t p served h = h
+
 leaves_read : (asked : Asked) (cs : List ArrowColumn) (ls : List Leaf) → AllZip (IsAlike asked) cs ls → Each IsServedColumn cs → AllZip IsLeafRead cs ls
 leaves_read asked [] [] a w = tt
 leaves_read asked [] (l ∷ ls) a w = absurd a
 leaves_read asked (c ∷ cs) [] a w = absurd a
-leaves_read asked (c ∷ cs) (l ∷ ls) a w = (leaf_read (ends_nullable c.way) c.data_type l.physical a.0.row w.0 a.0.has_row a.0.stored, leaves_read asked cs ls a.1 w.1)
+leaves_read asked (c ∷ cs) (l ∷ ls) a w = (own_values c.data_type l.physical w.0 (leaf_read (ends_nullable c.way) c.data_type l.physical a.0.row w.0 a.0.has_row a.0.stored), leaves_read asked cs ls a.1 w.1)
 
 -- ---- nodes
 

@@ -1,5 +1,5 @@
 -- No array of a field passes the offsets or the keys of its type, where its chunks are small.
-use Rattle.std.proofs.Common.{◌≡◌, ◌⊎◌, ℕ, ◌+◌, ◌≤◌, List, [], ◌∷◌, ◌++◌, length, map, take, drop, flat_map, Option, None, sum_by, inl, inr, sym, subst, ap, ◌∙◌, arith}
+use Rattle.std.proofs.Common.{◌≡◌, ◌⊎◌, ℕ, ◌+◌, ◌≤◌, List, [], ◌∷◌, ◌++◌, length, map, take, drop, flat_map, Option, Some, None, sum_by, inl, inr, sym, subst, ap, ◌∙◌, arith}
 use Rattle.std.specs.List.{AllByRecursion, AllZip}
 use Rattle.std.proofs.lemmas.List.{length-append, length-take}
 use Rattle.columns_base.specs.declared.error.Error.{Error}
@@ -46,15 +46,15 @@ within n c l os s k p =
     let b = piece_bounded 3000000 268435456 n p.triples p.piece p.is_piece (k c p.entries p.triples p.reads) in
     elim p.passes [
       | inl lists ↦ few_items c.way 1 c.limits p.piece s.limits b.short lists
-      | inr (inl texts) ↦ absurd (omega (arith, s.texts _ texts, b.texts))
-      | inr (inr entries) ↦ s.entries p.entries entries
+      | inr texts ↦ absurd (omega (arith, s.texts _ texts, b.texts))
     ]
 
 no_v1 : (n : Option ℕ) (cs : List ArrowColumn) (ls : List Leaf) (oss : List (List Outcome)) → AllByRecursion IsSafe cs → AllZip IsSmall ls oss → SomeV1 n cs ls oss → ⊥
 no_v1 n [] ls oss s k h = absurd h
 no_v1 n (c ∷ cs) [] oss s k h = absurd h
 no_v1 n (c ∷ cs) (l ∷ ls) [] s k h = absurd h
-no_v1 n (c ∷ cs) (l ∷ ls) (os ∷ oss) s k (inl h) = within n c l os s.0 k.0 h
+no_v1 n (c ∷ cs) (l ∷ ls) (os ∷ oss) s k (inl (inl h)) = within n c l os s.0 k.0 h
+no_v1 n (c ∷ cs) (l ∷ ls) (os ∷ oss) s k (inl (inr h)) = s.0.entries (Some h.entries) h.long
 no_v1 n (c ∷ cs) (l ∷ ls) (os ∷ oss) s k (inr h) = no_v1 n cs ls oss s.1 k.1 h
 
 no_v2 : (cs : List ArrowColumn) (oss : List (List Outcome)) → AllByRecursion IsSafe cs → SomeV2 cs oss → ⊥

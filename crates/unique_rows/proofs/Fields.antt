@@ -1,21 +1,21 @@
 -- Why a field of a group is refused, in a file that was written for its rows.
-use Rattle.std.proofs.Common.{◌≡◌, ◌⊎◌, ℕ, suc, false, List, [], ◌∷◌, ◌++◌, All, map, length, Option, refl, sym, ap, subst, ◌∙◌, inl, inr, arith}
+use Rattle.std.proofs.Common.{◌≡◌, ◌⊎◌, ℕ, suc, false, true≢false, List, [], ◌∷◌, ◌++◌, All, map, length, Option, Some, refl, sym, ap, subst, ◌∙◌, inl, inr, arith}
 use Rattle.std.proofs.lemmas.List.{length-map}
 use Rattle.std.proofs.lemmas.List.Elements.{All-from_recursion}
 use Rattle.std.specs.List.{AllByRecursion, AllZip}
 use Rattle.shredding.specs.Shape.{AreOf}
-use Rattle.shredding.specs.Slot.{Slot, Slots, no_slots, slot, slot_at}
+use Rattle.shredding.specs.Slot.{Slot, Slots, Value, no_slots, slot, slot_at}
 use Rattle.columns_base.specs.declared.error.Error.{Error}
 use Rattle.columns_base.specs.declared.error.Error.TheVariants.{Memory, Overflow}
 use Rattle.columns_base.specs.declared.error.V.TheVariants.{V1}
 use Rattle.columns_core.specs.Shapes.{IsSlotOf, shapes_of}
-use Rattle.columns_core.specs.Tree.{FieldTree, FieldTrees, more_fields, no_fields}
+use Rattle.columns_core.specs.Tree.{FieldTree, FieldTrees, TypeTree, more_fields, no_fields, t_dictionary}
 use Rattle.pq_metadata.specs.Footer.{ChunkMeta}
 use Rattle.pq_tree.specs.Tree.{Leaf}
 use Rattle.pq_files.specs.Reasons.{AnyOf}
 use Rattle.pq_pages.specs.Outcomes.{Outcome}
-use Rattle.pq_headline.specs.Columns.{ArrowColumn, beneath_struct, columns_from, field_columns}
-use Rattle.pq_headline.specs.FieldReasons.{PassesOffsets, Refuses as RefusesField, SomeV1}
+use Rattle.pq_headline.specs.Columns.{ArrowColumn, beneath_struct, columns_from, field_columns, is_dictionary}
+use Rattle.pq_headline.specs.FieldReasons.{EntriesPass, PassesOffsets, Refuses as RefusesField, SomeV1}
 use Rattle.pq_headline.specs.Lists.{AllZip3}
 use Rattle.pq_headline.specs.Opened.{AreOpened, OpensField, Reads}
 use Rattle.pq_headline.specs.Openings.{AreAlike, IsAlike, Opening}
@@ -63,11 +63,16 @@ pub record ColumnPasses (n : Option ℕ) (rows : List Slot) (c : ArrowColumn) : 
   pub alike : IsAlike asked c leaf
   pub passes : PassesOffsets n c leaf outcomes
 
+short : (t : TypeTree) (entries : List Value) → is_dictionary t ≡ false → EntriesPass t (Some entries) → ⊥
+short (t_dictionary k v s) entries d h = absurd (true≢false d)
+short t entries d h = h
+
 column_passes : (n : Option ℕ) (asked : Asked) (rows : List Slot) (cs : List ArrowColumn) (ls : List Leaf) (outcomes : List (List Outcome)) → AllZip (IsAlike asked) cs ls → AreReadOf rows cs ls outcomes → SomeV1 n cs ls outcomes → AnyOf (ColumnPasses n rows) cs
 column_passes n asked rows [] ls outcomes a r h = h
 column_passes n asked rows (c ∷ cs) [] outcomes a r h = absurd h
 column_passes n asked rows (c ∷ cs) (l ∷ ls) [] a r h = absurd h
-column_passes n asked rows (c ∷ cs) (l ∷ ls) (o ∷ os) a r (inl h) = inl (record { leaf = l; outcomes = o; read = r.0; asked = asked; alike = a.0; passes = h })
+column_passes n asked rows (c ∷ cs) (l ∷ ls) (o ∷ os) a r (inl (inl h)) = inl (record { leaf = l; outcomes = o; read = r.0; asked = asked; alike = a.0; passes = h })
+column_passes n asked rows (c ∷ cs) (l ∷ ls) (o ∷ os) a r (inl (inr h)) = absurd (short c.data_type h.entries r.0.direct h.long)
 column_passes n asked rows (c ∷ cs) (l ∷ ls) (o ∷ os) a r (inr h) = inr (column_passes n asked rows cs ls os a.1 r.1 h)
 
 abbrev pub ForSize : Error → Type 0 → Type 0

@@ -2,7 +2,7 @@
 use Rattle.std.proofs.Common.{◌≡◌, ◌≢◌, ◌⊎◌, ◌+◌, ◌*◌, ◌<◌, ◌≤◌, ℕ, zero, suc, Bool, true, false, true≢false, List, [], ◌∷◌, ◌++◌, length, length-drop, map, flat_map, take, drop, Option, Some, None, refl, sym, ap, subst, ◌∙◌, inl, inr, arith}
 use Rattle.std.proofs.lemmas.List.{map-id, take-map}
 use Rattle.columns_core.specs.Shapes.{leaf_type}
-use Rattle.columns_core.specs.Tree.{FieldTrees, TypeTree, more_fields, no_fields, t_binary, t_dictionary, t_large_binary, t_large_utf8, t_utf8}
+use Rattle.columns_core.specs.Tree.{FieldTrees, TypeTree, more_fields, no_fields, t_binary, t_large_binary, t_large_utf8, t_utf8}
 use Rattle.shredding.proofs.Schema.{own_columns}
 use Rattle.shredding.specs.Cut.{cut, pieces}
 use Rattle.shredding.specs.Shape.{LeafType, Way, in_struct}
@@ -21,7 +21,7 @@ use Rattle.schema_fit.specs.declared.page_table.Row.{Row}
 use Rattle.schema_fit.specs.declared.page_table.Stored.{Stored}
 use Rattle.schema_fit.specs.declared.page_table.Stored.TheVariants as S
 use Rattle.pq_headline.specs.Columns.{ArrowColumn, beneath_struct, columns_from, ends_nullable, field_columns}
-use Rattle.pq_headline.specs.FieldReasons.{EntriesPass, IsPieceOf, PassesLists, PassesTexts, rows_behind}
+use Rattle.pq_headline.specs.FieldReasons.{IsPieceOf, PassesLists, PassesTexts, rows_behind}
 use Rattle.pq_headline.specs.Openings.{IsAlike, leaf_levels}
 use Rattle.pq_headline.specs.Rows.{field_slots}
 use Rattle.unique_rows.proofs.Fields.{ColumnPasses, SomePasses}
@@ -167,11 +167,6 @@ no_texts t_large_utf8 h = omega (arith, h)
 no_texts t_large_binary h = omega (arith, h)
 no_texts t h = h
 
-no_entries : (t : TypeTree) (entries : Option (List Value)) → entries ≡ None → EntriesPass t entries → ⊥
-no_entries (t_dictionary k v s) None e h = h
-no_entries (t_dictionary k v s) (Some vs) e h = cc e
-no_entries t entries e h = h
-
 -- ---- a column
 
 -- it passes in one of these rows
@@ -207,12 +202,11 @@ column_in n i rows c some x = by x.passes.passes
         (whole_texts c.way (field_slots i rows) c.data_type x.passes.triples read.1.rest e)
         (λ before m. slice_texts c.way (field_slots i rows) before m c.data_type x.passes.triples read.1.rest e)
 
-    by : PassesLists c.way 1 c.limits x.passes.piece ⊎ PassesTexts c.data_type (values_in x.passes.piece) ⊎ EntriesPass c.data_type x.passes.entries → AnyOf (λ r. ColumnIn r (beneath_struct false i c)) (cut rows n)
+    by : PassesLists c.way 1 c.limits x.passes.piece ⊎ PassesTexts c.data_type (values_in x.passes.piece) → AnyOf (λ r. ColumnIn r (beneath_struct false i c)) (cut rows n)
     by (inl h) = any_weaker (InArray c.way i (PassesLists c.way 1 c.limits)) (λ r. ColumnIn r (beneath_struct false i c))
         (λ r y. inl (subst (λ (ts : List Triple). PassesLists (in_struct false i c.way) 1 c.limits ts) (sym (own_columns i c.way r)) (lists_beneath c.way i 0 c.limits (column c.way (field_slots i r)) y))) (cut rows n) (in_lists h)
-    by (inr (inl h)) = any_weaker (InArray c.way i (λ ts. PassesTexts c.data_type (values_in ts))) (λ r. ColumnIn r (beneath_struct false i c))
+    by (inr h) = any_weaker (InArray c.way i (λ ts. PassesTexts c.data_type (values_in ts))) (λ r. ColumnIn r (beneath_struct false i c))
         (λ r y. inr (subst (λ (ts : List Triple). PassesTexts c.data_type (values_in ts)) (sym (own_columns i c.way r)) y)) (cut rows n) (in_texts h)
-    by (inr (inr h)) = absurd (no_entries c.data_type x.passes.entries levels.0 h)
 
 -- ---- all columns
 

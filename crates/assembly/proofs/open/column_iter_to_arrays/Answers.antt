@@ -1,4 +1,4 @@
-use Rattle.std.proofs.Common.{◌≡◌, ◌≢◌, ◌∙◌, [], length, map, Some, ap, sym, subst, arith, true≢false}
+use Rattle.std.proofs.Common.{◌≡◌, ◌≢◌, ◌∙◌, [], length, map, Some, is_some, ap, sym, subst, arith, true≢false}
 use Rattle.std.proofs.lemmas.List.{length-map}
 use Rattle.columns_core.specs.View.{field_view}
 use Rattle.assembly.specs.Lanes.{lanes_of}
@@ -43,3 +43,6 @@ returns-in-Ok-open_columns-clause-ok g c = λ o h.
 pub returns-clause-refused : goal.returns-clause-refused
 returns-clause-refused g c = not_read (field_view c.args.field) (map g.I.Pages.outcomes c.args.columns.items) (map physical_in c.args.types.items) c.args.chunk_size c.args.num_rows c.in-Err-open_columns.error
     (rw (c.deref.ensures.value, c.deref-2.ensures.value, c.in-Ok.ensures.ok.0) at c.in-Err-open_columns.ensures.err)
+
+pub invariant_of-result : goal.invariant_of-result
+invariant_of-result g c = (c.requires, ap is_some c.in-Ok.ensures.ok.1)

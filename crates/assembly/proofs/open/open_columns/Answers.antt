@@ -42,3 +42,24 @@ returns-in-Err-clause-err g c =
       | inl m ↦ inl m
       | inr f ↦ inr (fault_at c.args.paths.now c.args.types.now (length c.pop.new.self.items) c.index-paths-i.result c.index-types-i.result c.in-Err.error (omega (arith, c.requires.columns, c.requires.types)) (omega (arith, count, few, c.requires.types)) path_is type_is (subst (λ y. IsNotRead (path_view c.index-paths-i.result) (physical_in y) c.in-Err.error) (sym c.index-types-i.is) f))
     ]
+
+pub bounds-types-i : goal.bounds-types-i
+bounds-types-i g c =
+    let count : length c.columns.columns.items ≡ length c.pop.new.self.items + 1 = ap length c.in-Some.ensures.items ∙ length-append c.pop.new.self.items (c.in-Some.pages ∷ []) in
+    let few = c.columns.invariant.few in
+    let place : c.len-i.result ≡ length c.pop.new.self.items = omega arith in
+    omega (arith, count, few, place, c.requires.types)
+
+pub bounds-types-i-in-Some : goal.bounds-types-i-in-Some
+bounds-types-i-in-Some g c =
+    let count : length c.columns.columns.items ≡ length c.pop.new.self.items + 1 = ap length c.in-Some.ensures.items ∙ length-append c.pop.new.self.items (c.in-Some.pages ∷ []) in
+    let few = c.columns.invariant.few in
+    let place : c.len-i.result ≡ length c.pop.new.self.items = omega arith in
+    omega (arith, count, few, place, c.requires.types)
+
+pub offset_bounds-types-i : goal.offset_bounds-types-i
+offset_bounds-types-i g c =
+    let count : length c.columns.columns.items ≡ length c.pop.new.self.items + 1 = ap length c.in-Some.ensures.items ∙ length-append c.pop.new.self.items (c.in-Some.pages ∷ []) in
+    let few = c.columns.invariant.few in
+    let place : c.len-i.result ≡ length c.pop.new.self.items = omega arith in
+    omega (arith, count, few, place, c.requires.types, c.well_formed)
