@@ -6,8 +6,6 @@ mod filtered;
 mod optional;
 mod picked;
 mod rows;
-#[cfg(test)]
-mod tests;
 mod validity;
 mod zip;
 

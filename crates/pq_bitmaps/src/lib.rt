@@ -9,8 +9,6 @@ mod laws;
 mod part;
 mod runs;
 mod stretch;
-#[cfg(test)]
-mod tests;
 
 pub use filtered::FilteredHybridRleDecoderIter;
 pub use laws::bits_are_spelled;

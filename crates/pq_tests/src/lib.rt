@@ -8,6 +8,8 @@ mod delta_read_tests;
 #[cfg(test)]
 mod delta_tests;
 #[cfg(test)]
+mod filter_tests;
+#[cfg(test)]
 mod number_tests;
 #[cfg(test)]
 mod run_tests;

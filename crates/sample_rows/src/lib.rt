@@ -10,8 +10,6 @@ mod kinds;
 mod laws;
 mod schema;
 mod tags;
-#[cfg(test)]
-mod tests;
 mod totals;
 
 pub use columns::{id_array, items_array, sample_chunk, tag_array};

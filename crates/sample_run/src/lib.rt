@@ -6,8 +6,6 @@ mod call;
 mod options;
 mod read;
 mod rewrite;
-#[cfg(test)]
-mod tests;
 mod write;
 
 pub use call::{Sampled, sample};

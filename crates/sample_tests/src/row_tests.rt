@@ -4,9 +4,9 @@ ghost use Rattle.columns_array.specs.Boxed.{boxed};
 ghost use Rattle.columns_slots.specs.Slots.{type_of};
 ghost use Rattle.sample_rows.specs.Fields.{items_type};
 
-use crate::{count_items, items_array, sample_chunk};
 use columns_array::{ArrayBox, Chunk};
 use columns_base::Error;
+use sample_rows::{count_items, items_array, sample_chunk};
 use std::test::Fail;
 
 type TestResult = Result<(), Fail>;

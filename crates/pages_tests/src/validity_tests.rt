@@ -1,6 +1,6 @@
 //! A page of five values, of which the second, the third and the fifth are there.
-use crate::{FilteredOptionalPageValidity, OptionalPageValidity, PageValidity, Zip};
 use columns_base::{PhysicalType, Result};
+use page_validity::{FilteredOptionalPageValidity, OptionalPageValidity, PageValidity, Zip};
 use pq_bitmaps::FilteredHybridEncoded;
 use pq_pages::DataPage;
 use pq_tree::{DataPageHeader, DataPageHeaderV2, Descriptor, FieldInfo, PrimitiveType, Repetition};

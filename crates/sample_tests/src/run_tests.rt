@@ -1,7 +1,7 @@
 //! The smallest samples.
-use crate::{Sampled, sample};
 use columns_base::Error;
 use rewrite_whole::{NoView, Report};
+use sample_run::{Sampled, sample};
 use std::test::Fail;
 
 type TestResult = Result<(), Fail>;

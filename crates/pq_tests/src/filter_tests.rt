@@ -1,8 +1,8 @@
 //! Bits by hand: 22 is 10110 from the highest bit down, so that the first bits are 0, 1, 1, 0, 1.
-use crate::{
+use columns_base::Result;
+use pq_bitmaps::{
     FilteredHybridEncoded, FilteredHybridRleDecoderIter, HybridDecoderBitmapIter, Interval,
 };
-use columns_base::Result;
 use pq_runs::hybrid_rle::Decoder;
 use std::collections::VecDeque;
 
