@@ -1,5 +1,5 @@
 //! Three rows in pieces of two, by keys of 32 bits.
-use crate::pages::pages;
+use crate::iter_pages::pages;
 use columns_array::{ArrayBox, DictionaryArray};
 use columns_base::{A, Error, PhysicalType, Result};
 use columns_core::{DataType, IntegerType};
