@@ -12,7 +12,7 @@ use columns_array::ArrayBox;
 use columns_base::{Error, Result};
 use columns_core::DataType;
 use read_column::read_entries;
-use read_pieces::{LeafReader, PlainBytes};
+use read_pieces::{LeafReader, PlainBytes, extend_leaf};
 use read_state::{InitNested, NestedState, init_nested};
 use read_types::LeafArray;
 use read_walk::NestedPage;
@@ -45,7 +45,7 @@ fn decode<L: LeafReader>(alloc: Global, leaf: &L, body: &[u8], count: usize) -> 
         values: body,
         bit: 0,
     };
-    match leaf.extend(&mut page, &mut bytes, &mut nested, &mut values, count) {
+    match extend_leaf(leaf, &mut page, &mut bytes, &mut nested, &mut values, count) {
         Ok(()) => Ok(values),
         Err(error) => Err(error),
     }

@@ -5,7 +5,7 @@ use columns_core::DataType;
 use columns_leaf::keys::DictionaryKeys;
 use dictionary_leaves::{entry_array, kept_keys};
 use read_leaf::{NumberValues, Text};
-use read_pieces::{LeafReader, PlainBytes};
+use read_pieces::{LeafReader, PlainBytes, extend_leaf};
 use read_state::{InitNested, init_nested};
 use read_types::{Numbers, Strings};
 use read_walk::NestedPage;
@@ -50,7 +50,7 @@ fn numbers(alloc: Global) -> Result<NumberValues<i8>> {
         values: NUMBERS,
         bit: 0,
     };
-    leaf.extend(&mut page, &mut bytes, &mut nested, &mut values, 4)?;
+    extend_leaf(&leaf, &mut page, &mut bytes, &mut nested, &mut values, 4)?;
     Ok(values)
 }
 

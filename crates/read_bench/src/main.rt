@@ -4,16 +4,20 @@
 //! Counts go to standard output, and times, which differ from run to run, to standard error.
 #![tactic(auto)]
 
+ghost use Rattle.std.specs.Prelude.{◌≡◌, ◌<◌};
+
 use anyhow::Result;
 use columns_core::{MutableBitmap, Offsets};
 use level_sections::write_rep_and_def;
 use levels::{ListNested, Nested, is_well_formed, num_values};
 use pq_tree::Version;
 use read_leaf::{NumberValues, PlainNumbers, PrimitiveDecoder};
-use read_state::{InitNested, init_nested};
+use read_state::{InitNested, Steps, init_nested};
 use read_walk::{NestedPage, extend_levels};
 use std::alloc::Global;
 use std::env;
+use std::marker::Brand;
+use std::sync::ledger::{Blank, Ledger};
 use std::time::Instant;
 
 /// What the lists of a page are like.
@@ -123,8 +127,13 @@ fn page_of(alloc: Global, path: &[Nested]) -> Result<Option<Sections>> {
     }))
 }
 
-// How many slots the leaf gains by all pairs of the page, into a fresh state.
-fn walk(alloc: Global, page: &Sections) -> Result<usize> {
+// How many slots the leaf gains by all pairs of the page, into a fresh state. The steps are counted in a ledger of their own.
+fn walk_in<L: Ledger>(alloc: Global, page: &Sections, blank: Blank) -> Result<usize>
+    requires name { blank.name ≡ L.name }
+    requires parts { blank.parts ≡ L.parts }
+    requires some { 0 < blank.parts }
+{
+    let mut steps: Steps<L> = Steps::new(blank);
     let parts = [InitNested::List(true), InitNested::Primitive(true)];
     let mut nested = init_nested(alloc, &parts, 0)?;
     let mut decoded = NumberValues::<i32>::new(alloc);
@@ -141,8 +150,13 @@ fn walk(alloc: Global, page: &Sections) -> Result<usize> {
         &mut decoded,
         &decoder,
         usize::MAX,
+        &mut steps,
     )?;
     Ok(decoded.len())
+}
+
+fn walk(alloc: Global, page: &Sections) -> Result<usize> {
+    walk_in::<Brand>(alloc, page, Blank::new(1))
 }
 
 // Walks so many pages of the shape.

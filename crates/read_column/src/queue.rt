@@ -9,7 +9,7 @@ ghost use Rattle.read_column.specs.Queues.{begun_queue, closed_queue, ends_in_le
 
 use crate::parts::is_way;
 use columns_base::Result;
-use read_pieces::{LeafReader, PlainBytes};
+use read_pieces::{LeafReader, PlainBytes, extend_leaf};
 use read_state::{InitNested, NestedState, init_nested};
 use read_walk::NestedPage;
 use std::alloc::Global;
@@ -154,7 +154,7 @@ impl<L: LeafReader> Queue<L> {
             left,
         } = self;
         let wanted = rows - nested.len();
-        match leaf.extend(page, bytes, &mut nested, &mut values, wanted) {
+        match extend_leaf(leaf, page, bytes, &mut nested, &mut values, wanted) {
             Ok(()) => Ok(Queue {
                 alloc,
                 parts,

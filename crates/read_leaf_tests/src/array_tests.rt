@@ -7,7 +7,7 @@ use columns_array::ArrayBox;
 use columns_base::{Error, PhysicalType, Result, S};
 use columns_core::{Bitmap, DataType, IntervalUnit, TimeUnit};
 use read_leaf::{Bytes, Text};
-use read_pieces::{LeafReader, PlainBytes};
+use read_pieces::{LeafReader, PlainBytes, extend_leaf};
 use read_state::{InitNested, init_nested};
 use read_types::{LeafArray, LeafKind, Numbers, Strings, Truths};
 use read_walk::NestedPage;
@@ -31,7 +31,7 @@ pub(crate) fn three<L: LeafArray>(
         values: bytes,
         bit: 0,
     };
-    leaf.extend(&mut page, &mut bytes, &mut nested, &mut values, 3)?;
+    extend_leaf(leaf, &mut page, &mut bytes, &mut nested, &mut values, 3)?;
     L::into_array(alloc, values, data_type)
 }
 
@@ -98,7 +98,7 @@ fn next_truths(
 ) -> Result<Bitmap> {
     let mut nested = init_nested(alloc, &[InitNested::Primitive(false)], 0)?;
     let mut values = Truths::begin(alloc)?;
-    Truths.extend(page, bytes, &mut nested, &mut values, rows)?;
+    extend_leaf(&Truths, page, bytes, &mut nested, &mut values, rows)?;
     values.into_parts().0.into_bitmap()
 }
 

@@ -10,7 +10,7 @@ use columns_core::DataType;
 use pq_pages::VecPages;
 use read_leaf::FixedBytesValues;
 use read_leaves::LeafColumn;
-use read_pieces::{LeafReader, PlainBytes};
+use read_pieces::{LeafReader, PlainBytes, extend_leaf};
 use read_state::{InitNested, init_nested};
 use read_types::{FixedBytes, LeafArray, LeafKind};
 use read_walk::NestedPage;
@@ -33,7 +33,7 @@ fn read_strings(
         bit: 0,
     };
     let leaf = FixedBytes { size };
-    leaf.extend(&mut page, &mut bytes, &mut nested, &mut values, rows)?;
+    extend_leaf(&leaf, &mut page, &mut bytes, &mut nested, &mut values, rows)?;
     Ok(values)
 }
 

@@ -7,7 +7,7 @@ use crate::array_tests::three;
 use columns_array::ArrayBox;
 use columns_base::{Error, Result, S};
 use columns_core::{DataType, DaysMs, IntervalUnit};
-use read_pieces::{LeafReader, PlainBytes};
+use read_pieces::{LeafReader, PlainBytes, extend_leaf};
 use read_state::{InitNested, init_nested};
 use read_types::{Fixed, LeafArray, Nulls, Numbers};
 use read_walk::NestedPage;
@@ -177,7 +177,7 @@ fn makes_nulls(alloc: Global, definitions: &[u8], bytes: &[u8]) -> Result<ArrayB
         values: bytes,
         bit: 0,
     };
-    Nulls.extend(&mut page, &mut bytes, &mut nested, &mut values, 3)?;
+    extend_leaf(&Nulls, &mut page, &mut bytes, &mut nested, &mut values, 3)?;
     Nulls::into_array(alloc, values, DataType::Null)
 }
 

@@ -1,7 +1,7 @@
 //! The least and the greatest number of each type as they are stored, and the next ones outside of it (Parquet format, LogicalTypes, "Numeric Types").
 use columns_base::{Error, Result, S};
 use read_leaf::{FromStored, StoredNumber};
-use read_pieces::{LeafReader, PlainBytes};
+use read_pieces::{LeafReader, PlainBytes, extend_leaf};
 use read_state::{InitNested, init_nested};
 use read_types::Numbers;
 use read_walk::NestedPage;
@@ -17,7 +17,7 @@ fn number_of<T: FromStored<P>, P: StoredNumber>(alloc: Global, bytes: &[u8]) -> 
         bit: 0,
     };
     let leaf = Numbers::<T, P>::new();
-    leaf.extend(&mut page, &mut bytes, &mut nested, &mut values, 1)?;
+    extend_leaf(&leaf, &mut page, &mut bytes, &mut nested, &mut values, 1)?;
     let (mut numbers, _validity) = values.into_parts();
     Ok(numbers.pop())
 }

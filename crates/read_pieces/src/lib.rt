@@ -5,5 +5,5 @@
 mod leaf;
 mod piece;
 
-pub use leaf::{LeafReader, PlainBytes};
+pub use leaf::{LeafReader, PlainBytes, extend_leaf};
 pub use piece::ColumnPiece;

@@ -2,3 +2,4 @@ pub mod Kinds
 pub mod Marks
 pub mod Initial
 pub mod Reach
+pub mod Ticks

@@ -7,16 +7,19 @@ ghost use Rattle.read_laws.specs.Step.{bit, is_list};
 ghost use Rattle.read_laws.specs.Block.{pushed_all, block, AllFit};
 ghost use Rattle.read_state.specs.Kinds.{kept_box, all_kept, starts_of, HasLongItems};
 ghost use Rattle.read_state.specs.Marks.{marks_of, hides_at, validities};
+ghost use Rattle.read_state.specs.Ticks.{TicksAtMost};
 
 use crate::boxes::NestedBox;
 use crate::kinds::Nested;
 use crate::lists::push_starts;
 use crate::parts::{bit, both, first_len, pushes};
 use crate::pushes::{more, push_length};
+use crate::steps::Steps;
 use crate::stretch::push_to;
 use crate::words::block_words;
 use columns_base::Result;
 use columns_core::MutableBitmap;
+use std::sync::ledger::Ledger;
 
 // Of each pair whether what it pushes to the part beneath a struct lies beneath a null.
 fn hidden_by_struct(
@@ -371,13 +374,14 @@ fn push_part(
 /// # Errors
 ///
 /// `Memory`; some parts may then have the pushes.
-pub fn block_to(
+pub fn block_to<L: Ledger>(
     parts: &mut [NestedBox],
     reps: &[u32],
     defs: &[u32],
     hidden: &[bool],
     depth: usize,
     def: usize,
+    steps: &mut Steps<L>,
 ) -> Result<()>
     requires reps { length reps.now ≤ 64 }
     requires defs { length defs.now ≡ length reps.now }
@@ -387,6 +391,7 @@ pub fn block_to(
     requires counted { HasLongItems (all_kept parts.old) → ⊥ }
     ensures ok { OnOk result (all_kept parts.new ≡ block (marks_of reps.now defs.now hidden.now) depth def (all_kept parts.old)) }
     ensures err { IfErr result (λ e. e ≡ Error.Memory) }
+    ensures ticked { TicksAtMost (length parts.old) steps.old steps.new }
 {
     let Some((part, rest)) = parts.split_first_mut() else {
         return Ok(());
@@ -397,9 +402,10 @@ pub fn block_to(
     let next_depth = depth + bit(repeated);
     let next_def = def + (bit(nullable) + bit(repeated));
     let first = first_len(rest);
+    steps.tick();
     push_part(part, reps, defs, hidden, depth, def, first)?;
     let beneath = hidden_beneath(reps, defs, hidden, depth, def, nullable, required);
-    block_to(rest, reps, defs, &beneath, next_depth, next_def)
+    block_to(rest, reps, defs, &beneath, next_depth, next_def, steps)
 }
 
 // Whether all pairs are equal.
@@ -426,13 +432,19 @@ fn are_alike(reps: &[u32], defs: &[u32]) -> bool
 /// # Errors
 ///
 /// `Memory`; some parts may then have the pushes.
-pub fn push_all(parts: &mut [NestedBox], reps: &[u32], defs: &[u32]) -> Result<()>
+pub fn push_all<L: Ledger>(
+    parts: &mut [NestedBox],
+    reps: &[u32],
+    defs: &[u32],
+    steps: &mut Steps<L>,
+) -> Result<()>
     requires reps { length reps.now ≤ 64 }
     requires defs { length defs.now ≡ length reps.now }
     requires fits { AllFit (marks_of reps.now defs.now (replicate 64 false)) (all_kept parts.old) }
     requires counted { HasLongItems (all_kept parts.old) → ⊥ }
     ensures ok { OnOk result (all_kept parts.new ≡ block (marks_of reps.now defs.now (replicate 64 false)) 0 0 (all_kept parts.old)) }
     ensures err { IfErr result (λ e. e ≡ Error.Memory) }
+    ensures ticked { TicksAtMost (length parts.old) steps.old steps.new }
 {
     if reps.len() == 0 {
         return Ok(());
@@ -446,10 +458,11 @@ pub fn push_all(parts: &mut [NestedBox], reps: &[u32], defs: &[u32]) -> Result<(
             0,
             0,
             reps.len(),
+            steps,
         );
     }
     let hidden = [false; 64];
-    block_to(parts, reps, defs, &hidden, 0, 0)
+    block_to(parts, reps, defs, &hidden, 0, 0, steps)
 }
 
 /// Pushes so many equal pairs to all parts of a state.
@@ -457,12 +470,19 @@ pub fn push_all(parts: &mut [NestedBox], reps: &[u32], defs: &[u32]) -> Result<(
 /// # Errors
 ///
 /// `Memory`; some parts may then have the pushes.
-pub fn push_equal(parts: &mut [NestedBox], rep: usize, level: usize, count: usize) -> Result<()>
+pub fn push_equal<L: Ledger>(
+    parts: &mut [NestedBox],
+    rep: usize,
+    level: usize,
+    count: usize,
+    steps: &mut Steps<L>,
+) -> Result<()>
     requires few { count ≤ 2 ^ 31 }
     requires fits { AllFit (marks_of (replicate count rep) (replicate count level) (replicate count false)) (all_kept parts.old) }
     requires counted { HasLongItems (all_kept parts.old) → ⊥ }
     ensures ok { OnOk result (all_kept parts.new ≡ block (marks_of (replicate count rep) (replicate count level) (replicate count false)) 0 0 (all_kept parts.old)) }
     ensures err { IfErr result (λ e. e ≡ Error.Memory) }
+    ensures ticked { TicksAtMost (length parts.old) steps.old steps.new }
 {
-    push_to(parts, rep, level, false, 0, 0, count)
+    push_to(parts, rep, level, false, 0, 0, count, steps)
 }

@@ -14,6 +14,7 @@ mod nested;
 mod parts;
 mod pushes;
 mod same;
+mod steps;
 mod stretch;
 mod words;
 
@@ -24,4 +25,5 @@ pub use kinds::{
 };
 pub use laws::states_begin_empty;
 pub use nested::NestedState;
+pub use steps::Steps;
 pub use words::{levels_at, levels_from, levels_to};

@@ -10,14 +10,17 @@ ghost use Rattle.read_laws.specs.Step.{bit, pushed};
 ghost use Rattle.read_laws.specs.Block.{block, AllFit};
 ghost use Rattle.read_state.specs.Kinds.{all_kept, kept_box, part_at, HasLongItems};
 ghost use Rattle.read_state.specs.Marks.{marks_of};
+ghost use Rattle.read_state.specs.Ticks.{TicksAtMost};
 
 use crate::block::{push_all, push_equal};
 use crate::boxes::NestedBox;
 use crate::kinds::Nested;
 use crate::parts::{has_long_items, inside_of, leaf_len_of, lists_of, top_of};
 use crate::same::same_parts;
+use crate::steps::Steps;
 use columns_base::{Error, Result, V};
 use std::marker::Model;
+use std::sync::ledger::Ledger;
 
 /// What level pairs have built so far: a part for each node of the way to a leaf, the row's first. Contracts see what the parts keep.
 #[derive(Debug, Drop)]
@@ -93,82 +96,112 @@ impl NestedState {
         same_parts(&self.nested, &other.nested)
     }
 
-    /// One push more to the part at this place: the length of the part beneath it, and whether the slot is there.
+    /// One push more to the part at this place: the length of the part beneath it, and whether the slot is there. One step.
     ///
     /// # Errors
     ///
     /// `Memory`; the state is then as before.
-    pub fn push_at(&mut self, depth: usize, length: i64, is_valid: bool) -> Result<()>
+    pub fn push_at<L: Ledger>(
+        &mut self,
+        depth: usize,
+        length: i64,
+        is_valid: bool,
+        steps: &mut Steps<L>,
+    ) -> Result<()>
         requires within { depth < list_length self.old }
         requires counted { size (part_at self.old depth) < 2 ^ 64 - 1 }
         ensures ok { OnOk result (self.new ≡ slice_set self.old depth (pushed (part_at self.old depth) (cast_unsigned w64 length) 0 is_valid 1)) }
         ensures err { IfErr result (λ e. (e ≡ Error.Memory) × (self.new ≡ self.old)) }
+        ensures ticked { steps.new ≡ steps.old + 1 }
     {
-        self.push_run_at(depth, length.cast_unsigned() as usize, false, is_valid, 1)
+        self.push_run_at(
+            depth,
+            length.cast_unsigned() as usize,
+            false,
+            is_valid,
+            1,
+            steps,
+        )
     }
 
     /// `count` pushes more to the part at this place: the first where the part beneath has the length `first`, each other where it has one more
-    /// than at the one before if it `grows`, and else the same.
+    /// than at the one before if it `grows`, and else the same. One step for them all.
     ///
     /// # Errors
     ///
     /// `Memory`; the state is then as before.
-    pub fn push_run_at(
+    pub fn push_run_at<L: Ledger>(
         &mut self,
         depth: usize,
         first: usize,
         grows: bool,
         is_valid: bool,
         count: usize,
+        steps: &mut Steps<L>,
     ) -> Result<()>
         requires within { depth < list_length self.old }
         requires fits { first + count ≤ 2 ^ 64 }
         ensures ok { OnOk result (self.new ≡ slice_set self.old depth (pushed (part_at self.old depth) first (bit grows) is_valid count)) }
         ensures err { IfErr result (λ e. (e ≡ Error.Memory) × (self.new ≡ self.old)) }
+        ensures ticked { steps.new ≡ steps.old + 1 }
     {
+        steps.tick();
         self.nested[depth].push_run(first, grows, is_valid, count)
     }
 
-    /// Pushes a block of at most 64 pairs to all parts.
+    /// Pushes a block of at most 64 pairs to all parts. At most one step for each part.
     ///
     /// # Errors
     ///
     /// `Memory`, and V1 where with these pairs a part beneath a list has more slots than offsets of 64 bits count. Some parts may then have the
     /// pushes.
-    pub fn push_levels(&mut self, reps: &[u32], defs: &[u32]) -> Result<()>
+    pub fn push_levels<L: Ledger>(
+        &mut self,
+        reps: &[u32],
+        defs: &[u32],
+        steps: &mut Steps<L>,
+    ) -> Result<()>
         requires reps { list_length reps.now ≤ 64 }
         requires defs { list_length defs.now ≡ list_length reps.now }
         requires fits { AllFit (marks_of reps.now defs.now (replicate 64 false)) self.old }
         ensures ok { OnOk result (self.new ≡ block (marks_of reps.now defs.now (replicate 64 false)) 0 0 self.old) }
         ensures counted { OnOk result (HasLongItems self.new → ⊥) }
         ensures err { IfErr result (λ e. (e ≡ Error.Memory) ⊎ ((e ≡ Error.Overflow V.V1) × HasLongItems (block (marks_of reps.now defs.now (replicate 64 false)) 0 0 self.old))) }
+        ensures ticked { TicksAtMost (list_length self.old) steps.old steps.new }
     {
         if has_long_items(&self.nested) {
             return Err(Error::Overflow(V::V1));
         }
-        push_all(&mut self.nested, reps, defs)?;
+        push_all(&mut self.nested, reps, defs, steps)?;
         if has_long_items(&self.nested) {
             return Err(Error::Overflow(V::V1));
         }
         Ok(())
     }
-    /// Pushes `count` equal pairs to all parts.
+    /// Pushes `count` equal pairs to all parts. At most one step for each part.
     ///
     /// # Errors
     ///
     /// `Memory`, and V1 where with these pairs a part beneath a list has more slots than offsets of 64 bits count. Some parts may then have the
     /// pushes.
-    pub fn push_equal(&mut self, rep: usize, level: usize, count: usize) -> Result<()>
+    pub fn push_equal<L: Ledger>(
+        &mut self,
+        rep: usize,
+        level: usize,
+        count: usize,
+        steps: &mut Steps<L>,
+    ) -> Result<()>
         requires few { count ≤ 2 ^ 31 }
         requires fits { AllFit (marks_of (replicate count rep) (replicate count level) (replicate count false)) self.old }
         ensures ok { OnOk result (self.new ≡ block (marks_of (replicate count rep) (replicate count level) (replicate count false)) 0 0 self.old) }
         ensures counted { OnOk result (HasLongItems self.new → ⊥) }
         ensures err { IfErr result (λ e. (e ≡ Error.Memory) ⊎ ((e ≡ Error.Overflow V.V1) × HasLongItems (block (marks_of (replicate count rep) (replicate count level) (replicate count false)) 0 0 self.old))) }
+        ensures ticked { TicksAtMost (list_length self.old) steps.old steps.new }
     {
         if has_long_items(&self.nested) {
             return Err(Error::Overflow(V::V1));
         }
-        push_equal(&mut self.nested, rep, level, count)?;
+        push_equal(&mut self.nested, rep, level, count, steps)?;
         if has_long_items(&self.nested) {
             return Err(Error::Overflow(V::V1));
         }

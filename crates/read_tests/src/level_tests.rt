@@ -1,10 +1,14 @@
 //! Sixteen level pairs of optional lists of optional structs of an optional list of optional numbers.
+ghost use Rattle.std.specs.Prelude.{◌≡◌, ◌<◌};
+
 use columns_base::Result;
 use columns_core::{Bitmap, MutableBitmap};
 use read_leaf::{NumberValues, PlainNumbers, PrimitiveDecoder};
-use read_state::{InitNested, Nested, NestedBox, NestedState, init_nested};
+use read_state::{InitNested, Nested, NestedBox, NestedState, Steps, init_nested};
 use read_walk::{NestedPage, extend_levels};
 use std::alloc::Global;
+use std::marker::Brand;
+use std::sync::ledger::{Blank, Ledger};
 
 const PARTS: [InitNested; 4] = [
     InitNested::List(true),
@@ -29,12 +33,18 @@ const VALUES: &[u8] = &[
     10, 0, 0, 0, 11, 0, 0, 0, 12, 0, 0, 0, 13, 0, 0, 0, 14, 0, 0, 0, 15, 0, 0, 0, 16, 0, 0, 0,
 ];
 
-// What the pairs build, walked by so many rows and then by so many more.
-fn walk(
+// What the pairs build, walked by so many rows and then by so many more. The steps of both are counted in one ledger of their own.
+fn walk_in<L: Ledger>(
     alloc: Global,
     sections: (&[u8], &[u8]),
     rows: (usize, usize),
-) -> Result<(NestedState, NumberValues<i32>)> {
+    blank: Blank,
+) -> Result<(NestedState, NumberValues<i32>)>
+    requires name { blank.name ≡ L.name }
+    requires parts { blank.parts ≡ L.parts }
+    requires some { 0 < blank.parts }
+{
+    let mut steps: Steps<L> = Steps::new(blank);
     let mut nested = init_nested(alloc, &PARTS, 0)?;
     let mut decoded = NumberValues::<i32>::new(alloc);
     let mut page = NestedPage::try_new(sections.0, 2, sections.1, 6, 16)?;
@@ -47,6 +57,7 @@ fn walk(
         &mut decoded,
         &decoder,
         rows.0,
+        &mut steps,
     )?;
     extend_levels(
         &mut page,
@@ -55,8 +66,17 @@ fn walk(
         &mut decoded,
         &decoder,
         rows.1,
+        &mut steps,
     )?;
     Ok((nested, decoded))
+}
+
+fn walk(
+    alloc: Global,
+    sections: (&[u8], &[u8]),
+    rows: (usize, usize),
+) -> Result<(NestedState, NumberValues<i32>)> {
+    walk_in::<Brand>(alloc, sections, rows, Blank::new(1))
 }
 
 // As many bits as places, the lowest for the first.

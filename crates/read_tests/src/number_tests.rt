@@ -1,10 +1,14 @@
 //! Lists of numbers.
+ghost use Rattle.std.specs.Prelude.{◌≡◌, ◌<◌};
+
 use columns_base::{Error, Result, S};
 use columns_core::MutableBitmap;
 use read_leaf::{NumberValues, PlainNumbers, PrimitiveDecoder};
-use read_state::{InitNested, Nested, NestedBox, NestedState, init_nested};
+use read_state::{InitNested, Nested, NestedBox, NestedState, Steps, init_nested};
 use read_walk::{NestedPage, extend_levels};
 use std::alloc::Global;
+use std::marker::Brand;
+use std::sync::ledger::{Blank, Ledger};
 
 // The rows [1, null], null, [], [2].
 const REPS: &[u8] = &[3, 0b0000_0010];
@@ -13,14 +17,20 @@ const DEFS: &[u8] = &[3, 75, 3];
 
 const VALUES: &[u8] = &[1, 0, 0, 0, 2, 0, 0, 0];
 
-// The walk of so many rows of a nullable list of nullable numbers, from a page of so many pairs.
-fn walk(
+// The walk of so many rows of a nullable list of nullable numbers, from a page of so many pairs. Its steps are counted in a ledger of their own.
+fn walk_in<L: Ledger>(
     alloc: Global,
     sections: (&[u8], &[u8]),
     count: usize,
     values: &[u8],
     rows: usize,
-) -> Result<(NestedState, NumberValues<i16>)> {
+    blank: Blank,
+) -> Result<(NestedState, NumberValues<i16>)>
+    requires name { blank.name ≡ L.name }
+    requires parts { blank.parts ≡ L.parts }
+    requires some { 0 < blank.parts }
+{
+    let mut steps: Steps<L> = Steps::new(blank);
     let mut nested = init_nested(
         alloc,
         &[InitNested::List(true), InitNested::Primitive(true)],
@@ -37,8 +47,19 @@ fn walk(
         &mut decoded,
         &decoder,
         rows,
+        &mut steps,
     )?;
     Ok((nested, decoded))
+}
+
+fn walk(
+    alloc: Global,
+    sections: (&[u8], &[u8]),
+    count: usize,
+    values: &[u8],
+    rows: usize,
+) -> Result<(NestedState, NumberValues<i16>)> {
+    walk_in::<Brand>(alloc, sections, count, values, rows, Blank::new(1))
 }
 
 // As many truth values are false.

@@ -1,17 +1,30 @@
 //! Texts that a struct has.
+ghost use Rattle.std.specs.Prelude.{◌≡◌, ◌<◌};
+
 use columns_base::{Error, Result, S};
 use read_leaf::{PlainStrings, StringDecoder, StringValues, Text};
-use read_state::{InitNested, NestedState, init_nested};
+use read_state::{InitNested, NestedState, Steps, init_nested};
 use read_walk::{NestedPage, extend_levels};
 use std::alloc::Global;
+use std::marker::Brand;
+use std::sync::ledger::{Blank, Ledger};
 
 // The texts "a", null, "bc" of a struct that is required.
 const DEFS: &[u8] = &[3, 0b0000_0101];
 
 const VALUES: &[u8] = &[1, 0, 0, 0, 97, 2, 0, 0, 0, 98, 99];
 
-// The walk of all rows of a required struct with a nullable text.
-fn walk(alloc: Global, values: &[u8]) -> Result<(NestedState, StringValues<i32, Text>)> {
+// The walk of all rows of a required struct with a nullable text. Its steps are counted in a ledger of their own.
+fn walk_in<L: Ledger>(
+    alloc: Global,
+    values: &[u8],
+    blank: Blank,
+) -> Result<(NestedState, StringValues<i32, Text>)>
+    requires name { blank.name ≡ L.name }
+    requires parts { blank.parts ≡ L.parts }
+    requires some { 0 < blank.parts }
+{
+    let mut steps: Steps<L> = Steps::new(blank);
     let mut nested = init_nested(
         alloc,
         &[InitNested::Struct(false), InitNested::Primitive(true)],
@@ -28,8 +41,13 @@ fn walk(alloc: Global, values: &[u8]) -> Result<(NestedState, StringValues<i32, 
         &mut decoded,
         &decoder,
         3,
+        &mut steps,
     )?;
     Ok((nested, decoded))
+}
+
+fn walk(alloc: Global, values: &[u8]) -> Result<(NestedState, StringValues<i32, Text>)> {
+    walk_in::<Brand>(alloc, values, Blank::new(1))
 }
 
 fn reads_texts(alloc: Global) -> Result<bool> {

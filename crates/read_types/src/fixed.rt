@@ -1,5 +1,5 @@
 //! Intervals, and decimals over fixed bytes.
-ghost use Rattle.std.specs.Prelude.{◌≡◌, ◌⊎◌, ℕ, List, [], true, false, length, map, OnOk, IfOk, IfErr};
+ghost use Rattle.std.specs.Prelude.{◌≡◌, ◌⊎◌, ◌*◌, ℕ, List, [], true, false, length, map, OnOk, IfOk, IfErr};
 ghost use Rattle.columns_base.specs.declared.error.Error.TheVariants.{Memory, OutOfSpec};
 ghost use Rattle.columns_base.specs.declared.error.S.TheVariants.{S6, S7};
 ghost use Rattle.columns_core.specs.Shapes.{base};
@@ -8,6 +8,8 @@ ghost use Rattle.columns_array.specs.Boxed.{boxed};
 ghost use Rattle.read_laws.specs.State.{leaf_count, StateFits};
 ghost use Rattle.read_leaf.specs.Fixed.{stored_fixed, value_slots};
 ghost use Rattle.read_pieces.specs.Leaves.{AreEights, BeginsOutside, BeginsWithValue, in_bytes};
+ghost use Rattle.read_state.specs.Ticks.{TicksAtMost};
+ghost use Rattle.read_walk.specs.Ticks.{TicksEach};
 ghost use Rattle.read_walk.specs.Walk.{Extends, Refuses};
 ghost use Rattle.read_types.specs.Arrays.{IsLeafArray, makes_fixed};
 
@@ -18,10 +20,11 @@ use columns_base::{Error, Result, S};
 use columns_core::DataType;
 use read_leaf::{FixedDecoder, FixedValue, NumberValues, PlainNumbers};
 use read_pieces::{LeafReader, PlainBytes};
-use read_state::NestedState;
+use read_state::{NestedState, Steps};
 use read_walk::{NestedPage, extend_levels};
 use std::alloc::Global;
 use std::marker::PhantomData;
+use std::sync::ledger::Ledger;
 
 /// Reads values of `T` that are stored as so many bytes each (Parquet format, LogicalTypes, "INTERVAL" and "DECIMAL").
 #[derive(Drop)]
@@ -90,18 +93,21 @@ impl<T: FixedValue> LeafReader for Fixed<T> {
         first_size::<T>(bytes, self.size)
     }
 
-    fn extend<'a, 'b>(
+    fn extend<'a, 'b, L: Ledger>(
         &self,
         page: &mut NestedPage<'a>,
         bytes: &mut PlainBytes<'b>,
         nested: &mut NestedState,
         values: &mut NumberValues<T>,
         additional: usize,
+        steps: &mut Steps<L>,
     ) -> Result<()>
         requires fits { StateFits nested.old }
         requires decoded { length (value_slots (map T.held values.old.0) values.old.1) ≡ leaf_count nested.old }
         ensures ok { OnOk result (Extends additional page.old page.new (stored_fixed T.loaded self.now.size bytes.old.values.now) (stored_fixed T.loaded self.now.size bytes.new.values.now) nested.old nested.new (value_slots (map T.held values.old.0) values.old.1) (value_slots (map T.held values.new.0) values.new.1)) }
         ensures err { IfErr result (Refuses 0 additional page.old (stored_fixed T.loaded self.now.size bytes.old.values.now) nested.old (value_slots (map T.held values.old.0) values.old.1)) }
+        ensures ticked { OnOk result (TicksEach (length nested.old) page.old page.new steps.old steps.new) }
+        ensures bounded { TicksAtMost (length nested.old * length page.old) steps.old steps.new }
     {
         let mut left = PlainNumbers {
             values: bytes.values,
@@ -110,7 +116,7 @@ impl<T: FixedValue> LeafReader for Fixed<T> {
             size: self.size,
             value: PhantomData,
         };
-        let result = extend_levels(page, &mut left, nested, values, &decoder, additional);
+        let result = extend_levels(page, &mut left, nested, values, &decoder, additional, steps);
         bytes.values = left.values;
         result
     }

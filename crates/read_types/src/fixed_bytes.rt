@@ -1,5 +1,5 @@
 //! Byte strings of one size.
-ghost use Rattle.std.specs.Prelude.{◌≡◌, ◌⊎◌, ℕ, List, [], Some, true, false, length, OnOk, IfOk, IfErr};
+ghost use Rattle.std.specs.Prelude.{◌≡◌, ◌⊎◌, ◌*◌, ℕ, List, [], Some, true, false, length, OnOk, IfOk, IfErr};
 ghost use Rattle.columns_base.specs.declared.error.Error.TheVariants.{Memory, OutOfSpec};
 ghost use Rattle.columns_base.specs.declared.error.S.TheVariants.{S6, S7};
 ghost use Rattle.columns_core.specs.Shapes.{base};
@@ -10,6 +10,8 @@ ghost use Rattle.read_laws.specs.State.{leaf_count, StateFits};
 ghost use Rattle.read_leaf.specs.Fixed.{stored_fixed};
 ghost use Rattle.read_leaf.specs.FixedBytes.{chunk_slots, loaded_bytes};
 ghost use Rattle.read_pieces.specs.Leaves.{AreEights, BeginsOutside, BeginsWithValue, in_bytes};
+ghost use Rattle.read_state.specs.Ticks.{TicksAtMost};
+ghost use Rattle.read_walk.specs.Ticks.{TicksEach};
 ghost use Rattle.read_walk.specs.Walk.{Extends, Refuses};
 ghost use Rattle.read_types.specs.Arrays.{IsLeafArray, makes_chunks};
 
@@ -20,9 +22,10 @@ use columns_core::{Bitmap, DataType};
 use columns_leaf::FixedSizeBinaryArray;
 use read_leaf::{FixedBytesDecoder, FixedBytesValues, PlainStrings};
 use read_pieces::{LeafReader, PlainBytes};
-use read_state::NestedState;
+use read_state::{NestedState, Steps};
 use read_walk::{NestedPage, extend_levels};
 use std::alloc::Global;
+use std::sync::ledger::Ledger;
 
 /// Reads byte strings of so many bytes each, which are stored as they are (Parquet format, Encodings, "Plain", FIXED_LEN_BYTE_ARRAY).
 #[derive(Drop)]
@@ -87,24 +90,27 @@ impl LeafReader for FixedBytes {
         chunk_size(bytes, self.size)
     }
 
-    fn extend<'a, 'b>(
+    fn extend<'a, 'b, L: Ledger>(
         &self,
         page: &mut NestedPage<'a>,
         bytes: &mut PlainBytes<'b>,
         nested: &mut NestedState,
         values: &mut FixedBytesValues,
         additional: usize,
+        steps: &mut Steps<L>,
     ) -> Result<()>
         requires fits { StateFits nested.old }
         requires decoded { length (chunk_slots values.old.0 values.old.1.0 values.old.1.1) ≡ leaf_count nested.old }
         ensures ok { OnOk result (Extends additional page.old page.new (stored_fixed loaded_bytes self.now.size bytes.old.values.now) (stored_fixed loaded_bytes self.now.size bytes.new.values.now) nested.old nested.new (chunk_slots values.old.0 values.old.1.0 values.old.1.1) (chunk_slots values.new.0 values.new.1.0 values.new.1.1)) }
         ensures err { IfErr result (Refuses 0 additional page.old (stored_fixed loaded_bytes self.now.size bytes.old.values.now) nested.old (chunk_slots values.old.0 values.old.1.0 values.old.1.1)) }
+        ensures ticked { OnOk result (TicksEach (length nested.old) page.old page.new steps.old steps.new) }
+        ensures bounded { TicksAtMost (length nested.old * length page.old) steps.old steps.new }
     {
         let mut left = PlainStrings {
             values: bytes.values,
         };
         let decoder = FixedBytesDecoder { size: self.size };
-        let result = extend_levels(page, &mut left, nested, values, &decoder, additional);
+        let result = extend_levels(page, &mut left, nested, values, &decoder, additional, steps);
         bytes.values = left.values;
         result
     }

@@ -1,5 +1,5 @@
 //! Nulls alone.
-ghost use Rattle.std.specs.Prelude.{◌≡◌, ◌⊎◌, ℕ, List, [], None, true, false, length, replicate, OnOk, IfOk, IfErr};
+ghost use Rattle.std.specs.Prelude.{◌≡◌, ◌⊎◌, ◌*◌, ℕ, List, [], None, true, false, length, replicate, OnOk, IfOk, IfErr};
 ghost use Rattle.columns_base.specs.declared.error.Error.TheVariants.{Memory, OutOfSpec};
 ghost use Rattle.columns_base.specs.declared.error.S.TheVariants.{S6, S7};
 ghost use Rattle.columns_core.specs.Shapes.{base};
@@ -11,6 +11,8 @@ ghost use Rattle.read_laws.specs.State.{leaf_count, StateFits};
 ghost use Rattle.read_leaf.specs.Numbers.{stored_numbers};
 ghost use Rattle.read_leaf.specs.PlainValues.{spelled_32};
 ghost use Rattle.read_pieces.specs.Leaves.{AreEights, BeginsOutside, BeginsWithValue, in_bytes};
+ghost use Rattle.read_state.specs.Ticks.{TicksAtMost};
+ghost use Rattle.read_walk.specs.Ticks.{TicksEach};
 ghost use Rattle.read_walk.specs.Walk.{Extends, Refuses};
 ghost use Rattle.read_types.specs.Arrays.{IsLeafArray};
 
@@ -21,9 +23,10 @@ use columns_core::DataType;
 use columns_leaf::NullArray;
 use read_leaf::{NullDecoder, NullValues, PlainNumbers};
 use read_pieces::{LeafReader, PlainBytes};
-use read_state::NestedState;
+use read_state::{NestedState, Steps};
 use read_walk::{NestedPage, extend_levels};
 use std::alloc::Global;
+use std::sync::ledger::Ledger;
 
 /// Reads a column that has nulls alone: no number that stands in its pages is a value.
 #[derive(Drop)]
@@ -85,23 +88,34 @@ impl LeafReader for Nulls {
         Err(reason_of(bytes))
     }
 
-    fn extend<'a, 'b>(
+    fn extend<'a, 'b, L: Ledger>(
         &self,
         page: &mut NestedPage<'a>,
         bytes: &mut PlainBytes<'b>,
         nested: &mut NestedState,
         values: &mut NullValues,
         additional: usize,
+        steps: &mut Steps<L>,
     ) -> Result<()>
         requires fits { StateFits nested.old }
         requires decoded { length (replicate values.old.count null) ≡ leaf_count nested.old }
         ensures ok { OnOk result (Extends additional page.old page.new (stored_numbers (λ z. None) spelled_32 4 bytes.old.values.now) (stored_numbers (λ z. None) spelled_32 4 bytes.new.values.now) nested.old nested.new (replicate values.old.count null) (replicate values.new.count null)) }
         ensures err { IfErr result (Refuses 1 additional page.old (stored_numbers (λ z. None) spelled_32 4 bytes.old.values.now) nested.old (replicate values.old.count null)) }
+        ensures ticked { OnOk result (TicksEach (length nested.old) page.old page.new steps.old steps.new) }
+        ensures bounded { TicksAtMost (length nested.old * length page.old) steps.old steps.new }
     {
         let mut left = PlainNumbers {
             values: bytes.values,
         };
-        let result = extend_levels(page, &mut left, nested, values, &NullDecoder, additional);
+        let result = extend_levels(
+            page,
+            &mut left,
+            nested,
+            values,
+            &NullDecoder,
+            additional,
+            steps,
+        );
         bytes.values = left.values;
         result
     }

@@ -1,5 +1,5 @@
 //! Numbers.
-ghost use Rattle.std.specs.Prelude.{◌≡◌, ◌⊎◌, ◌≤◌, ℕ, List, [], ◌∷◌, Some, None, true, false, length, map, take, MatchOption, OnOk, IfOk, IfErr};
+ghost use Rattle.std.specs.Prelude.{◌≡◌, ◌⊎◌, ◌*◌, ◌≤◌, ℕ, List, [], ◌∷◌, Some, None, true, false, length, map, take, MatchOption, OnOk, IfOk, IfErr};
 ghost use Rattle.columns_base.specs.declared.error.Error.TheVariants.{Memory, OutOfSpec};
 ghost use Rattle.columns_base.specs.declared.error.S.TheVariants.{S6, S7};
 ghost use Rattle.columns_core.specs.Shapes.{base};
@@ -8,6 +8,8 @@ ghost use Rattle.columns_array.specs.Boxed.{boxed};
 ghost use Rattle.read_laws.specs.State.{leaf_count, StateFits};
 ghost use Rattle.read_leaf.specs.Numbers.{number_slots, stored_numbers};
 ghost use Rattle.read_pieces.specs.Leaves.{AreEights, BeginsOutside, BeginsWithValue, in_bytes};
+ghost use Rattle.read_state.specs.Ticks.{TicksAtMost};
+ghost use Rattle.read_walk.specs.Ticks.{TicksEach};
 ghost use Rattle.read_walk.specs.Walk.{Extends, Refuses};
 ghost use Rattle.read_types.specs.Arrays.{IsLeafArray, makes_numbers};
 
@@ -18,10 +20,11 @@ use columns_base::{Error, Result, S};
 use columns_core::DataType;
 use read_leaf::{FromStored, NumberValues, PlainNumbers, PrimitiveDecoder, StoredNumber};
 use read_pieces::{LeafReader, PlainBytes};
-use read_state::NestedState;
+use read_state::{NestedState, Steps};
 use read_walk::{NestedPage, extend_levels};
 use std::alloc::Global;
 use std::marker::PhantomData;
+use std::sync::ledger::Ledger;
 
 /// Reads numbers of `T` that are stored as numbers of `P`.
 #[derive(Drop)]
@@ -102,24 +105,27 @@ impl<T: FromStored<P>, P: StoredNumber> LeafReader for Numbers<T, P> {
         number_size::<T, P>(bytes)
     }
 
-    fn extend<'a, 'b>(
+    fn extend<'a, 'b, L: Ledger>(
         &self,
         page: &mut NestedPage<'a>,
         bytes: &mut PlainBytes<'b>,
         nested: &mut NestedState,
         values: &mut NumberValues<T>,
         additional: usize,
+        steps: &mut Steps<L>,
     ) -> Result<()>
         requires fits { StateFits nested.old }
         requires decoded { length (number_slots (map T.loaded_number values.old.0) values.old.1) ≡ leaf_count nested.old }
         ensures ok { OnOk result (Extends additional page.old page.new (stored_numbers T.loaded P.spelled P.byte_count bytes.old.values.now) (stored_numbers T.loaded P.spelled P.byte_count bytes.new.values.now) nested.old nested.new (number_slots (map T.loaded_number values.old.0) values.old.1) (number_slots (map T.loaded_number values.new.0) values.new.1)) }
         ensures err { IfErr result (Refuses 1 additional page.old (stored_numbers T.loaded P.spelled P.byte_count bytes.old.values.now) nested.old (number_slots (map T.loaded_number values.old.0) values.old.1)) }
+        ensures ticked { OnOk result (TicksEach (length nested.old) page.old page.new steps.old steps.new) }
+        ensures bounded { TicksAtMost (length nested.old * length page.old) steps.old steps.new }
     {
         let mut left = PlainNumbers {
             values: bytes.values,
         };
         let decoder = PrimitiveDecoder::<T, P>::new();
-        let result = extend_levels(page, &mut left, nested, values, &decoder, additional);
+        let result = extend_levels(page, &mut left, nested, values, &decoder, additional, steps);
         bytes.values = left.values;
         result
     }

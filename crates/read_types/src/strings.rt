@@ -1,5 +1,5 @@
 //! Texts and byte strings.
-ghost use Rattle.std.specs.Prelude.{◌≡◌, ◌⊎◌, ℕ, List, ◌-◌, ◌<◌, ◌≤◌, [], Some, true, false, length, map, take, drop, MatchOption, OnOk, IfOk, IfErr};
+ghost use Rattle.std.specs.Prelude.{◌≡◌, ◌⊎◌, ◌*◌, ℕ, List, ◌-◌, ◌<◌, ◌≤◌, [], Some, true, false, length, map, take, drop, MatchOption, OnOk, IfOk, IfErr};
 ghost use Rattle.std.specs.Str.{is_utf8};
 ghost use Rattle.columns_base.specs.declared.error.Error.TheVariants.{Memory, OutOfSpec};
 ghost use Rattle.columns_base.specs.declared.error.S.TheVariants.{S6, S7};
@@ -14,6 +14,8 @@ ghost use Rattle.columns_array.specs.Boxed.{boxed};
 ghost use Rattle.read_laws.specs.State.{leaf_count, StateFits};
 ghost use Rattle.read_leaf.specs.Strings.{string_slots, stored_strings, AreAllowed};
 ghost use Rattle.read_pieces.specs.Leaves.{AreEights, BeginsOutside, BeginsWithValue, in_bytes};
+ghost use Rattle.read_state.specs.Ticks.{TicksAtMost};
+ghost use Rattle.read_walk.specs.Ticks.{TicksEach};
 ghost use Rattle.read_walk.specs.Walk.{Extends, Refuses};
 ghost use Rattle.read_types.specs.Arrays.{IsLeafArray, masked_leaf};
 
@@ -24,10 +26,11 @@ use columns_core::{Bitmap, DataType, Offset, OffsetsBuffer};
 use columns_leaf::{BinaryArray, Utf8Array};
 use read_leaf::{Binary, Bytes, PlainStrings, StringDecoder, StringKind, StringValues, Text};
 use read_pieces::{LeafReader, PlainBytes};
-use read_state::NestedState;
+use read_state::{NestedState, Steps};
 use read_walk::{NestedPage, extend_levels};
 use std::alloc::Global;
 use std::marker::PhantomData;
+use std::sync::ledger::Ledger;
 
 /// Reads byte strings of which `K` says which are values, for arrays with offsets of `O`.
 #[derive(Drop)]
@@ -121,24 +124,27 @@ impl<O: Offset, K: StringKind> LeafReader for Strings<O, K> {
         string_size::<K>(bytes)
     }
 
-    fn extend<'a, 'b>(
+    fn extend<'a, 'b, L: Ledger>(
         &self,
         page: &mut NestedPage<'a>,
         bytes: &mut PlainBytes<'b>,
         nested: &mut NestedState,
         values: &mut StringValues<O, K>,
         additional: usize,
+        steps: &mut Steps<L>,
     ) -> Result<()>
         requires fits { StateFits nested.old }
         requires decoded { length (string_slots values.old.0 values.old.1) ≡ leaf_count nested.old }
         ensures ok { OnOk result (Extends additional page.old page.new (stored_strings K.allows bytes.old.values.now) (stored_strings K.allows bytes.new.values.now) nested.old nested.new (string_slots values.old.0 values.old.1) (string_slots values.new.0 values.new.1)) }
         ensures err { IfErr result (Refuses O.limit additional page.old (stored_strings K.allows bytes.old.values.now) nested.old (string_slots values.old.0 values.old.1)) }
+        ensures ticked { OnOk result (TicksEach (length nested.old) page.old page.new steps.old steps.new) }
+        ensures bounded { TicksAtMost (length nested.old * length page.old) steps.old steps.new }
     {
         let mut left = PlainStrings {
             values: bytes.values,
         };
         let decoder = StringDecoder::<O, K>::new();
-        let result = extend_levels(page, &mut left, nested, values, &decoder, additional);
+        let result = extend_levels(page, &mut left, nested, values, &decoder, additional, steps);
         bytes.values = left.values;
         result
     }

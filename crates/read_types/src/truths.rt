@@ -1,5 +1,5 @@
 //! Truth values.
-ghost use Rattle.std.specs.Prelude.{◌≡◌, ◌⊎◌, ℕ, List, [], Some, true, false, length, map, OnOk, IfOk, IfErr};
+ghost use Rattle.std.specs.Prelude.{◌≡◌, ◌⊎◌, ◌*◌, ℕ, List, [], Some, true, false, length, map, OnOk, IfOk, IfErr};
 ghost use Rattle.columns_base.specs.declared.error.Error.TheVariants.{Memory, OutOfSpec};
 ghost use Rattle.columns_base.specs.declared.error.S.TheVariants.{S6, S7};
 ghost use Rattle.columns_core.specs.Shapes.{base};
@@ -9,6 +9,8 @@ ghost use Rattle.columns_array.specs.Boxed.{boxed};
 ghost use Rattle.shredding.specs.Slot.{truth};
 ghost use Rattle.read_laws.specs.State.{leaf_count, StateFits};
 ghost use Rattle.read_leaf.specs.Truths.{stored_truths, truth_slots};
+ghost use Rattle.read_state.specs.Ticks.{TicksAtMost};
+ghost use Rattle.read_walk.specs.Ticks.{TicksEach};
 ghost use Rattle.read_walk.specs.Walk.{Extends, Refuses};
 ghost use Rattle.read_pieces.specs.Leaves.{AreEights, BeginsOutside, BeginsWithValue, in_bytes};
 ghost use Rattle.read_types.specs.Arrays.{IsLeafArray, masked_leaf};
@@ -20,9 +22,10 @@ use columns_core::{Bitmap, DataType};
 use columns_leaf::BooleanArray;
 use read_leaf::{PlainTruths, TruthDecoder, TruthValues};
 use read_pieces::{LeafReader, PlainBytes};
-use read_state::NestedState;
+use read_state::{NestedState, Steps};
 use read_walk::{NestedPage, extend_levels};
 use std::alloc::Global;
+use std::sync::ledger::Ledger;
 
 /// Reads truth values.
 #[derive(Drop)]
@@ -79,24 +82,35 @@ impl LeafReader for Truths {
         eighth_of(bytes)
     }
 
-    fn extend<'a, 'b>(
+    fn extend<'a, 'b, L: Ledger>(
         &self,
         page: &mut NestedPage<'a>,
         bytes: &mut PlainBytes<'b>,
         nested: &mut NestedState,
         values: &mut TruthValues,
         additional: usize,
+        steps: &mut Steps<L>,
     ) -> Result<()>
         requires fits { StateFits nested.old }
         requires decoded { length (truth_slots values.old.0 values.old.1) ≡ leaf_count nested.old }
         ensures ok { OnOk result (Extends additional page.old page.new (stored_truths bytes.old.values.now bytes.old.bit) (stored_truths bytes.new.values.now bytes.new.bit) nested.old nested.new (truth_slots values.old.0 values.old.1) (truth_slots values.new.0 values.new.1)) }
         ensures err { IfErr result (Refuses 1 additional page.old (stored_truths bytes.old.values.now bytes.old.bit) nested.old (truth_slots values.old.0 values.old.1)) }
+        ensures ticked { OnOk result (TicksEach (length nested.old) page.old page.new steps.old steps.new) }
+        ensures bounded { TicksAtMost (length nested.old * length page.old) steps.old steps.new }
     {
         let mut left = PlainTruths {
             values: bytes.values,
             bit: bytes.bit,
         };
-        let result = extend_levels(page, &mut left, nested, values, &TruthDecoder, additional);
+        let result = extend_levels(
+            page,
+            &mut left,
+            nested,
+            values,
+            &TruthDecoder,
+            additional,
+            steps,
+        );
         bytes.values = left.values;
         bytes.bit = left.bit;
         result

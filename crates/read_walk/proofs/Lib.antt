@@ -10,3 +10,4 @@ pub mod Walking
 pub mod Zips
 pub mod Mixing
 pub mod Counting
+pub mod Ticks

@@ -6,5 +6,6 @@ pub mod Order
 pub mod Pairs
 pub mod Spelled
 pub mod Steps
+pub mod Ticks
 pub mod Values
 pub mod Walk

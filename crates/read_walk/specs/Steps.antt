@@ -29,9 +29,9 @@ pub record TookNone (rows : ℕ) (page page' : List Item) (left left' : List Sto
   pub state : ks' ≡ ks
   pub decoded : slots' ≡ slots
 
-abbrev pub Steps : Bool → ℕ → ℕ → Option ℕ → Option ℕ → List Item → List Item → List Stored → List Stored → List Kept → List Kept → List Slot → List Slot → Type 0
-Steps true rows rows' before before' page page' left left' ks ks' slots slots' = TookPairs rows rows' before before' page page' left left' ks ks' slots slots'
-Steps false rows rows' before before' page page' left left' ks ks' slots slots' = TookNone rows page page' left left' ks ks' slots slots'
+abbrev pub TakesStep : Bool → ℕ → ℕ → Option ℕ → Option ℕ → List Item → List Item → List Stored → List Stored → List Kept → List Kept → List Slot → List Slot → Type 0
+TakesStep true rows rows' before before' page page' left left' ks ks' slots slots' = TookPairs rows rows' before before' page page' left left' ks ks' slots slots'
+TakesStep false rows rows' before before' page page' left left' ks ks' slots slots' = TookNone rows page page' left left' ks ks' slots slots'
 
 -- pairs that the page gave, and why they cannot be taken
 pub record CannotTakePairs (limit rows : ℕ) (before : Option ℕ) (page : List Item) (left : List Stored) (ks : List Kept) (slots : List Slot) (e : Error) : Type 0 where

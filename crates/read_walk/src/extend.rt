@@ -1,11 +1,13 @@
 //! The walk.
-ghost use Rattle.std.specs.Prelude.{◌≡◌, ◌⊎◌, ℕ, ◌<◌, ◌≤◌, ◌^◌, OnOk, IfErr, IfOk, Option, Some, length, replicate};
+ghost use Rattle.std.specs.Prelude.{◌≡◌, ◌⊎◌, ℕ, ◌*◌, ◌<◌, ◌≤◌, ◌^◌, OnOk, IfErr, IfOk, Option, Some, false, length, replicate};
 ghost use Rattle.read_laws.specs.State.{kept_way, leaf_count, StateFits};
+ghost use Rattle.read_state.specs.Ticks.{TicksAtMost};
 ghost use Rattle.read_walk.specs.Blocks.{TookBlock, CannotTake};
 ghost use Rattle.read_walk.specs.Order.{zipped, last_level, Follows, EndedAt, OneMayNot};
 ghost use Rattle.read_walk.specs.Walk.{Extends, Refuses};
 ghost use Rattle.read_walk.specs.Pairs.{TakesBlock, rows_in};
-ghost use Rattle.read_walk.specs.Steps.{Steps, CannotStep};
+ghost use Rattle.read_walk.specs.Steps.{TakesStep, CannotStep};
+ghost use Rattle.read_walk.specs.Ticks.{TicksEach};
 
 use crate::block::PairBlock;
 use crate::order::{check_copies, check_order};
@@ -13,10 +15,11 @@ use crate::page::NestedPage;
 use crate::take::{take_block, take_copies};
 use crate::traits::NestedDecoder;
 use columns_base::Result;
-use read_state::NestedState;
+use read_state::{NestedState, Steps};
+use std::sync::ledger::Ledger;
 
 // Takes the pairs of a block, one or more, behind one of the definition level `before`.
-fn walk_block<'a, D: NestedDecoder<'a>>(
+fn walk_block<'a, D: NestedDecoder<'a>, L: Ledger>(
     values: &mut D::State,
     nested: &mut NestedState,
     decoded: &mut D::DecodedState,
@@ -24,6 +27,7 @@ fn walk_block<'a, D: NestedDecoder<'a>>(
     before: Option<usize>,
     reps: &[u32],
     defs: &[u32],
+    steps: &mut Steps<L>,
 ) -> Result<()>
     requires reps { length reps.now ≤ 64 }
     requires defs { length defs.now ≡ length reps.now }
@@ -32,9 +36,10 @@ fn walk_block<'a, D: NestedDecoder<'a>>(
     requires decoded { length (D.slots decoded.old) ≡ leaf_count nested.old }
     ensures ok { OnOk result (Follows (kept_way nested.old) before (zipped reps.now defs.now) × TookBlock before reps.now defs.now nested.old nested.new (D.slots decoded.old) (D.slots decoded.new) (D.left decoder.now values.old) (D.left decoder.now values.new)) }
     ensures err { IfErr result (λ e. OneMayNot (kept_way nested.old) before (zipped reps.now defs.now) e ⊎ CannotTake D.byte_limit reps.now defs.now nested.old (D.left decoder.now values.old) (D.slots decoded.old) e) }
+    ensures ticked { TicksAtMost (length nested.old) steps.old steps.new }
 {
     match check_order(nested, before, reps, defs) {
-        Ok(()) => take_block(values, nested, decoded, decoder, before, reps, defs),
+        Ok(()) => take_block(values, nested, decoded, decoder, before, reps, defs, steps),
         Err(error) => Err(error),
     }
 }
@@ -51,7 +56,7 @@ fn last_of(reps: &[u32], defs: &[u32], before: Option<usize>) -> Option<usize>
 }
 
 // Takes so many equal pairs, one or more, behind one of the definition level `before`.
-fn walk_copies<'a, D: NestedDecoder<'a>>(
+fn walk_copies<'a, D: NestedDecoder<'a>, L: Ledger>(
     values: &mut D::State,
     nested: &mut NestedState,
     decoded: &mut D::DecodedState,
@@ -60,6 +65,7 @@ fn walk_copies<'a, D: NestedDecoder<'a>>(
     rep: usize,
     level: usize,
     count: usize,
+    steps: &mut Steps<L>,
 ) -> Result<()>
     requires some { 0 < count }
     requires few { count ≤ 2 ^ 31 }
@@ -68,9 +74,12 @@ fn walk_copies<'a, D: NestedDecoder<'a>>(
     requires decoded { length (D.slots decoded.old) ≡ leaf_count nested.old }
     ensures ok { OnOk result (Follows (kept_way nested.old) before (zipped (replicate count rep) (replicate count level)) × TookBlock before (replicate count rep) (replicate count level) nested.old nested.new (D.slots decoded.old) (D.slots decoded.new) (D.left decoder.now values.old) (D.left decoder.now values.new)) }
     ensures err { IfErr result (λ e. OneMayNot (kept_way nested.old) before (zipped (replicate count rep) (replicate count level)) e ⊎ CannotTake D.byte_limit (replicate count rep) (replicate count level) nested.old (D.left decoder.now values.old) (D.slots decoded.old) e) }
+    ensures ticked { TicksAtMost (length nested.old) steps.old steps.new }
 {
     match check_copies(nested, before, rep, level, count) {
-        Ok(()) => take_copies(values, nested, decoded, decoder, before, rep, level, count),
+        Ok(()) => take_copies(
+            values, nested, decoded, decoder, before, rep, level, count, steps,
+        ),
         Err(error) => Err(error),
     }
 }
@@ -83,7 +92,7 @@ fn begun_by(rep: usize, count: usize) -> usize
 }
 
 // Takes the next block, and keeps how many rows are still wanted and the definition level of its last pair; false where there is none.
-fn step_block<'a, 'b, D: NestedDecoder<'b>>(
+fn step_block<'a, 'b, D: NestedDecoder<'b>, L: Ledger>(
     page: &mut NestedPage<'a>,
     values: &mut D::State,
     nested: &mut NestedState,
@@ -92,12 +101,15 @@ fn step_block<'a, 'b, D: NestedDecoder<'b>>(
     block: &mut PairBlock,
     before: &mut Option<usize>,
     rows: &mut usize,
+    steps: &mut Steps<L>,
 ) -> Result<bool>
     requires fits { StateFits nested.old }
     requires ended { EndedAt before.old nested.old }
     requires decoded { length (D.slots decoded.old) ≡ leaf_count nested.old }
-    ensures ok { IfOk result (λ more. Steps more rows.old rows.new before.old before.new page.old page.new (D.left decoder.now values.old) (D.left decoder.now values.new) nested.old nested.new (D.slots decoded.old) (D.slots decoded.new)) }
+    ensures ok { IfOk result (λ more. TakesStep more rows.old rows.new before.old before.new page.old page.new (D.left decoder.now values.old) (D.left decoder.now values.new) nested.old nested.new (D.slots decoded.old) (D.slots decoded.new)) }
     ensures err { IfErr result (CannotStep D.byte_limit rows.old before.old page.old (D.left decoder.now values.old) nested.old (D.slots decoded.old)) }
+    ensures ticked { TicksAtMost (length nested.old) steps.old steps.new }
+    ensures idle { IfOk result (λ more. more ≡ false → steps.new ≡ steps.old) }
 {
     let begun = match page.next_block(*rows, block) {
         None => return Ok(false),
@@ -112,6 +124,7 @@ fn step_block<'a, 'b, D: NestedDecoder<'b>>(
         *before,
         block.reps(),
         block.defs(),
+        steps,
     ) {
         Ok(()) => {}
         Err(error) => return Err(error),
@@ -122,7 +135,7 @@ fn step_block<'a, 'b, D: NestedDecoder<'b>>(
 }
 
 // The same with equal pairs at once where both levels stand in copies.
-fn step_pairs<'a, 'b, D: NestedDecoder<'b>>(
+fn step_pairs<'a, 'b, D: NestedDecoder<'b>, L: Ledger>(
     page: &mut NestedPage<'a>,
     values: &mut D::State,
     nested: &mut NestedState,
@@ -131,17 +144,24 @@ fn step_pairs<'a, 'b, D: NestedDecoder<'b>>(
     block: &mut PairBlock,
     before: &mut Option<usize>,
     rows: &mut usize,
+    steps: &mut Steps<L>,
 ) -> Result<bool>
     requires fits { StateFits nested.old }
     requires ended { EndedAt before.old nested.old }
     requires decoded { length (D.slots decoded.old) ≡ leaf_count nested.old }
-    ensures ok { IfOk result (λ more. Steps more rows.old rows.new before.old before.new page.old page.new (D.left decoder.now values.old) (D.left decoder.now values.new) nested.old nested.new (D.slots decoded.old) (D.slots decoded.new)) }
+    ensures ok { IfOk result (λ more. TakesStep more rows.old rows.new before.old before.new page.old page.new (D.left decoder.now values.old) (D.left decoder.now values.new) nested.old nested.new (D.slots decoded.old) (D.slots decoded.new)) }
     ensures err { IfErr result (CannotStep D.byte_limit rows.old before.old page.old (D.left decoder.now values.old) nested.old (D.slots decoded.old)) }
+    ensures ticked { TicksAtMost (length nested.old) steps.old steps.new }
+    ensures idle { IfOk result (λ more. more ≡ false → steps.new ≡ steps.old) }
 {
     let Some((rep, level, count)) = page.next_copies(*rows) else {
-        return step_block(page, values, nested, decoded, decoder, block, before, rows);
+        return step_block(
+            page, values, nested, decoded, decoder, block, before, rows, steps,
+        );
     };
-    match walk_copies(values, nested, decoded, decoder, *before, rep, level, count) {
+    match walk_copies(
+        values, nested, decoded, decoder, *before, rep, level, count, steps,
+    ) {
         Ok(()) => {}
         Err(error) => return Err(error),
     }
@@ -150,26 +170,30 @@ fn step_pairs<'a, 'b, D: NestedDecoder<'b>>(
     Ok(true)
 }
 
-/// Takes pairs of the page until `additional` rows are whole or the page ends. A row is whole where another begins or the page ends.
+/// Takes pairs of the page until `additional` rows are whole or the page ends. A row is whole where another begins or the page ends. Of each pair
+/// at most one step for each part of the state.
 ///
 /// # Errors
 ///
 /// Of the pairs that it would take, S4 where a level is missing or above its greatest, S5 where the first goes on with a row, S10 where a later
 /// one or the pair before it does not lie inside the list that it repeats in, V1 where with them a part beneath a list has more slots than
 /// offsets of 64 bits count, what the decoder is refused for (S6, S7, V1), and `Memory`. Nothing is said of `page`, `values`, `nested` and
-/// `decoded` then.
-pub fn extend_levels<'a, 'b, D: NestedDecoder<'b>>(
+/// `decoded` then; `steps` has those that were made.
+pub fn extend_levels<'a, 'b, D: NestedDecoder<'b>, L: Ledger>(
     page: &mut NestedPage<'a>,
     values: &mut D::State,
     nested: &mut NestedState,
     decoded: &mut D::DecodedState,
     decoder: &D,
     additional: usize,
+    steps: &mut Steps<L>,
 ) -> Result<()>
     requires fits { StateFits nested.old }
     requires decoded { length (D.slots decoded.old) ≡ leaf_count nested.old }
     ensures ok { OnOk result (Extends additional page.old page.new (D.left decoder.now values.old) (D.left decoder.now values.new) nested.old nested.new (D.slots decoded.old) (D.slots decoded.new)) }
     ensures err { IfErr result (Refuses D.byte_limit additional page.old (D.left decoder.now values.old) nested.old (D.slots decoded.old)) }
+    ensures ticked { OnOk result (TicksEach (length nested.old) page.old page.new steps.old steps.new) }
+    ensures bounded { TicksAtMost (length nested.old * length page.old) steps.old steps.new }
 {
     let mut block = PairBlock::new();
     let mut rows = additional;
@@ -184,6 +208,7 @@ pub fn extend_levels<'a, 'b, D: NestedDecoder<'b>>(
             &mut block,
             &mut before,
             &mut rows,
+            steps,
         ) {
             Ok(true) => {}
             Ok(false) => return Ok(()),

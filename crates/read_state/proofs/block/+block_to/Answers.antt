@@ -6,7 +6,7 @@ use Rattle.read_state.proofs.Blocks.{marks-beneath, block-more}
 use Rattle.read_state.proofs.block.+block_to.Goals as goal
 
 pub returns-clause-ok : goal.returns-clause-ok
-returns-clause-ok t c =
+returns-clause-ok g t c =
     let part = c.in-Some.part.now in
     let reps = c.args.reps.now in
     let defs = c.args.defs.now in

@@ -5,9 +5,9 @@ use Rattle.read_state.proofs.Long.{stretch-is-block, none-is-block}
 use Rattle.read_state.proofs.block.push_all.Goals as goal
 
 pub returns-then-reps-eq0-clause-ok : goal.returns-then-reps-eq0-clause-ok
-returns-then-reps-eq0-clause-ok c = none-is-block c.args.reps.now c.args.defs.now (all_kept c.args.parts.now) (omega (arith, c.if-reps-eq0.true))
+returns-then-reps-eq0-clause-ok g c = none-is-block c.args.reps.now c.args.defs.now (all_kept c.args.parts.now) (omega (arith, c.if-reps-eq0.true))
 
 pub returns-then-are_alike-clause-ok : goal.returns-then-are_alike-clause-ok
-returns-then-are_alike-clause-ok c =
+returns-then-are_alike-clause-ok g c =
     let same = c.if-are_alike.ensures refl in
     on_ok_weaker c.push_to.result (λ e. stretch-is-block (length c.args.reps.now) _ _ c.args.reps.now c.args.defs.now (all_kept c.args.parts.now) (all_kept c.push_to.new.parts) c.requires.reps same.0 same.1 c.requires.fits e) c.push_to.ensures.ok

@@ -5,7 +5,7 @@ use Rattle.read_state.proofs.Long.{long-grows}
 use Rattle.read_state.proofs.nested.NestedState.push_equal.Goals as goal
 
 pub returns-then-has_long_items-clause-err : goal.returns-then-has_long_items-clause-err
-returns-then-has_long_items-clause-err c =
+returns-then-has_long_items-clause-err g c =
     let long : HasLongItems (all_kept c.deref.result.now) = c.has_long_items.ensures.0 c.if-has_long_items.true in
     let old = ap all_kept c.deref.ensures.value ∙ c.self.view_is in
     inr (refl, long-grows (marks_of (replicate c.args.count c.args.rep) (replicate c.args.count c.args.level) (replicate c.args.count false)) 0 0 c.args.self.now (rw old at long))
