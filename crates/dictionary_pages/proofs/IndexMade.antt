@@ -1,5 +1,5 @@
 -- A page of keys made of its parts.
-use Rattle.std.proofs.Common.{◌≡◌, ◌≢◌, ◌⊎◌, inl, inr, ℕ, ◌+◌, ◌-◌, ◌*◌, ◌^◌, ◌<◌, ◌≤◌, min, pos, true, List, [], ◌∷◌, length, map, Some, Option, is_none, All, refl, ap, sym, ◌∙◌, arith}
+use Rattle.std.proofs.Common.{◌≡◌, ◌≢◌, ◌⊎◌, inl, inr, ℕ, ◌+◌, ◌-◌, ◌*◌, ◌^◌, ◌<◌, ◌≤◌, min, pos, true, List, [], ◌∷◌, length, map, None, Some, Option, is_none, All, refl, ap, sym, ◌∙◌, arith}
 use Rattle.std.specs.Prelude.{Contains, count_by, slice_get}
 use Rattle.std.specs.List.{AllByRecursion as Each, AllZip}
 use Rattle.std.proofs.lemmas.List.{length-map}
@@ -105,7 +105,7 @@ module _ (a : ArrayTree) (o : Over a) (p : Physical) (sound : IsSound a) (are : 
       → (s : AreStatedBy form.with_statistics t p (entries_of (child_of a)) (nested_column (value_at a) nested) stated) → IsHeader form.version (out_page dictionary (nested_column (stored_at a p) nested) s.out) body.repetition body.definition header
       → room (length (nested_column (stored_at a p) nested)) (plain_length p (values_in (nested_column (stored_at a p) nested))) ≤ max_size
       → about.primitive_type ≡ type_ → about.max_rep_level ≡ pos (max_repetition (path_way (parts_of nested))) → about.max_def_level ≡ pos (max_definition (path_way (parts_of nested)))
-      → HoldsIndices form t p (path_way (parts_of nested)) (entries_of (child_of a)) stored (path_slots (λ i. value (value_at a i)) (parts_of nested)) type_ (record { header = header; buffer = body.buffer.items; descriptor = about })
+      → HoldsIndices form t p (path_way (parts_of nested)) (entries_of (child_of a)) stored (path_slots (λ i. value (value_at a i)) (parts_of nested)) type_ (record { header = header; buffer = body.buffer.items; descriptor = about; selected_rows = None })
   index_holds form type_ body header about stated well b s h fits is r d = record {
     out = out_page dictionary (nested_column (stored_at a p) nested) s.out;
     denotes =

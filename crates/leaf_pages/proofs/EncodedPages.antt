@@ -73,10 +73,10 @@ module _ (a : ArrayTree) (type_ : PrimitiveType) (nested : List Nested) (is : Is
       → (st : AreStated o.write_statistics (leaf_type (type_of a)) p (column_pairs (column_along type_ nested a)) stated)
       → IsHeader o.version (out_page k (stored_pairs (column_along type_ nested a)) st.out) r d header
       → about.primitive_type ≡ type_ → about.max_rep_level ≡ pos (shred.max_repetition (path_way (parts_of nested))) → about.max_def_level ≡ pos (shred.max_definition (path_way (parts_of nested)))
-      → IsPageAlong o k (column_along type_ nested a) (record { header = header; buffer = buffer; descriptor = about })
+      → IsPageAlong o k (column_along type_ nested a) (record { header = header; buffer = buffer; descriptor = about; selected_rows = None })
   encoded_is o k stated header about buffer r d well h fits are st head t rep def =
       let spelled : (l : Leaf) → l.physical ≡ p → IsWrittenSpelled k l None h.values.text (map stored (path_places (parts_of nested))) = λ l q. subst (λ (vs : List Value). IsWrittenSpelled k l None h.values.text vs) (values_are_at_places stored nested) (h.values.spelled l q) in
-      is_page o k (column_along type_ nested a) (record { header = header; buffer = buffer; descriptor = about }) (record {
+      is_page o k (column_along type_ nested a) (record { header = header; buffer = buffer; descriptor = about; selected_rows = None }) (record {
         out = out_page k (stored_pairs (column_along type_ nested a)) st.out;
         denotes = denotes_within o.version k p None stored st.out nested h.levels buffer h.values.text r d header about well h.sections h.values.parts spelled h.values.within head fits;
         triples = are;

@@ -38,7 +38,7 @@ pub record HasStated (bare : DataPageValue) (given : Option ChunkStatistics) (pa
 
 -- the page with this descriptor in the place of its own
 abbrev pub described : Descriptor → DataPageValue → DataPageValue
-described d page = record { header = page.header; buffer = page.buffer; descriptor = d }
+described d page = record { header = page.header; buffer = page.buffer; descriptor = d; selected_rows = page.selected_rows }
 
 -- the page states these statistics, and is the other one in everything else, with a descriptor of the same column
 abbrev pub Restates : DataPageValue → Option ChunkStatistics → DataPageValue → Type 0

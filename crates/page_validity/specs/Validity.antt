@@ -39,6 +39,11 @@ pub record IsSplitInto (page : DataPageValue) (count : ℕ) (s : Sections) : Typ
 abbrev pub all_rows : ℕ → List Interval
 all_rows n = record { start = 0; length = n } ∷ []
 
+-- the rows that are selected of so many; where none are named, all are
+abbrev pub rows_among : ℕ → Option (List Interval) → List Interval
+rows_among n None = all_rows n
+rows_among n (Some rows) = rows
+
 -- a part that gives bits gives no more than this
 abbrev pub IsWithin : ℕ → Option (Result FilteredHybridEncoded Error) → Type 0
 IsWithin limit (Some (Ok part)) = given_in part ≤ limit

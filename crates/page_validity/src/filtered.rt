@@ -2,11 +2,11 @@
 ghost use Rattle.std.specs.Prelude.{◌≡◌, ◌⊎◌, ℕ, IfErr, IfOk, map};
 ghost use Rattle.columns_base.specs.declared.error.Error.TheVariants.{Memory};
 ghost use Rattle.pq_bitmaps.specs.Called.{bits_called};
-ghost use Rattle.pq_bitmaps.specs.Selected.{steps_of};
+ghost use Rattle.pq_bitmaps.specs.Selected.{selected, steps_of};
 ghost use Rattle.pq_files.specs.Page.{Sections};
 ghost use Rattle.pq_pages.specs.Outcomes.{levels_in};
 ghost use Rattle.pq_pages.specs.Split.{Splits};
-ghost use Rattle.page_validity.specs.Validity.{IsSplitInto, all_rows, as_level, level_fault};
+ghost use Rattle.page_validity.specs.Validity.{IsSplitInto, as_level, level_fault, rows_among};
 
 use crate::picked::{Picked, find_part, give};
 use crate::rows::get_selected_rows;
@@ -47,7 +47,7 @@ impl<'a> FilteredOptionalPageValidity<'a> {
     /// - `OutOfSpec(S4)`: exactly where a section of levels does not lie in the page's body.
     /// - `Memory`: memory ran out.
     pub fn try_new(alloc: Global, page: &'a DataPage) -> Result<Self>
-        ensures ok { IfOk result (λ v. (n : ℕ) × (s : Sections) × IsSplitInto page.now n s × (v ≡ record { left = n; steps = map as_level (steps_of (all_rows n) (bits_called n s.definition)) })) }
+        ensures ok { IfOk result (λ v. (n : ℕ) × (s : Sections) × IsSplitInto page.now n s × (v ≡ record { left = selected (rows_among n page.now.selected_rows); steps = map as_level (steps_of (rows_among n page.now.selected_rows) (bits_called n s.definition)) })) }
         ensures refused { IfErr result (λ e. (e ≡ Memory) ⊎ ((e ≡ level_fault) × ((s : Sections) → Splits page.now.header (levels_in page.now.descriptor) page.now.buffer s → ⊥))) }
     {
         let count = page.num_values();

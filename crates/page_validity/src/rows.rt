@@ -3,7 +3,8 @@ ghost use Rattle.std.specs.Prelude.{◌≡◌, ℕ, pos, IfErr, IfOk};
 ghost use Rattle.columns_base.specs.declared.error.Error.TheVariants.{Memory, NotYetImplemented};
 ghost use Rattle.columns_base.specs.declared.error.N.TheVariants.{N4};
 ghost use Rattle.pq_pages.specs.DataPages.{stated_values};
-ghost use Rattle.page_validity.specs.Validity.{all_rows};
+ghost use Rattle.pq_bitmaps.specs.Selected.{AreAscending};
+ghost use Rattle.page_validity.specs.Validity.{rows_among};
 
 use columns_base::{Error, N, Result};
 use pq_bitmaps::Interval;
@@ -11,22 +12,21 @@ use pq_pages::DataPage;
 use std::alloc::Global;
 use std::collections::VecDeque;
 
-/// The rows of the page that are selected, which are all: the one interval of all its values.
+/// The rows of the page that are selected: without any the one interval of all its values.
 ///
 /// # Errors
 ///
 /// `Memory`: memory ran out.
 pub fn get_selected_rows(alloc: Global, page: &DataPage) -> Result<VecDeque<Interval>>
-    ensures ok { IfOk result (λ rows. (n : ℕ) × (pos n ≡ stated_values page.now.header) × (rows.items ≡ all_rows n)) }
+    ensures ok { IfOk result (λ rows. (n : ℕ) × (pos n ≡ stated_values page.now.header) × (rows.items ≡ rows_among n page.now.selected_rows) × AreAscending 0 n rows.items) }
     ensures err { IfErr result (λ e. e ≡ Memory) }
 {
-    let mut rows = VecDeque::new(alloc);
-    let all = Interval {
+    let all = [Interval {
         start: 0,
         length: page.num_values(),
-    };
-    rows.push_back(all)?;
-    Ok(rows)
+    }];
+    let rows = page.selected_rows().unwrap_or(&all);
+    Ok(VecDeque::from_vec(Vec::from_slice(alloc, rows)?))
 }
 
 /// The error of a page in an encoding that is not read.

@@ -1,5 +1,7 @@
 -- What contracts see of a data page in memory (Parquet format, "Data Pages"; parquet.thrift: DataPageHeader, DataPageHeaderV2, Encoding).
-use Rattle.std.specs.Prelude.{◌≡◌, ◌↔◌, ◌≤ℤ◌, ℕ, ℤ, pos, negsuc, List, Bool, false, IsTrue, nat_eq, nat_le, ◌||◌, ◌&&◌}
+use Rattle.std.specs.Prelude.{◌≡◌, ◌↔◌, ◌≤ℤ◌, ℕ, ℤ, pos, negsuc, List, Bool, false, IsTrue, IfSome, Option, nat_eq, nat_le, ◌||◌, ◌&&◌}
+use Rattle.pq_bitmaps.specs.Selected.{AreAscending}
+use Rattle.pq_bitmaps.specs.declared.part.Interval.{Interval}
 use Rattle.pq_tree.specs.declared.types.DataPageHeader.{DataPageHeader}
 use Rattle.pq_tree.specs.declared.types.DataPageHeader.TheVariants.{V1, V2}
 use Rattle.pq_tree.specs.declared.types.Descriptor.{Descriptor}
@@ -8,11 +10,12 @@ use Rattle.pq_tree.specs.declared.types.Encoding.TheVariants as E
 use Rattle.pq_tree.specs.declared.types.TypedPageHeader.{TypedPageHeader}
 use Rattle.pq_tree.specs.declared.types.TypedPageHeader.TheVariants as T
 
--- its header, the bytes of its body, and the column that it is of
+-- its header, the bytes of its body, the column that it is of, and the rows of it that are selected, if some were named
 pub record DataPageValue : Type 0 where
   pub header : DataPageHeader
   pub buffer : List ℕ
   pub descriptor : Descriptor
+  pub selected_rows : Option (List Interval)
 
 -- ---- what the header states
 
@@ -59,3 +62,14 @@ pub record MakesPage (h : DataPageHeader) (d : Descriptor) : Type 0 where
   pub encoding : IsEncodingNumber (stated_encoding h)
   pub definition : pos 0 ≤ℤ d.max_def_level
   pub repetition : pos 0 ≤ℤ d.max_rep_level
+
+-- ---- which rows can be selected (Parquet format, "Page Index")
+
+-- Each interval begins at or behind the end of the one before, and the last ends within the values that the header states.
+abbrev pub AreRowsIn : DataPageHeader → List Interval → Type 0
+AreRowsIn h rows = (n : ℕ) × (pos n ≡ stated_values h) × AreAscending 0 n rows
+
+-- of a page in memory: what makes it one, and rows of its own where some are selected
+pub record IsHeld (h : DataPageHeader) (d : Descriptor) (rows : Option (List Interval)) : Type 0 where
+  pub makes : MakesPage h d
+  pub selects : IfSome rows (AreRowsIn h)

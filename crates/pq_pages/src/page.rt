@@ -1,7 +1,8 @@
 //! Pages in memory (Parquet format, "Data Pages" and "Dictionary Page").
-ghost use Rattle.std.specs.Prelude.{◌≡◌, pos, MatchOption};
-ghost use Rattle.pq_pages.specs.DataPages.{number_in, stated_encoding, stated_values, IsEncodingNumber, MakesPage};
+ghost use Rattle.std.specs.Prelude.{◌≡◌, None, Some, pos, option_map, IfSome, MatchOption};
+ghost use Rattle.pq_pages.specs.DataPages.{number_in, stated_encoding, stated_values, AreRowsIn, IsEncodingNumber, MakesPage};
 
+use pq_bitmaps::Interval;
 use pq_tree::{DataPageHeader, Descriptor, Encoding};
 use std::marker::Model;
 
@@ -14,21 +15,23 @@ pub struct DataPage {
     header: DataPageHeader,
     buffer: Vec<u8>,
     descriptor: Descriptor,
+    selected_rows: Option<Vec<Interval>>,
 }
 
 impl Model for DataPage {
-    ghost use Rattle.pq_pages.specs.DataPages.{DataPageValue, MakesPage};
+    ghost use Rattle.std.specs.Prelude.{option_map};
+    ghost use Rattle.pq_pages.specs.DataPages.{DataPageValue, IsHeld};
 
     ghost Value = { DataPageValue };
 
-    ghost view = { λ p. record { header = p.header; buffer = p.buffer.items; descriptor = p.descriptor } };
+    ghost view = { λ p. record { header = p.header; buffer = p.buffer.items; descriptor = p.descriptor; selected_rows = option_map (λ rows. rows.items) p.selected_rows } };
 
-    ghost invariant = { λ p. MakesPage p.header p.descriptor };
+    ghost invariant = { λ p. IsHeld p.header p.descriptor (option_map (λ rows. rows.items) p.selected_rows) };
 }
 
 impl DataPage {
     /// The page with this header and body, of the column that the descriptor tells of. `rows` is the number of its rows,
-    /// where the caller knows it; nothing depends on it.
+    /// where the caller knows it; nothing depends on it, and none are selected.
     pub fn new(
         header: DataPageHeader,
         buffer: Vec<u8>,
@@ -36,12 +39,13 @@ impl DataPage {
         _rows: Option<usize>,
     ) -> Self
         requires { MakesPage header descriptor }
-        ensures { result ≡ record { header = header; buffer = buffer.items; descriptor = descriptor } }
+        ensures { result ≡ record { header = header; buffer = buffer.items; descriptor = descriptor; selected_rows = None } }
     {
         DataPage {
             header,
             buffer,
             descriptor,
+            selected_rows: None,
         }
     }
 
@@ -83,6 +87,23 @@ impl DataPage {
         ensures makes { MakesPage self.now.header self.now.descriptor }
     {
         &self.descriptor
+    }
+
+    /// Selects rows of the page, in the place of those that were selected before. Each interval begins at or behind the end of the one before, and
+    /// the last ends within the page's values (Parquet format, "Page Index").
+    pub fn select_rows(&mut self, rows: Vec<Interval>)
+        requires { AreRowsIn self.old.header rows.items }
+        ensures { self.new ≡ record { header = self.old.header; buffer = self.old.buffer; descriptor = self.old.descriptor; selected_rows = Some rows.items } }
+    {
+        self.selected_rows = Some(rows);
+    }
+
+    /// The rows that are selected; none before `select_rows`.
+    pub fn selected_rows(&self) -> Option<&[Interval]>
+        ensures are { option_map (λ rows. rows.now) result ≡ self.now.selected_rows }
+        ensures ascend { IfSome result (λ rows. AreRowsIn self.now.header rows.now) }
+    {
+        self.selected_rows.as_deref()
     }
 }
 
