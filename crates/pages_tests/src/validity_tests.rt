@@ -1,7 +1,7 @@
 //! A page of five values, of which the second, the third and the fifth are there.
 use columns_base::{PhysicalType, Result};
 use page_validity::{FilteredOptionalPageValidity, OptionalPageValidity, PageValidity, Zip};
-use pq_bitmaps::FilteredHybridEncoded;
+use pq_bitmaps::{FilteredHybridEncoded, Interval};
 use pq_pages::DataPage;
 use pq_tree::{DataPageHeader, DataPageHeaderV2, Descriptor, FieldInfo, PrimitiveType, Repetition};
 use std::alloc::Global;
@@ -64,13 +64,42 @@ fn a_run_is_given_in_parts(rt: HostRuntime) -> Result<()> {
 }
 
 #[test]
-fn selected_rows_are_given_in_parts(rt: HostRuntime) -> Result<()> {
+fn all_rows_are_selected_where_none_are_named(rt: HostRuntime) -> Result<()> {
     let page = page(rt.alloc(), &[3, 22])?;
+    assert!(rt; page.selected_rows().is_none());
     let mut validity = FilteredOptionalPageValidity::try_new(rt.alloc(), &page)?;
     assert!(rt; told(validity.next_limited(2)) == (0, 2));
     assert!(rt; validity.len() == 3);
     assert!(rt; told(validity.next_limited(9)) == (2, 3));
     assert!(rt; told(validity.next_limited(1)) == (40, 0));
+    Ok(())
+}
+
+// Selects so many rows of a page from one on, where it has them.
+fn select(alloc: Global, page: &mut DataPage, start: usize, length: usize) -> Result<bool> {
+    let count = page.num_values();
+    if count < start {
+        return Ok(false);
+    }
+    if count - start < length {
+        return Ok(false);
+    }
+    let rows = Vec::from_slice(alloc, &[Interval { start, length }])?;
+    page.select_rows(rows);
+    Ok(true)
+}
+
+// The second to the fourth of five values: the one in front is passed over, and is not there.
+#[test]
+fn selected_rows_are_given_in_parts(rt: HostRuntime) -> Result<()> {
+    let mut page = page(rt.alloc(), &[3, 22])?;
+    assert!(rt; select(rt.alloc(), &mut page, 1, 3)?);
+    let mut validity = FilteredOptionalPageValidity::try_new(rt.alloc(), &page)?;
+    assert!(rt; validity.len() == 3);
+    assert!(rt; told(validity.next_limited(2)) == (20, 0));
+    assert!(rt; told(validity.next_limited(2)) == (1, 2));
+    assert!(rt; told(validity.next_limited(2)) == (3, 1));
+    assert!(rt; told(validity.next_limited(2)) == (40, 0));
     Ok(())
 }
 

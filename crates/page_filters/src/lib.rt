@@ -1,0 +1,10 @@
+//! The pages of a column chunk that a filter keeps (Parquet format, "Column chunks" and "Data Pages").
+#![tactic(auto)]
+
+mod chunk;
+mod filter;
+mod pages;
+
+pub use chunk::{PageReader, get_page_iterator};
+pub use filter::PageFilter;
+pub use pages::FilteredPages;
