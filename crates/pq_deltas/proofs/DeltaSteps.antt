@@ -1,9 +1,10 @@
 -- The steps of a writer of delta packing.
-use Rattle.std.proofs.Common.{◌≡◌, ℕ, suc, ◌+◌, ◌*◌, ◌^◌, ◌<◌, ◌≤◌, ℤ, pos, ◌+ℤ◌, ◌-ℤ◌, SFits, List, [], ◌∷◌, ◌++◌, length, All, Option, Some, None, true, false, is_some, refl, sym, ap, subst, ◌∙◌, inl, inr, arith, append-nil, append_assoc}
+use Rattle.std.proofs.Common.{◌≡◌, ℕ, suc, ◌+◌, ◌*◌, ◌^◌, ◌<◌, ◌≤◌, ℤ, pos, negsuc, ◌-◌, ◌+ℤ◌, ◌-ℤ◌, SFits, List, [], ◌∷◌, ◌++◌, length, All, Option, Some, None, true, false, is_some, refl, sym, ap, subst, ◌∙◌, inl, inr, arith, append-nil, append_assoc}
 use Rattle.std.proofs.lemmas.Int.{ints, int_wrap_fits, SFits-int_wrap, int_wrap-add_right, int_wrap-sub_right}
 use Rattle.std.proofs.lemmas.List.{length-append}
 use Rattle.std.proofs.lemmas.List.Elements.{All-push}
-use Rattle.std.specs.Int.{Width, int_wrap}
+use Rattle.std.specs.Int.{Width, int_wrap, int_rem_euclid, cast_signed, cast_unsigned}
+use Rattle.std.specs.Prelude.{unsigned_abs, ◌%◌}
 use Rattle.std.proofs.Math.Facts.{sfits_lit}
 use mir.Syntax.{w8, w16, w32, w64, w128}
 use mir.Val.{bits}
@@ -97,6 +98,18 @@ next_value v a latest value d fits is e =
     ∙ ap (int_wrap v) back
     ∙ int_wrap_fits v value fits
     )
+
+-- the low 32 bits of a number of 64
+low_is : (z : ℤ) → SFits w64 z → cast_unsigned w64 z % 2 ^ 32 ≡ unsigned_abs (int_rem_euclid z (pos (2 ^ 32)))
+low_is (pos n) f = refl
+low_is (negsuc n) f =
+    let few : n < 2 ^ 63 = omega (arith, f) in
+    let whole : 2 ^ 64 - suc n + n ≡ 2 ^ 64 - 1 = omega (arith, few) in
+    omega (arith, whole)
+
+pub low_wraps : (z : ℤ) → SFits w64 z → cast_signed w32 (cast_unsigned w64 z % 2 ^ 32) ≡ int_wrap w32 z
+unfolding int_wrap
+low_wraps z f = ap (cast_signed w32) (low_is z f)
 
 -- ---- numbers
 

@@ -1,3 +1,4 @@
+pub mod Encoding
 pub use Rattle.pq_runs.specs.Delta
 pub use Rattle.pq_runs.specs.DeltaWriting
 pub use Rattle.pq_runs.specs.Listed

@@ -1,3 +1,3 @@
 //! Delta packing (Parquet format, Encodings, "Delta Encoding").
 
-pub use crate::delta_encode::{encode, encode_i32};
+pub use crate::delta_encode::{Encoder, encode, encode_i32};

@@ -1,10 +1,12 @@
 //! Writing delta packing.
 
-ghost use Rattle.std.specs.Prelude.{◌≡◌, ◌<◌, ◌≤◌, ◌++◌, ℕ, ℤ, ◌-ℤ◌, List, [], ◌∷◌, length, Bool, OnOk, IfErr, Option, Some, is_some, FitsSigned};
+ghost use Rattle.std.specs.Prelude.{◌≡◌, ◌<◌, ◌≤◌, ◌++◌, ℕ, ℤ, ◌-ℤ◌, List, [], ◌∷◌, length, Bool, OnOk, IfOk, IfErr, Option, Some, is_some, FitsSigned};
 ghost use Rattle.std.specs.Int.{Width, w32, w64, int_wrap};
 ghost use Rattle.std.specs.Iterator.{IsFinite, Drains};
+ghost use mir.Val.{bits};
 ghost use Rattle.columns_base.specs.declared.error.Error.TheVariants.{Memory};
 ghost use Rattle.pq_numbers.specs.Varint.{varint};
+ghost use Rattle.pq_deltas.specs.Encoding.{Feeds, IsEncoding};
 ghost use Rattle.pq_runs.specs.DeltaWriting.{Begun, Going, Deltas, AppendsDelta};
 ghost use Rattle.pq_runs.specs.Listed.{count};
 ghost use Rattle.pq_runs.specs.Writing.{Extends};
@@ -58,11 +60,18 @@ fn add(
     }
 }
 
+// The low 32 bits of a number.
+fn low_32(number: i64) -> i32
+    ensures { result ≡ int_wrap w32 number }
+{
+    ((number.cast_unsigned() % (1 << 32)) as u32).cast_signed()
+}
+
 // One more number of 32 bits behind the latest one.
 fn add_i32(
     out: &mut Vec<u8>,
     waiting: &mut Waiting,
-    latest: Option<i32>,
+    latest: Option<i64>,
     value: i32,
 ) -> std::result::Result<(), AllocError>
     ensures ok { OnOk result ((start : List ℕ) (zs : List ℤ) → Begun w32 start out.old.items waiting.old latest zs → Begun w32 start out.new.items waiting.new (Some value) (zs ++ value ∷ [])) }
@@ -70,7 +79,10 @@ fn add_i32(
 {
     match latest {
         None => push_varint(out, to_zigzag(i64::from(value))),
-        Some(latest) => push_difference(out, waiting, i64::from(value.wrapping_sub(latest))),
+        Some(latest) => {
+            let latest = low_32(latest);
+            push_difference(out, waiting, i64::from(value.wrapping_sub(latest)))
+        }
     }
 }
 
@@ -98,6 +110,72 @@ fn push_head(out: &mut Vec<u8>, length: usize) -> std::result::Result<(), AllocE
     push_varint(out, length as u64)
 }
 
+/// An encoder that is fed number by number. Of these it keeps at most 128 differences, which fill no block yet, and the latest number, so that it
+/// takes no memory but that of the section.
+#[derive(Drop)]
+pub struct Encoder {
+    waiting: Waiting,
+    latest: Option<i64>,
+}
+
+impl Encoder {
+    /// Begins the section of so many numbers: appends its head.
+    ///
+    /// # Errors
+    ///
+    /// Want of memory.
+    pub fn new(out: &mut Vec<u8>, count: usize) -> std::result::Result<Encoder, AllocError>
+        ensures ok { IfOk result (λ e. (v : Width) → IsEncoding v count out.old.items out.new.items e []) }
+        ensures kept { Extends out.old.items out.new.items }
+    {
+        push_head(out, count)?;
+        Ok(Encoder {
+            waiting: Waiting::new(),
+            latest: None,
+        })
+    }
+
+    /// Takes one more INT64 number. The difference is taken modulo 2^64, as a number from -2^63 on.
+    ///
+    /// # Errors
+    ///
+    /// Want of memory.
+    pub fn push(&mut self, out: &mut Vec<u8>, value: i64) -> std::result::Result<(), AllocError>
+        ensures ok { OnOk result (Feeds w64 out.old.items self.old out.new.items self.new (value ∷ [])) }
+        ensures kept { Extends out.old.items out.new.items }
+    {
+        add(out, &mut self.waiting, self.latest, value)?;
+        self.latest = Some(value);
+        Ok(())
+    }
+
+    /// Takes one more INT32 number. The difference is taken modulo 2^32, as a number from -2^31 on.
+    ///
+    /// # Errors
+    ///
+    /// Want of memory.
+    pub fn push_i32(&mut self, out: &mut Vec<u8>, value: i32) -> std::result::Result<(), AllocError>
+        ensures ok { OnOk result (Feeds w32 out.old.items self.old out.new.items self.new (value ∷ [])) }
+        ensures kept { Extends out.old.items out.new.items }
+    {
+        add_i32(out, &mut self.waiting, self.latest, value)?;
+        self.latest = Some(i64::from(value));
+        Ok(())
+    }
+
+    /// Ends the section, behind which nothing of it comes. It has got as many numbers as its head says.
+    ///
+    /// # Errors
+    ///
+    /// Want of memory.
+    pub fn finish(&self, out: &mut Vec<u8>) -> std::result::Result<(), AllocError>
+        ensures ok { OnOk result ((v : Width) (start : List ℕ) (zs : List ℤ) → bits v ≤ 64 → IsEncoding v (count zs) start out.old.items self.now zs → AppendsDelta v start out.new.items zs) }
+        ensures kept { Extends out.old.items out.new.items }
+    {
+        finish(out, &self.waiting, self.latest.is_some())
+    }
+}
+
 fn push_numbers<I: Iterator<Item = i64>>(
     out: &mut Vec<u8>,
     values: I,
@@ -109,14 +187,11 @@ fn push_numbers<I: Iterator<Item = i64>>(
     ensures ok { OnOk result ((vs : List ℤ) × Drains I.next_gives values vs × AppendsDelta w64 out.old.items out.new.items vs) }
     ensures kept { Extends out.old.items out.new.items }
 {
-    push_head(out, length)?;
-    let mut waiting = Waiting::new();
-    let mut latest: Option<i64> = None;
+    let mut encoder = Encoder::new(out, length)?;
     for value in values {
-        add(out, &mut waiting, latest, value)?;
-        latest = Some(value);
+        encoder.push(out, value)?;
     }
-    finish(out, &waiting, latest.is_some())
+    encoder.finish(out)
 }
 
 /// Appends the delta spelling of INT64 numbers, in blocks of 128 with 4 whole miniblocks of the least widths
@@ -152,14 +227,11 @@ fn push_numbers_i32<I: Iterator<Item = i32>>(
     ensures ok { OnOk result ((vs : List ℤ) × Drains I.next_gives values vs × AppendsDelta w32 out.old.items out.new.items vs) }
     ensures kept { Extends out.old.items out.new.items }
 {
-    push_head(out, length)?;
-    let mut waiting = Waiting::new();
-    let mut latest: Option<i32> = None;
+    let mut encoder = Encoder::new(out, length)?;
     for value in values {
-        add_i32(out, &mut waiting, latest, value)?;
-        latest = Some(value);
+        encoder.push_i32(out, value)?;
     }
-    finish(out, &waiting, latest.is_some())
+    encoder.finish(out)
 }
 
 /// Appends the delta spelling of INT32 numbers, as `encode` does. Differences are taken modulo 2^32, as numbers from -2^31 on, so that no

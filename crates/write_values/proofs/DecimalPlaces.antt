@@ -40,13 +40,15 @@ are_decimals t e = absurd (true≢false (sym e))
 
 -- ---- at a place
 
--- a decimal as it is stored at its place
-pub decimal_here : (t : TypeTree) (p : Physical) (zs : List ℤ) (m : Mask) (i : ℕ) (z : ℤ) (a b : List ℕ) → stores_i128 (base t) ≡ true → i < length zs → z ≡ get_or zs i z → AppendsRow p a b (stored_decimal p (within_signed 128 z) ∷ []) → AppendsRow p a b (stored_at (leaf_array t (map (value_i128 (base t)) zs) m) p i ∷ [])
-decimal_here t p zs m i z a b e h is r =
+-- what is stored at a place for the decimal there
+pub decimal_at : (t : TypeTree) (p : Physical) (zs : List ℤ) (m : Mask) (i : ℕ) (z : ℤ) → stores_i128 (base t) ≡ true → i < length zs → z ≡ get_or zs i z → stored_decimal p (within_signed 128 z) ≡ stored_at (leaf_array t (map (value_i128 (base t)) zs) m) p i
+decimal_at t p zs m i z e h is =
     let here : number (within_signed 128 z) ≡ at_place (map (value_i128 (base t)) zs) i = number_here (value_i128 (base t)) zs i z h is in
     let type : decimal ≡ leaf_type t = sym (decimals_are (base t) e) ∙ leaf_base t in
-    let same : stored_decimal p (within_signed 128 z) ≡ stored_value (leaf_type t) p (at_place (map (value_i128 (base t)) zs) i) = sym (decimal_is p (within_signed 128 z)) ∙ ap (stored_value decimal p) here ∙ ap (λ (l : LeafType). stored_value l p (at_place (map (value_i128 (base t)) zs) i)) type in
-    subst (λ (v : Value). AppendsRow p a b (v ∷ [])) same r
+    sym (decimal_is p (within_signed 128 z)) ∙ ap (stored_value decimal p) here ∙ ap (λ (l : LeafType). stored_value l p (at_place (map (value_i128 (base t)) zs) i)) type
+
+pub decimal_here : (t : TypeTree) (p : Physical) (zs : List ℤ) (m : Mask) (i : ℕ) (z : ℤ) (a b : List ℕ) → stores_i128 (base t) ≡ true → i < length zs → z ≡ get_or zs i z → AppendsRow p a b (stored_decimal p (within_signed 128 z) ∷ []) → AppendsRow p a b (stored_at (leaf_array t (map (value_i128 (base t)) zs) m) p i ∷ [])
+decimal_here t p zs m i z a b e h is r = subst (λ (v : Value). AppendsRow p a b (v ∷ [])) (decimal_at t p zs m i z e h is) r
 
 -- what statistics see of a decimal that is held
 pub held_here : (t : TypeTree) (p : Physical) (zs : List ℤ) (i : ℕ) → HasRoom p → IsHeld decimal p (at_place (map (value_i128 t) zs) i) → at_place (map (held_value p) zs) i ≡ at_place (map (value_i128 t) zs) i

@@ -17,6 +17,5 @@ pub mod StringPlaces
 pub mod TruthPlaces
 pub mod ServedColumns
 pub mod Ordered
-pub mod Taken
+pub mod Fed
 pub mod ServedDeltas
-pub mod Respelled

@@ -92,7 +92,7 @@ pub denotes_within : (version : Version) (e : Encoding) (p : Physical) (entries 
     → length buffer ≤ room (length (nested_column stored nested)) (plain_length p (values_in (nested_column stored nested)))
     → IsHeader version (out_page e (nested_column stored nested) st) r d header
     → room (length (nested_column stored nested)) (plain_length p (values_in (nested_column stored nested))) ≤ max_size
-    → Denotes version p (shred.max_repetition (path_way (parts_of nested))) (shred.max_definition (path_way (parts_of nested))) entries (out_page e (nested_column stored nested) st) (record { header = header; buffer = buffer; descriptor = about })
+    → Denotes version p (shred.max_repetition (path_way (parts_of nested))) (shred.max_definition (path_way (parts_of nested))) entries (out_page e (nested_column stored nested) st) (record { header = header; buffer = buffer; descriptor = about; selected_rows = None })
 denotes_within version e p entries stored st nested levels buffer text r d header about well s whole_is spelled most h fits =
     let parts = parts_of nested in
     let w = path_way parts in
@@ -139,7 +139,7 @@ pub denotes_in : (version : Version) (e : Encoding) (p : Physical) (entries : Op
     → length text ≤ plain_length p (map stored (path_places (parts_of nested))) + (11 * length (map stored (path_places (parts_of nested))) + 310)
     → IsHeader version (out_page e (nested_column stored nested) st) r d header
     → room (length (nested_column stored nested)) (plain_length p (values_in (nested_column stored nested))) ≤ max_size
-    → Denotes version p (shred.max_repetition (path_way (parts_of nested))) (shred.max_definition (path_way (parts_of nested))) entries (out_page e (nested_column stored nested) st) (record { header = header; buffer = buffer; descriptor = about })
+    → Denotes version p (shred.max_repetition (path_way (parts_of nested))) (shred.max_definition (path_way (parts_of nested))) entries (out_page e (nested_column stored nested) st) (record { header = header; buffer = buffer; descriptor = about; selected_rows = None })
 denotes_in version e p entries stored st nested levels buffer text r d header about well s whole_is spelled size_is h fits =
     let ts = nested_column stored nested in
     let vs : map stored (path_places (parts_of nested)) ≡ values_in ts = sym (values_are_at_places stored nested) in
@@ -153,7 +153,7 @@ denotes_in version e p entries stored st nested levels buffer text r d header ab
 pub denotes : (version : Version) (e : Encoding) (p : Physical) (stored : ℕ → Value) (st : Option Statistics) (nested : List Nested) (body : Body) (header : DataPageHeader) (d : Descriptor) → IsPath (parts_of nested)
     → IsBody version e p nested stored body → IsHeader version (out_page e (nested_column stored nested) st) body.repetition body.definition header
     → room (length (nested_column stored nested)) (plain_length p (values_in (nested_column stored nested))) ≤ max_size
-    → Denotes version p (shred.max_repetition (path_way (parts_of nested))) (shred.max_definition (path_way (parts_of nested))) None (out_page e (nested_column stored nested) st) (record { header = header; buffer = body.buffer.items; descriptor = d })
+    → Denotes version p (shred.max_repetition (path_way (parts_of nested))) (shred.max_definition (path_way (parts_of nested))) None (out_page e (nested_column stored nested) st) (record { header = header; buffer = body.buffer.items; descriptor = d; selected_rows = None })
 denotes version e p stored st nested body header d well b h fits =
     denotes_in version e p None stored st nested b.levels body.buffer.items b.values.text body.repetition body.definition header d well b.sections b.values.parts b.values.spelled b.values.size h fits
 

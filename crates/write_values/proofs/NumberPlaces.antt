@@ -117,7 +117,7 @@ number_placed {A} p f xs i x at k w old new l e q h g =
 row-behind : (p : Physical) (a text : List ℕ) (vs : List Value) → AppendsRow p [] text vs → AppendsRow p a (a ++ text) vs
 row-behind p a text vs h = record { text = text; parts = refl; row = subst (λ (t : List ℕ). InARow p t vs) (sym h.parts) h.row }
 
-take_on : {X : Type 0} (xs : List X) (i n : ℕ) → take (i + n) xs ≡ take i xs ++ take n (drop i xs)
+pub take_on : {X : Type 0} (xs : List X) (i n : ℕ) → take (i + n) xs ≡ take i xs ++ take n (drop i xs)
 take_on xs zero n = let e : 0 + n ≡ n = omega arith in ap (λ (k : ℕ). take k xs) e
 take_on {X} [] (suc i) n = nothing (suc i + n) ∙ sym (nothing n)
   where

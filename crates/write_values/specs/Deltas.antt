@@ -1,8 +1,7 @@
--- Values spelled by deltas, which are made of their plain spelling (Parquet format, Encodings: "Plain", "Delta Encoding", "Delta-length byte
--- array").
-use Rattle.std.specs.Prelude.{◌≡◌, ◌≢◌, ℕ, ◌+◌, ◌*◌, ◌≤◌, ℤ, pos, Bool, true, cond, Option, Some, None, IfSome, List, ◌++◌, length}
+-- Values spelled by deltas (Parquet format, Encodings: "Delta Encoding", "Delta-length byte array").
+use Rattle.std.specs.Prelude.{◌≡◌, ◌≢◌, ℕ, ◌+◌, ◌*◌, ◌≤◌, Bool, true, cond, Option, Some, None, IfSome, List, ◌++◌, length}
 use Rattle.shredding.specs.Shape.{LeafType, nothing}
-use Rattle.shredding.specs.Slot.{Value, bytes}
+use Rattle.shredding.specs.Slot.{Value}
 use Rattle.columns_core.specs.Shapes.{base, leaf_type}
 use Rattle.columns_core.specs.Tree.{TypeTree}
 use Rattle.columns_slots.specs.Types.{is_null_type}
@@ -12,7 +11,6 @@ use Rattle.pq_tree.specs.declared.types.Encoding.TheVariants as E
 use Rattle.pq_tree.specs.Tree.{Leaf}
 use Rattle.pq_files.specs.Layout.{delta_of, plain_length}
 use Rattle.pq_files.specs.Page.{Encoding, plain, dictionary, delta, delta_length}
-use Rattle.pq_files.specs.Plain.{IsOne}
 use Rattle.pq_files.specs.WrittenSpelling.{IsWrittenSpelled}
 use Rattle.write_values.specs.declared.spelling.Deltas.{Deltas}
 use Rattle.write_values.specs.declared.spelling.Deltas.TheVariants.{Numbers32, Numbers64, Lengths}
@@ -65,24 +63,3 @@ IsLeafType t = leaf_type t ≡ nothing → is_null_type (base t) ≡ true
 pub record IsSpelling (wants_deltas : Bool) (t : LeafType) (p : Physical) (deltas : Option Deltas) : Type 0 where
   pub encoding : encoding_in deltas ≡ page_encoding wants_deltas t p
   pub are : IfSome deltas (AreDeltasOf p)
-
--- ---- values that stand plain, one after another
-
--- one stands at the front, and these bytes behind it
-pub record TakesOne (p : Physical) (text rest : List ℕ) (v : Value) : Type 0 where
-  pub first : List ℕ
-  pub is : IsOne p first v
-  pub parts : text ≡ first ++ rest
-
--- none does
-abbrev pub TakesNone : Physical → List ℕ → Type 0
-TakesNone p text = (v : Value) (rest : List ℕ) → TakesOne p text rest v → ⊥
-
--- A call takes the value at the front of a text and gives what it tells of it, or none where there is none.
-abbrev pub StepsPlain : {S A : Type 0} → Physical → (S → List ℕ) → (A → Value → Type 0) → S → Option A → S → Type 0
-StepsPlain p text tells s None t = TakesNone p (text s)
-StepsPlain p text tells s (Some x) t = (v : Value) × tells x v × TakesOne p (text s) (text t) v
-
--- the length of a byte string
-abbrev pub TellsLength : ℤ → Value → Type 0
-TellsLength z v = (s : List ℕ) × (v ≡ bytes s) × (z ≡ pos (length s))

@@ -1,5 +1,6 @@
 pub mod Decimals
 pub mod Deltas
+pub mod Feeding
 pub mod Fixed
 pub mod Leaf
 pub mod Lengths

@@ -9,10 +9,13 @@ ghost use Rattle.std.specs.Int.{int_wrap, w32, w64};
 ghost use Rattle.write_values.specs.Decimals.{IsForm, fits_in, form_physical, form_size, holds_decimal, stored_decimal};
 ghost use Rattle.write_values.specs.Rows.{AppendsRow};
 
+use crate::feeding::DeltaValues;
 use crate::fixed::FixedValues;
 use columns_core::{ParquetNativeType, Result};
 use columns_leaf::PrimitiveArray;
 use columns_native::{AsPrimitive, PlainNumber};
+use pq_deltas::delta_bitpacked::Encoder;
+use std::alloc::AllocError;
 
 // How a column stores decimals.
 #[derive(Clone, Copy, Drop)]
@@ -182,5 +185,89 @@ impl<'a> FixedValues for Decimals<'a> {
         self.array.know();
         push_decimal(out, &self.array.values()[i], self.form)?;
         Ok(())
+    }
+}
+
+// The decimals of an array, stored as numbers of 32 bits.
+#[derive(Clone, Copy, Drop)]
+pub struct Decimals32<'a> {
+    pub array: &'a PrimitiveArray<i128>,
+}
+
+impl<'a> DeltaValues for Decimals32<'a> {
+    ghost use Rattle.std.specs.Prelude.{map};
+    ghost use Rattle.std.specs.Int.{w32};
+    ghost use Rattle.std.proofs.Common.{lit≤};
+    ghost use Rattle.columns_core.specs.Natives.{value_i128};
+    ghost use Rattle.columns_core.specs.Shapes.{base};
+    ghost use Rattle.columns_slots.specs.Tree.{leaf_array};
+    ghost use Rattle.columns_slots.specs.Slots.{tree_len};
+    ghost use Rattle.pq_tree.specs.Physical.{int32};
+    ghost use Rattle.write_values.specs.Stored.{stored_at};
+
+    ghost width = { w32 };
+
+    ghost physical = { int32 };
+
+    ghost places = { λ s. tree_len (leaf_array s.array.now.0 (map (value_i128 (base s.array.now.0)) s.array.now.1.0) s.array.now.1.1) };
+
+    ghost at = { λ s. stored_at (leaf_array s.array.now.0 (map (value_i128 (base s.array.now.0)) s.array.now.1.0) s.array.now.1.1) int32 };
+
+    ghost narrow = { lit≤ tt };
+
+    fn len(&self) -> usize {
+        self.array.len()
+    }
+
+    fn push_one(
+        &self,
+        encoder: &mut Encoder,
+        out: &mut Vec<u8>,
+        i: usize,
+    ) -> std::result::Result<(), AllocError> {
+        self.array.know();
+        encoder.push_i32(out, low_32(&self.array.values()[i]))
+    }
+}
+
+// The decimals of an array, stored as numbers of 64 bits.
+#[derive(Clone, Copy, Drop)]
+pub struct Decimals64<'a> {
+    pub array: &'a PrimitiveArray<i128>,
+}
+
+impl<'a> DeltaValues for Decimals64<'a> {
+    ghost use Rattle.std.specs.Prelude.{map};
+    ghost use Rattle.std.specs.Int.{w64};
+    ghost use Rattle.std.proofs.Common.{lit≤};
+    ghost use Rattle.columns_core.specs.Natives.{value_i128};
+    ghost use Rattle.columns_core.specs.Shapes.{base};
+    ghost use Rattle.columns_slots.specs.Tree.{leaf_array};
+    ghost use Rattle.columns_slots.specs.Slots.{tree_len};
+    ghost use Rattle.pq_tree.specs.Physical.{int64};
+    ghost use Rattle.write_values.specs.Stored.{stored_at};
+
+    ghost width = { w64 };
+
+    ghost physical = { int64 };
+
+    ghost places = { λ s. tree_len (leaf_array s.array.now.0 (map (value_i128 (base s.array.now.0)) s.array.now.1.0) s.array.now.1.1) };
+
+    ghost at = { λ s. stored_at (leaf_array s.array.now.0 (map (value_i128 (base s.array.now.0)) s.array.now.1.0) s.array.now.1.1) int64 };
+
+    ghost narrow = { lit≤ tt };
+
+    fn len(&self) -> usize {
+        self.array.len()
+    }
+
+    fn push_one(
+        &self,
+        encoder: &mut Encoder,
+        out: &mut Vec<u8>,
+        i: usize,
+    ) -> std::result::Result<(), AllocError> {
+        self.array.know();
+        encoder.push(out, low_64(&self.array.values()[i]))
     }
 }

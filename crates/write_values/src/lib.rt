@@ -4,6 +4,7 @@
 
 mod decimals;
 mod deltas;
+mod feeding;
 mod fixed;
 mod intervals;
 mod leaf;
@@ -12,9 +13,8 @@ mod measured;
 mod numbers;
 mod order;
 mod page;
+mod pieces;
 mod plain;
-mod plain_numbers;
-mod plain_strings;
 mod row;
 mod spelled;
 mod spelling;

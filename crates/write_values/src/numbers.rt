@@ -9,26 +9,48 @@ ghost use Rattle.write_places.specs.Places.{picked};
 ghost use Rattle.write_values.specs.Numbers.{at_place};
 ghost use Rattle.write_values.specs.Rows.{AppendsRow};
 
+use crate::feeding::DeltaValues;
 use crate::row::LeafValues;
 use columns_core::{ParquetNativeType, Result};
 use columns_leaf::PrimitiveArray;
 use columns_native::{AsPrimitive, PlainNumber, StoredAs};
+use pq_deltas::delta_bitpacked::Encoder;
+use std::alloc::AllocError;
 use std::marker::PhantomData;
 
 // A number of 32 or 64 bits, as columns have them (Parquet format, "Types": INT32 and INT64).
 pub trait StoredNumber: PlainNumber {
-    ghost use Rattle.std.specs.Prelude.{◌≡◌, ◌≤◌, ◌+◌, ◌++◌, true, length, take};
+    ghost use Rattle.std.specs.Prelude.{◌≡◌, ◌≤◌, ◌+◌, ◌++◌, ◌∷◌, [], true, length, take, OnOk};
+    ghost use Rattle.std.specs.Int.{Width};
+    ghost use mir.Val.{bits};
+    ghost use Rattle.pq_deltas.specs.Encoding.{Feeds};
+    ghost use Rattle.write_values.specs.Feeding.{AreNumbersOf};
     ghost use Rattle.shredding.specs.Slot.{Value, number};
     ghost use Rattle.pq_tree.specs.Views.{physical_view};
     ghost use Rattle.pq_files.specs.Layout.{plain_size};
     ghost use Rattle.page_statistics.specs.Spelled.{bound_text};
     ghost use Rattle.write_values.specs.Numbers.{is_number};
 
+    // the bits of such a number
+    ghost bit_width: { Width };
+
     // Its bytes take their place, lowest first, and those before it stay.
     fn put_le_bytes(&self, places: &mut [u8], at: usize)
         requires { at + Self.byte_count ≤ length places.old }
         ensures len { length places.new ≡ length places.old }
         ensures front { take (at + Self.byte_count) places.new ≡ take at places.old ++ Self.stored self.now };
+
+    /// The encoder takes the number.
+    ///
+    /// # Errors
+    ///
+    /// Want of memory.
+    fn push_delta(
+        self,
+        encoder: &mut Encoder,
+        out: &mut Vec<u8>,
+    ) -> std::result::Result<(), AllocError>
+        ensures { OnOk result (Feeds bit_width out.old.items encoder.old out.new.items encoder.new (Self.plain_number self ∷ [])) };
 
     ghost is_number_type: { is_number (physical_view Self.physical) ≡ true };
 
@@ -37,11 +59,22 @@ pub trait StoredNumber: PlainNumber {
     ghost few_bytes: { Self.byte_count ≤ 8 };
 
     ghost text_is: { (x : Self) → Self.stored x ≡ bound_text (physical_view Self.physical) (number (Self.plain_number x)) };
+
+    ghost is_narrow: { bits bit_width ≤ 64 };
+
+    ghost numbers_of: { AreNumbersOf (physical_view Self.physical) bit_width };
 }
 
 impl StoredNumber for i32 {
     ghost use Rattle.std.specs.Prelude.{refl};
+    ghost use Rattle.std.specs.Int.{w32};
     ghost use Rattle.std.proofs.Common.{lit≤};
+
+    ghost bit_width = { w32 };
+
+    ghost is_narrow = { lit≤ tt };
+
+    ghost numbers_of = { refl };
 
     ghost is_number_type = { refl };
 
@@ -54,11 +87,26 @@ impl StoredNumber for i32 {
     fn put_le_bytes(&self, places: &mut [u8], at: usize) {
         places[at..at + 4].copy_from_slice(&self.to_le_bytes());
     }
+
+    fn push_delta(
+        self,
+        encoder: &mut Encoder,
+        out: &mut Vec<u8>,
+    ) -> std::result::Result<(), AllocError> {
+        encoder.push_i32(out, self)
+    }
 }
 
 impl StoredNumber for i64 {
     ghost use Rattle.std.specs.Prelude.{refl};
+    ghost use Rattle.std.specs.Int.{w64};
     ghost use Rattle.std.proofs.Common.{lit≤};
+
+    ghost bit_width = { w64 };
+
+    ghost is_narrow = { lit≤ tt };
+
+    ghost numbers_of = { refl };
 
     ghost is_number_type = { refl };
 
@@ -70,6 +118,14 @@ impl StoredNumber for i64 {
 
     fn put_le_bytes(&self, places: &mut [u8], at: usize) {
         places[at..at + 8].copy_from_slice(&self.to_le_bytes());
+    }
+
+    fn push_delta(
+        self,
+        encoder: &mut Encoder,
+        out: &mut Vec<u8>,
+    ) -> std::result::Result<(), AllocError> {
+        encoder.push(out, self)
     }
 }
 
@@ -251,8 +307,10 @@ fn push_picked<T: AlwaysStored<P>, P: StoredNumber>(
 #[derive(Drop)]
 pub struct Numbers<'a, T: AlwaysStored<P>, P: StoredNumber> {
     pub array: &'a PrimitiveArray<T>,
+    values: &'a [T],
     stored: PhantomData<P>,
     ghost ordered: { has_order (leaf_type (base array.now.0)) ≡ true },
+    ghost are: { values.now ≡ array.now.1.0 },
 }
 
 impl<'a, T: AlwaysStored<P>, P: StoredNumber> Numbers<'a, T, P> {
@@ -263,6 +321,7 @@ impl<'a, T: AlwaysStored<P>, P: StoredNumber> Numbers<'a, T, P> {
     {
         Numbers {
             array,
+            values: array.values(),
             stored: PhantomData,
         }
     }
@@ -301,5 +360,39 @@ impl<'a, T: AlwaysStored<P>, P: StoredNumber> LeafValues for Numbers<'a, T, P> {
     fn push_some(&self, out: &mut Vec<u8>, from: usize, bits: u64, places: usize) -> Result<()> {
         self.array.know();
         push_picked::<T, P>(out, self.array.values(), from, bits, places)
+    }
+}
+
+impl<'a, T: AlwaysStored<P>, P: StoredNumber> DeltaValues for Numbers<'a, T, P> {
+    ghost use Rattle.std.specs.Prelude.{map};
+    ghost use Rattle.columns_core.specs.Shapes.{base};
+    ghost use Rattle.columns_slots.specs.Tree.{leaf_array};
+    ghost use Rattle.columns_slots.specs.Slots.{tree_len};
+    ghost use Rattle.pq_tree.specs.Views.{physical_view};
+    ghost use Rattle.write_values.specs.Stored.{stored_at};
+
+    ghost width = { P.bit_width };
+
+    ghost physical = { physical_view P.physical };
+
+    ghost places = { λ s. tree_len (leaf_array s.array.now.0 (map (T.value (base s.array.now.0)) s.array.now.1.0) s.array.now.1.1) };
+
+    ghost at = { λ s. stored_at (leaf_array s.array.now.0 (map (T.value (base s.array.now.0)) s.array.now.1.0) s.array.now.1.1) (physical_view P.physical) };
+
+    ghost narrow = { P.is_narrow };
+
+    fn len(&self) -> usize {
+        self.array.len()
+    }
+
+    fn push_one(
+        &self,
+        encoder: &mut Encoder,
+        out: &mut Vec<u8>,
+        i: usize,
+    ) -> std::result::Result<(), AllocError> {
+        self.array.know();
+        let stored: P = self.values[i].to_stored();
+        stored.push_delta(encoder, out)
     }
 }

@@ -19,7 +19,7 @@ ghost use Rattle.write_values.specs.Rows.{AppendsPlain};
 ghost use Rattle.write_values.specs.Served.{is_served};
 ghost use Rattle.write_values.specs.Stored.{stored_at};
 
-use crate::deltas::{push_delta_lengths, push_deltas_i32, push_deltas_i64};
+use crate::deltas::push_deltas;
 use crate::leaf::Leaf;
 use crate::measured::Measured;
 use crate::spelling::Deltas;
@@ -27,20 +27,6 @@ use crate::values::push_values;
 use columns_core::Result;
 use levels::Nested;
 use std::alloc::Global;
-
-// Appends the deltas of so many values that stand plain.
-fn push_deltas(out: &mut Vec<u8>, plain: &[u8], count: usize, deltas: Deltas) -> Result<()>
-    requires short { length plain.now < 2 ^ 31 }
-    requires spelled { (p : Physical) × AreDeltasOf p deltas × (vs : List Value) × IsPlain p plain.now vs × (length vs ≡ count) }
-    ensures ok { OnOk result ((p : Physical) (vs : List Value) → AreDeltasOf p deltas → IsPlain p plain.now vs → AppendsSpelled (delta_in deltas) p out.old.items out.new.items vs) }
-    ensures err { IfErr result (λ e. e ≡ Memory) }
-{
-    match deltas {
-        Deltas::Numbers32 => push_deltas_i32(out, plain, count),
-        Deltas::Numbers64 => push_deltas_i64(out, plain, count),
-        Deltas::Lengths => push_delta_lengths(out, plain, count),
-    }
-}
 
 // Appends the plain spelling of the values that a path reaches, which has so many bytes.
 fn push_plain(
@@ -63,8 +49,8 @@ fn push_plain(
     push_values(alloc, leaf, nested, out)
 }
 
-// Appends the values that a path reaches, whose plain spelling has at most 2^31 - 1 bytes. Deltas are made of that spelling, so that
-// every leaf that has one has deltas.
+// Appends the values that a path reaches, whose plain spelling has at most 2^31 - 1 bytes. Deltas are taken of the values in the leaf array, and
+// take no memory beside that of the section.
 pub fn push_spelled(
     alloc: Global,
     leaf: Leaf<'_>,
@@ -84,17 +70,11 @@ pub fn push_spelled(
     ensures ok { IfOk result (λ body. AppendsSpelled (encoding_in deltas) (leaf_physical leaf.entry) out.items body.items (map (stored_at (leaf_tree leaf.entry) (leaf_physical leaf.entry)) (path_places (parts_of nested.now)))) }
     ensures err { IfErr result (λ e. e ≡ Memory) }
 {
-    let mut out = out;
-    let size = measured.plain as usize;
     match deltas {
         None => {
-            let out = push_plain(alloc, leaf, nested, size, out)?;
+            let out = push_plain(alloc, leaf, nested, measured.plain as usize, out)?;
             Ok(out)
         }
-        Some(deltas) => {
-            let plain = push_plain(alloc, leaf, nested, size, Vec::new(alloc))?;
-            push_deltas(&mut out, &plain, measured.values, deltas)?;
-            Ok(out)
-        }
+        Some(_) => push_deltas(leaf, nested, measured.values, out),
     }
 }

@@ -1,6 +1,6 @@
-use Rattle.std.proofs.Common.{◌≡◌, ℕ, ℤ, ◌++◌, subst, ap, ◌∙◌, Option, SFits, rules}
-use Rattle.std.proofs.lemmas.Int.{to_z-of_z, wrapping_sub_is}
-use Rattle.std.specs.Int.{w32, w64}
+use Rattle.std.proofs.Common.{◌≡◌, ℕ, ℤ, ◌-ℤ◌, ◌++◌, subst, ap, ◌∙◌, Option, SFits, rules}
+use Rattle.std.proofs.lemmas.Int.{to_z-of_z, wrapping_sub_is, int_wrap-sub_right}
+use Rattle.std.specs.Int.{w32, w64, int_wrap}
 use Rattle.pq_numbers.specs.Varint.{varint}
 use Rattle.pq_numbers.specs.Zigzag.{zigzag}
 use Rattle.pq_runs.specs.DeltaWriting.{Begun}
@@ -18,6 +18,10 @@ returns-in-None-clause-ok c =
 
 pub returns-in-Some-clause-ok : goal.returns-in-Some-clause-ok
 returns-in-Some-clause-ok c =
-    let fits : SFits w32 c.in-Some.latest = search rules in
+    let low : ℤ = c.low_32-latest.result in
+    let fits : SFits w32 low = search rules in
+    let held : SFits w64 c.in-Some.latest = search rules in
     let wide : SFits w64 c.from-in-Some.result = search rules in
-    finished c.push_difference.result (λ f start zs b. f w32 start c.in-Some.latest c.args.value zs c.ranges.value (to_z-of_z w64 c.from-in-Some.result wide ∙ c.from-in-Some.ensures ∙ wrapping_sub_is w32 c.args.value c.in-Some.latest c.ranges.value fits) (subst (λ (o : Option ℤ). Begun w32 start c.args.out.now.items c.args.waiting.now o zs) c.in-Some.is b)) c.push_difference.ensures.ok
+    let is : low ≡ int_wrap w32 c.in-Some.latest = c.low_32-latest.ensures ∙ ap (int_wrap w32) (to_z-of_z w64 c.in-Some.latest held) in
+    let difference : c.from-in-Some.result ≡ int_wrap w32 (c.args.value -ℤ c.in-Some.latest) = c.from-in-Some.ensures ∙ wrapping_sub_is w32 c.args.value low c.ranges.value fits ∙ ap (λ (z : ℤ). int_wrap w32 (c.args.value -ℤ z)) is ∙ int_wrap-sub_right w32 c.args.value c.in-Some.latest in
+    finished c.push_difference.result (λ f start zs b. f w32 start c.in-Some.latest c.args.value zs c.ranges.value (to_z-of_z w64 c.from-in-Some.result wide ∙ difference) (subst (λ (o : Option ℤ). Begun w32 start c.args.out.now.items c.args.waiting.now o zs) c.in-Some.is b)) c.push_difference.ensures.ok

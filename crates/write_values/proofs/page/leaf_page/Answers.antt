@@ -92,7 +92,7 @@ returns-clause-ok c =
       statistics = st.out;
       has = st.has;
       exact = st.exact;
-      denotes = subst (λ (k : Encoding). Denotes c.args.form.version p (max_repetition (path_way (parts_of nested))) (max_definition (path_way (parts_of nested))) None (out_page k (stored_column a p nested) st.out) (record { header = c.page_header-header.result; buffer = c.in_ok-body.body.buffer.items; descriptor = c.descriptor_of-descriptor.result })) c.requires.spelling.encoding (denotes c.args.form.version e p stored st.out nested c.in_ok-body.body c.page_header-header.result c.descriptor_of-descriptor.result c.requires.well c.in_ok-body.ensures.ok (c.page_header-header.ensures.is e _ c.encoding_in-encoding.ensures out) fits);
+      denotes = subst (λ (k : Encoding). Denotes c.args.form.version p (max_repetition (path_way (parts_of nested))) (max_definition (path_way (parts_of nested))) None (out_page k (stored_column a p nested) st.out) (record { header = c.page_header-header.result; buffer = c.in_ok-body.body.buffer.items; descriptor = c.descriptor_of-descriptor.result; selected_rows = None })) c.requires.spelling.encoding (denotes c.args.form.version e p stored st.out nested c.in_ok-body.body c.page_header-header.result c.descriptor_of-descriptor.result c.requires.well c.in_ok-body.ensures.ok (c.page_header-header.ensures.is e _ c.encoding_in-encoding.ensures out) fits);
       within = fits;
       about = c.descriptor_of-descriptor.ensures.about;
       repeats = c.descriptor_of-descriptor.ensures.repeats;

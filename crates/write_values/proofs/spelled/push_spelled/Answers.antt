@@ -1,19 +1,12 @@
-use Rattle.std.proofs.Common.{Option, length, map, ap, arith, sym, subst}
-use Rattle.std.proofs.lemmas.List.{length-append}
+use Rattle.std.proofs.Common.{Option, map, sym, subst}
 use Rattle.levels.specs.Nested.{parts_of}
 use Rattle.write_places.specs.Places.{path_places}
 use Rattle.write_values.specs.declared.spelling.Deltas.{Deltas}
 use Rattle.write_values.specs.Deltas.{AppendsSpelled, encoding_in}
 use Rattle.write_values.specs.Leaf.{leaf_tree, leaf_physical}
 use Rattle.write_values.specs.Stored.{stored_at}
-use Rattle.write_values.proofs.InRows.{plain_spelled, text_size}
+use Rattle.write_values.proofs.InRows.{plain_spelled}
 use Rattle.write_values.proofs.spelled.push_spelled.Goals as goal
-
-pub push_deltas-requires-clause-short : goal.push_deltas-requires-clause-short
-push_deltas-requires-clause-short c =
-    let h = c.in_ok-plain-in-Some.ensures.ok in
-    let size = text_size (leaf_physical c.args.leaf) h.text _ h.spelled in
-    omega (arith, ap length c.deref.ensures.value, ap length h.parts, ap length c.new.ensures.items, length-append c.new.result.items h.text, size, c.requires.small)
 
 pub returns-in_ok-out-in-None-clause-ok : goal.returns-in_ok-out-in-None-clause-ok
 returns-in_ok-out-in-None-clause-ok c =
