@@ -4,6 +4,7 @@ pub mod ColumnForms
 pub mod ColumnLists
 pub mod DictionaryColumns
 pub mod DictionaryRows
+pub mod Due
 pub mod EntryRows
 pub mod HiddenPaths
 pub mod KeyedArrays

@@ -1,5 +1,5 @@
 -- Why a page is refused.
-use Rattle.std.specs.Prelude.{◌≡◌, ◌⊎◌, ◌≤◌, true, false, Option, Some, None, List, [], ◌∷◌, length, map, Result, Ok, Err}
+use Rattle.std.specs.Prelude.{◌≡◌, ◌⊎◌, ◌<◌, ◌≤◌, ℕ, suc, true, false, cond, Option, Some, None, List, [], ◌∷◌, length, map, Result, Ok, Err}
 use Rattle.shredding.specs.Parts.{Part, path_way}
 use Rattle.shredding.specs.Shape.{LeafType}
 use Rattle.shredding.specs.Shred.{column}
@@ -69,12 +69,16 @@ pub record HoldsEntries (t : LeafType) (p : Physical) (es : List (Option Value))
 abbrev pub IsNextPastRoom : ToGive → Type 0
 IsNextPastRoom g = IsDictionaryPastRoom g.type g.physical g.entries ⊎ ((piece : List Slot) × (rest : List (List Slot)) × (g.pieces ≡ piece ∷ rest) × IsPastRoom g.type g.physical (column g.way piece))
 
+-- how many pages are still to come: that of a dictionary, and one of each piece
+abbrev pub pages_due : ToGive → ℕ
+pages_due g = cond g.owes_dictionary (suc (length g.pieces)) (length g.pieces)
+
 -- What a call for the next page answers, by the pages that were to be given and that are: none where there is none; the dictionary page, where it
--- was to come; the page of the next rows; or an error, after which there is none. The error is want of memory, or that the room of a page is past the sizes of a header.
+-- was to come; the page of the next rows; or in the place of a page an error, after which there is none. The error is want of memory, or that the room of a page is past the sizes of a header.
 abbrev pub Gives : ToGive → ToGive → Option (Result Page Error) → Type 0
 Gives old new None = (old.owes_dictionary ≡ false) × (old.pieces ≡ []) × (new ≡ old)
 Gives old new (Some (Ok (Data page))) =
     (piece : List Slot) × (rest : List (List Slot)) × (old.owes_dictionary ≡ false) × (old.pieces ≡ piece ∷ rest) × (new ≡ later old rest) × HoldsRows old.options old.encoding old.type old.node old.physical old.way old.entries piece page
 Gives old new (Some (Ok (Dict page))) =
     (es : List (Option Value)) × (old.owes_dictionary ≡ true) × (old.entries ≡ Some es) × (new ≡ behind_dictionary old) × HoldsEntries old.type old.physical es page
-Gives old new (Some (Err e)) = (new ≡ ended old) × ((e ≡ Memory) ⊎ ((e ≡ Overflow V3) × IsNextPastRoom old))
+Gives old new (Some (Err e)) = (new ≡ ended old) × ((e ≡ Memory) ⊎ ((e ≡ Overflow V3) × IsNextPastRoom old)) × (0 < pages_due old)

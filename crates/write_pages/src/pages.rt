@@ -1,5 +1,6 @@
 //! The pages of a column, one at a time.
 ghost use Rattle.std.specs.Prelude.{◌≡◌, ◌⊎◌, ◌≤◌, length, option_map, IfOk, IfErr};
+ghost use Rattle.std.specs.Iterator.{at_most};
 ghost use Rattle.columns_base.specs.declared.error.Error.TheVariants.{Memory};
 ghost use Rattle.columns_array.specs.Boxed.{boxed};
 ghost use Rattle.levels.specs.Nested.{parts_of};
@@ -7,7 +8,7 @@ ghost use Rattle.pq_tree.specs.Views.{statistics_view};
 ghost use Rattle.write_values.specs.Deltas.{encoding_name};
 ghost use Rattle.write_pages.specs.Given.{to_give};
 ghost use Rattle.write_pages.specs.Holds.{IsPagesOf};
-ghost use Rattle.write_pages.specs.Refused.{AreWritten, Gives, RefusesPages};
+ghost use Rattle.write_pages.specs.Refused.{AreWritten, Gives, RefusesPages, pages_due};
 
 use crate::keyed_pages::{DictionaryPages, keyed_pages};
 use crate::keys::as_dictionary;
@@ -75,6 +76,18 @@ impl PageIter {
             PageIter::Leaf(pages) => pages.statistics(),
             PageIter::Dictionary(pages) => pages.statistics(),
         }
+    }
+}
+
+impl Iterator for PageIter {
+    type Item = Result<Page>;
+
+    ghost next_gives = { λ old page new. Gives (to_give old) (to_give new) page };
+
+    ghost remaining = { λ pages. at_most (pages_due (to_give pages)) };
+
+    fn next(&mut self) -> Option<Result<Page>> {
+        self.next_page()
     }
 }
 

@@ -18,6 +18,7 @@ use Rattle.shredding.specs.Shred.{column}
 use Rattle.write_pages.specs.Entries.{IsDictionaryPastRoom}
 use Rattle.write_pages.specs.Holds.{DictionaryState, HoldsRows, dictionary_to_give, piece_owed}
 use Rattle.write_pages.specs.Refused.{Gives, IsPastRoom}
+use Rattle.write_pages.proofs.Due.{due_with_rows}
 use Rattle.write_pages.proofs.keyed_pages.DictionaryPages.next_rows.Goals as goal
 use Rattle.write_pages.proofs.keyed_pages.DictionaryPages.next_rows.Goals.{in-Ok, in-Err}
 
@@ -44,6 +45,6 @@ returns c =
           let cause : (e ≡ Memory) ⊎ ((e ≡ Overflow V3) × (IsDictionaryPastRoom t p (Some es) ⊎ IsPastRoom t p (column (path_way (parts_of s.nested.items)) rows))) =
           subst (λ (xs : List Nested). (e ≡ Memory) ⊎ ((e ≡ Overflow V3) × (IsDictionaryPastRoom t p (Some es) ⊎ IsPastRoom t p (column (path_way (parts_of xs)) (path_slots (leaf_slot s.array) (parts_of xs)))))) c.deref.ensures.value w.in-Err.ensures.err in
           subst (λ (r : Result Page Error). Gives (dictionary_to_give seen) (dictionary_to_give new) (Some r)) (sym w.result-is)
-          (ap (λ (b : Bool). record (dictionary_to_give new) { owes_dictionary = b }) behind, elim cause [ inl m ↦ inl m | inr h ↦ inr (h.0, elim h.1 [ inl d ↦ inl d | inr r ↦ inr (rows, [], piece, r) ]) ])
+          (ap (λ (b : Bool). record (dictionary_to_give new) { owes_dictionary = b }) behind, elim cause [ inl m ↦ inl m | inr h ↦ inr (h.0, elim h.1 [ inl d ↦ inl d | inr r ↦ inr (rows, [], piece, r) ]) ], due_with_rows (dictionary_to_give seen) rows [] behind piece)
     ] in
     subst (λ (old : DictionaryState). Gives (dictionary_to_give old) (dictionary_to_give new) (Some c.match-rows_page.result)) c.self.view_is given

@@ -55,4 +55,4 @@ returns-in-Err c =
     subst (λ (xs : List Nested). (e ≡ Memory) ⊎ ((e ≡ Overflow V3) × IsPastRoom (leaf_type (type_of (boxed s.array))) (physical_view s.type_.physical_type) (column (path_way (parts_of xs)) (take n (drop s.next (rows_of (parts_of xs) (boxed s.array))))))) c.deref-2.ensures.value c.in-Err.ensures.err in
     let left = some_left s.has_failed s.per_page s.next n rows c.if-self.false c.self.invariant.some (omega (arith, c.if-self-rows.false, count)) (omega (arith, c.min-count.ensures, count)) in
     subst (λ (old : LeafState). Gives (leaf_to_give old) (leaf_to_give new) (Some (Err e))) c.self.view_is
-    (refl, elim cause [ inl m ↦ inl m | inr h ↦ inr (h.0, inr (take n (drop s.next rows), pieces_left s.has_failed s.per_page (s.next + n) rows, left, h.1)) ])
+    (refl, elim cause [ inl m ↦ inl m | inr h ↦ inr (h.0, inr (take n (drop s.next rows), pieces_left s.has_failed s.per_page (s.next + n) rows, left, h.1)) ], omega (arith, ap length left))
