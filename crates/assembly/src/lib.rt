@@ -8,5 +8,5 @@ mod paths;
 mod pieces;
 
 pub use array_iter::ArrayIter;
-pub use open::column_iter_to_arrays;
-pub use paths::{LeafPath, leaf_paths};
+pub use open::{column_iter_to_arrays, open_columns};
+pub use paths::{LeafPath, leaf_paths, paths_beneath};

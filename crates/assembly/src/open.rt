@@ -48,8 +48,13 @@ fn open_column<I: Pages + Drop>(
     }
 }
 
-// A reader of each column.
-fn open_columns<I: Pages + Drop>(
+/// A reader of each column, by the ways to their leaves: as many ways and types as columns.
+///
+/// # Errors
+///
+/// - `NotYetImplemented(N5)`: a leaf's type is not read, or not under its physical type or at the end of its way.
+/// - `Memory`.
+pub fn open_columns<I: Pages + Drop>(
     alloc: Global,
     paths: &[LeafPath],
     mut columns: Vec<I>,

@@ -183,19 +183,32 @@ fn push_fields(
     Ok(())
 }
 
-/// The ways to the leaves of a field, in order. The field nests to at most 128.
+/// The ways to the leaves of a field beneath parts, in order, each with the parts in front. The field nests to at most 128.
 ///
 /// # Errors
 ///
 /// - `NotYetImplemented(N5)`: a list of fixed size or a union is on a way, or a dictionary whose entries are lists, structs, maps or dictionaries.
 /// - `InvalidArgumentError(A8)`: a struct on a way has no field.
 /// - `Memory`.
+pub fn paths_beneath(alloc: Global, front: &[InitNested], field: &Field) -> Result<Vec<LeafPath>>
+    requires { field_nesting (field_view field.now) ≤ 128 }
+    ensures ok { IfOk result (λ v. (map path_view v.items ≡ field_paths front.now (field_view field.now)) × (field_fault (field_view field.now) ≡ None)) }
+    ensures err { IfErr result (λ e. (e ≡ Error.Memory) ⊎ (field_fault (field_view field.now) ≡ Some e)) }
+{
+    let mut paths = Vec::new(alloc);
+    push_field(alloc, front, field, &mut paths)?;
+    Ok(paths)
+}
+
+/// The ways to the leaves of a field, in order. The field nests to at most 128.
+///
+/// # Errors
+///
+/// Those of `paths_beneath`.
 pub fn leaf_paths(alloc: Global, field: &Field) -> Result<Vec<LeafPath>>
     requires { field_nesting (field_view field.now) ≤ 128 }
     ensures ok { IfOk result (λ v. (map path_view v.items ≡ field_paths [] (field_view field.now)) × (field_fault (field_view field.now) ≡ None)) }
     ensures err { IfErr result (λ e. (e ≡ Error.Memory) ⊎ (field_fault (field_view field.now) ≡ Some e)) }
 {
-    let mut paths = Vec::new(alloc);
-    push_field(alloc, &[], field, &mut paths)?;
-    Ok(paths)
+    paths_beneath(alloc, &[], field)
 }

@@ -1,5 +1,5 @@
 -- What a call for the next piece gives, by the reader that it asks.
-use Rattle.std.proofs.Common.{◌≡◌, inl, inr, Option, Some, None, true, false, List, map, refl, ap, ◌∙◌}
+use Rattle.std.proofs.Common.{◌≡◌, inl, inr, Option, Some, None, true, List, map, refl, ap, ◌∙◌}
 use Rattle.std.specs.Prelude.{Result, Ok, Err}
 use Rattle.columns_base.specs.declared.error.Error.{Error}
 use Rattle.columns_core.specs.Shapes.{base}
@@ -18,6 +18,7 @@ use Rattle.read_pieces.specs.declared.piece.ColumnPiece.{ColumnPiece}
 use Rattle.shredding.specs.Shred.{Triple}
 
 pub leaf_gives : (o : ColumnOpening) (t : TypeTree) (pieces : List (List Triple)) (old now : LeafReading) (result : Option (Result ColumnPiece Error)) → IsReadingLeaf o t pieces old → GivesPiece (λ x ps r. IsReadingLeaf x t ps r) (λ p ts. IsPieceOf o.column t ts None p) o pieces result now → GivesPiece (λ x ps r. IsReadingColumn x t ps r) (λ p ts. IsColumnPiece o t ts p) o pieces result (inl now)
+unfolding IsReadingColumn
 leaf_gives o t pieces old now None r g = g
 leaf_gives o t pieces old now (Some (Err e)) r g = g
 leaf_gives o t pieces old now (Some (Ok p)) r (ts, next, piece, reads) = (ts, next, record { entries = None; piece = piece; are = r.reads.readable.direct }, reads)
@@ -32,6 +33,7 @@ at_stage o t e pieces (Some (inr v)) h = h.has.typed
 at_stage o t e pieces None h = absurd h
 
 pub dictionary_gives : (o : ColumnOpening) (t : TypeTree) (pieces : List (List Triple)) (old now : DictionaryReading) (result : Option (Result ColumnPiece Error)) → IsReadingDictionary o t pieces old → GivesPiece (λ x ps r. IsReadingDictionary x t ps r) (λ p ts. IsDictionaryPiece o t ts p) o pieces result now → GivesPiece (λ x ps r. IsReadingColumn x t ps r) (λ p ts. IsColumnPiece o t ts p) o pieces result (inr now)
+unfolding IsReadingColumn
 dictionary_gives o t pieces old now None r g = g
 dictionary_gives o t pieces old now (Some (Err e)) r g = g
 dictionary_gives o t pieces old now (Some (Ok p)) r (ts, next, piece, reads) = (ts, next, record { entries = Some (map Some piece.values); piece = piece.piece; are = (at_stage o t old.entries pieces old.stage r.stage, (piece.values, refl, piece.dictionary)) }, reads)

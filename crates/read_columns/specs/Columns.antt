@@ -28,7 +28,7 @@ abbrev pub ColumnReading : Type 0
 ColumnReading = LeafReading ⊎ DictionaryReading
 
 -- The arrays have this type, and these pieces were given.
-abbrev pub IsReadingColumn : ColumnOpening → TypeTree → List (List Triple) → ColumnReading → Type 0
+unfoldable pub IsReadingColumn : ColumnOpening → TypeTree → List (List Triple) → ColumnReading → Type 0
 IsReadingColumn o t pieces (inl r) = IsReadingLeaf o t pieces r
 IsReadingColumn o t pieces (inr r) = IsReadingDictionary o t pieces r
 

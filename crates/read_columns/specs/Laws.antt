@@ -1,5 +1,5 @@
 -- The entries of a column's arrays by the chunk that its pages hold (Parquet format, "Dictionary Page").
-use Rattle.std.specs.Prelude.{◌≡◌, List, Option}
+use Rattle.std.specs.Prelude.{List, Option}
 use Rattle.pq_files.specs.Carried.{column_in}
 use Rattle.pq_files.specs.Chunk.{Chunk}
 use Rattle.pq_headline.specs.Rows.{AreEntriesFor}

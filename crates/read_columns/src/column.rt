@@ -84,7 +84,7 @@ impl<I: Pages> Column<I> {
     /// # Errors
     ///
     /// N5 exactly where neither `LeafColumn` nor `DictionaryColumn` reads the type under this physical type at the end of such a way; `Memory`.
-    #[tactic(auto, using(crate::proofs::Openings::keyed_unserved, crate::proofs::Openings::direct_unserved))]
+    #[tactic(auto, using(crate::proofs::Openings::keyed_unserved, crate::proofs::Openings::direct_unserved), unfolding(crate::specs::Columns::IsReadingColumn))]
     pub fn try_new(
         alloc: Global,
         pages: I,

@@ -25,6 +25,7 @@ use Rattle.read_items.specs.Items.{ItemsAreCounted, list_counts, items_from}
 use Rattle.pq_headline.specs.Columns.{ArrowColumn, beneath_struct, small_limit, large_limit, type_columns, field_columns, columns_from}
 use Rattle.pq_headline.specs.FieldReasons.{PassesLists, items_in}
 use Rattle.read_nested.specs.Above.{Above, above_list, above_struct, way_beneath, raised}
+use Rattle.read_nested.specs.Beneath.{CannotJoinColumns as Cannot}
 use Rattle.read_nested.specs.Builds.{Fails, FailsLeaf, FailsField, FailsAll, FailsOthers}
 use Rattle.read_nested.specs.Fronts.{built as built_of}
 use Rattle.read_nested.specs.Joined.{CannotJoin, HasFlatEntries, HaveFlatEntries, Disagree, DisagreesWith, SomePass, HasFixedList, HaveFixedList}
@@ -34,10 +35,6 @@ use Rattle.read_nested.proofs.Array.{raised-none}
 use Rattle.read_nested.proofs.Fronts.{fronts-agree}
 use Rattle.read_nested.proofs.Keeps.{list-len}
 use Rattle.read_nested.proofs.Stood.{raised-list, raised-struct-one, raised-way, Aligned, aligned-length, list-end, IsListEnd, innermost-end, IsStood, AllStood, stood-back}
-
--- the conditions, of any columns
-abbrev pub Cannot : Type 0 → List ArrowColumn → List (List Triple) → Error → Type 0
-Cannot fixed cs tables e = (e ≡ Memory) ⊎ ((e ≡ OutOfSpec S10) × Disagree cs tables) ⊎ ((e ≡ Overflow V1) × SomePass cs tables) ⊎ ((e ≡ NotYetImplemented N5) × fixed)
 
 cannot-fixed : (F G : Type 0) (cs : List ArrowColumn) (tables : List (List Triple)) (e : Error) → (F → G) → Cannot F cs tables e → Cannot G cs tables e
 cannot-fixed F G cs tables e f h = elim h [ inl m ↦ inl m | inr r ↦ elim r [ inl d ↦ inr (inl d) | inr q ↦ elim q [ inl p ↦ inr (inr (inl p)) | inr x ↦ inr (inr (inr (x.0, f x.1))) ] ] ]

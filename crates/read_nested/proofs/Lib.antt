@@ -8,3 +8,4 @@ pub mod Array
 pub mod Failed
 pub mod Each
 pub mod Places
+pub mod Put

@@ -11,6 +11,7 @@ use Rattle.read_laws.specs.Column.{slot_of}
 use Rattle.read_laws.specs.State.{Kept, kept_leaf, kept_list, kept_struct, kept_way, leaf_count, StateFits}
 use Rattle.read_pieces.specs.Pieces.{IsPiece}
 use Rattle.pq_headline.specs.Columns.{ArrowColumn, beneath_list, beneath_struct}
+pub use Rattle.read_nested.specs.Beneath.{Aligned, IsStood, AllStood}
 use Rattle.read_nested.specs.Above.{Above, above_list, above_struct, way_beneath, raised}
 use Rattle.read_nested.specs.Joined.{HasFlatEntries}
 use Rattle.read_nested.specs.Keeps.{Stands, IsFlat, list_of_part}
@@ -47,12 +48,6 @@ raised-type (above_list m k ∷ above) c = raised-type above c
 raised-type (above_struct m k ∷ above) c = raised-type above c
 
 -- ---- parts that are those above
-abbrev pub Aligned : List Kept → List Above → Type 0
-Aligned [] [] = Unit {0}
-Aligned (kept_list m starts ∷ front) (above_list n l ∷ above) = (is_some m ≡ n) × Aligned front above
-Aligned (kept_struct m c ∷ front) (above_struct n i ∷ above) = (is_some m ≡ n) × Aligned front above
-Aligned _ _ = ⊥
-
 none-above : (k : Kept) (front : List Kept) → Aligned (k ∷ front) [] → ⊥
 none-above (kept_leaf n c) front h = h
 none-above (kept_list m starts) front h = h
@@ -179,22 +174,6 @@ leaf_count-end (kept_list m starts ∷ front) n c f = leaf_count-end front n c f
 leaf_count-end (kept_struct m d ∷ front) n c f = leaf_count-end front n c f.2
 
 -- ---- a column whose parts, but those in front, stand for slots
-pub record IsStood (above : List Above) (c : ArrowColumn) (ts : List Triple) (front : List Kept) (at : ℕ → Slot) (n : ℕ) : Type 0 where
-  pub leaf : List Slot
-  pub state : List Kept
-  pub is : IsPiece (raised above c).way ts state leaf
-  pub back : List Kept
-  pub some : 0 < length back
-  pub parts : state ≡ front ++ back
-  pub stands : Stands (slot_of leaf) c.way back at n
-  pub flat : (i : ℕ) → i < leaf_count state → IsFlat (slot_of leaf i)
-  pub plain : HasFlatEntries c.data_type
-
-abbrev pub AllStood : List Above → List ArrowColumn → List (List Triple) → List Kept → (ℕ → Slot) → ℕ → Type 0
-AllStood above [] [] front at n = Unit {0}
-AllStood above (c ∷ cs) (ts ∷ tables) front at n = IsStood above c ts front at n × AllStood above cs tables front at n
-AllStood above _ _ front at n = ⊥
-
 pub stood-back : (above : List Above) (c : ArrowColumn) (ts : List Triple) (front : List Kept) (k : Kept) (at : ℕ → Slot) (n : ℕ) (s : IsStood above c ts (front ++ k ∷ []) at n) → StateFits (k ∷ s.back)
 stood-back above c ts front k at n s =
     let f : StateFits (front ++ (k ∷ s.back)) = rw append_assoc at (rw s.parts at s.is.fits) in

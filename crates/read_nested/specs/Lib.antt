@@ -4,3 +4,4 @@ pub mod Keeps
 pub mod Made
 pub mod Builds
 pub mod Joined
+pub mod Beneath

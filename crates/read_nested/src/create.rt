@@ -1,5 +1,5 @@
 //! The array of a field.
-ghost use Rattle.std.specs.Prelude.{◌≡◌, ◌⊎◌, ◌≤◌, true, IfOk, IfErr, OnOk, List, Option};
+ghost use Rattle.std.specs.Prelude.{◌≡◌, ◌⊎◌, ◌≤◌, true, Bool, IfOk, IfErr, OnOk, List, Option};
 ghost use Rattle.std.specs.Vec.Iter.{into_iter_items};
 ghost use Rattle.columns_core.specs.View.{type_view, field_view, fields_view};
 ghost use Rattle.columns_base.specs.declared.error.Error.{Error};
@@ -13,7 +13,9 @@ ghost use Rattle.columns_core.specs.Tree.{t_list, t_map, t_struct};
 ghost use Rattle.columns_slots.specs.Tree.{no_arrays, more_arrays};
 ghost use Rattle.pq_headline.specs.Columns.{field_columns};
 ghost use Rattle.read_pieces.specs.Pieces.{leaf_types, ArePiecesOf};
-ghost use Rattle.read_nested.specs.Joined.{IsArrayOf, CannotJoin, HaveFlatEntries};
+ghost use Rattle.read_nested.specs.Above.{Above};
+ghost use Rattle.read_nested.specs.Beneath.{columns_beneath, ArePiecesBeneath, IsBeneath, CannotJoinColumns};
+ghost use Rattle.read_nested.specs.Joined.{IsArrayOf, CannotJoin, HasFixedList, HaveFlatEntries};
 ghost use Rattle.read_nested.specs.Made.{innermost, IsPopped, IsListOf, IsStructOf, MakesList, RefusesList, RefusesMap, RefusesStruct};
 ghost use Rattle.columns_array.specs.Boxed.{boxed, all_boxed};
 ghost use Rattle.read_nested.specs.Builds.{joined, Builds, BuildsAll, BuildsField, BuildsLeaf, Fails, FailsAll, FailsField, FailsLeaf};
@@ -229,4 +231,26 @@ pub fn create_array(alloc: Global, field: &Field, pieces: Vec<ColumnPiece>) -> R
     let piece = create_field(alloc, field, &mut left)?;
     piece.values.know_slots();
     Ok(piece.values)
+}
+
+/// The array of a type, of one piece of each of its columns, with the parts that are left of the pieces' states: those above the type (Dremel paper,
+/// section 4.3).
+///
+/// # Errors
+///
+/// - `OutOfSpec(S10)`: two of the columns disagree on what their ways share.
+/// - `Overflow(V1)`: a list has more items than its offsets count.
+/// - `NotYetImplemented(N5)`: a list of fixed size is in the type.
+/// - `Memory`.
+pub fn create_piece(
+    alloc: Global,
+    data_type: &DataType,
+    pieces: Vec<ColumnPiece>,
+) -> Result<ColumnPiece>
+    ensures ok { (above : List Above) (n : Bool) (tables : List (List Triple)) (es : List (Option (List (Option Value)))) → ArePiecesBeneath above n (type_view data_type.now) tables es pieces.items → IfOk result (IsBeneath above n (type_view data_type.now) tables es) }
+    ensures err { (above : List Above) (n : Bool) (tables : List (List Triple)) (es : List (Option (List (Option Value)))) → ArePiecesBeneath above n (type_view data_type.now) tables es pieces.items → IfErr result (CannotJoinColumns (HasFixedList (type_view data_type.now)) (columns_beneath above n (type_view data_type.now)) tables) }
+{
+    items_are_counted();
+    let mut left = pieces.into_iter();
+    create_type(alloc, data_type, data_type, &mut left)
 }

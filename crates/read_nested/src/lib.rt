@@ -12,7 +12,7 @@ mod list;
 mod map;
 mod offsets;
 
-pub use create::create_array;
+pub use create::{create_array, create_piece};
 pub use laws::{fronts_agree, leaves_keep_slots, lists_keep_slots, structs_keep_slots};
 pub use list::{ListKind, create_list};
 pub use map::create_map;
