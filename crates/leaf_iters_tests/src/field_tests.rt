@@ -16,7 +16,7 @@ const FIRST: &[u8] = &[
 // The rows [] and [null]: repetition 0, 0 and definition 1, 2.
 const SECOND: &[u8] = &[2, 0, 0, 0, 4, 0, 3, 0, 0, 0, 3, 0b1001, 0];
 
-fn named(alloc: Global, name: &str, data_type: DataType) -> Result<Field> {
+pub fn named(alloc: Global, name: &str, data_type: DataType) -> Result<Field> {
     Ok(Field {
         name: String::from_str(alloc, name)?,
         data_type,
@@ -30,7 +30,7 @@ fn lists(alloc: Global) -> Result<Field> {
     named(alloc, "a", DataType::List(Box::new(alloc, item)?))
 }
 
-fn column(alloc: Global) -> Result<VecPages> {
+pub fn column(alloc: Global) -> Result<VecPages> {
     let mut pages = Vec::new(alloc);
     pages.push(Ok(Page::Data(page(alloc, PhysicalType::Int32, true, 3, FIRST)?)))?;
     pages.push(Ok(Page::Data(page(alloc, PhysicalType::Int32, true, 2, SECOND)?)))?;

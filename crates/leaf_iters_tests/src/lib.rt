@@ -11,3 +11,5 @@ mod flat_tests;
 mod nested_tests;
 #[cfg(test)]
 mod pages;
+#[cfg(test)]
+mod struct_tests;

@@ -4,6 +4,7 @@ pub mod dictionaries;
 
 pub use assembly::{ArrayIter, column_iter_to_arrays};
 pub use leaf_iters::{binary, boolean, dict_indices_decoder, null, primitive, simple};
+pub use page_filters::{FilteredPages, PageFilter, PageReader, get_page_iterator};
 pub use page_validity::{
     FilteredOptionalPageValidity, OptionalPageValidity, PageValidity, Zip, get_selected_rows,
     not_implemented,
@@ -17,13 +18,12 @@ pub use pq_container::{
     RowGroupMetaData, read_metadata,
 };
 pub use pq_io::{Failed, MemorySource, PlainSource, Source, StdSource, read_all};
-pub use pq_pages::{
-    DataPage, DictPage, Page, PageReader, Pages, VecPages, get_page_iterator, split_buffer,
-};
+pub use pq_pages::{DataPage, DictPage, Page, Pages, VecPages, split_buffer};
 pub use pq_runs::hybrid_rle;
 pub use read_nested::{create_list, create_map};
 pub use read_state::{
     InitNested, NestedBox, NestedOptional, NestedPrimitive, NestedState, NestedStruct,
-    NestedStructValid, NestedValid, init_nested,
+    NestedStructValid, NestedValid, Steps, init_nested,
 };
 pub use read_walk::{NestedDecoder, NestedPage, extend_levels};
+pub use struct_iters::{ColumnsIter, NestedArrayIter, StructIterator, columns_to_iter_recursive};
