@@ -8,6 +8,10 @@ mod column_tests;
 #[cfg(test)]
 mod dictionary_tests;
 #[cfg(test)]
+mod entry_tests;
+#[cfg(test)]
+mod null_tests;
+#[cfg(test)]
 mod shapes;
 #[cfg(test)]
 mod table_tests;
