@@ -1,9 +1,10 @@
 #!/usr/bin/env python3
 """theorem.py: lists the definitions of crates/*/specs on which the contract of a call rests.
 
-usage: theorem.py [--list] FILE [FUNCTION]      as: theorem.py crates/pq_rewrite/src/call.rt run
+usage: theorem.py [--list | --check] FILE [FUNCTION]      as: theorem.py crates/pq_rewrite/src/call.rt run
 
   --list      writes them as docs/THEOREM.md has them: a heading a crate, an item a file with the comment in front of it
+  --check     writes nothing, but what docs/THEOREM.md lacks of that list, and counts that README.md or docs/THEOREM.md does not have; fails where there is any
 
 It starts with the names in the clauses of the function (of all functions, if none is named), and follows each name through the definitions that its
 definition names, by the `use` lines of their files. It prints the files, by crates in the order of crates.txt and in a crate each behind the files that it rests on, with the
@@ -160,28 +161,58 @@ def found_in(path_of_source, function):
     return dict(sorted(by_file.items(), key=lambda item: places[parts(item[0])[0]]))
 
 
+def size(path, found):
+    """Returns the number of lines of the found definitions of a file."""
+    return sum(len(file_at(path).spans[name]) for name in found)
+
+
+def item(path, found):
+    """Returns the line of docs/THEOREM.md for a file."""
+    return f"- {parts(path)[1]}: {head_of(path)} {', '.join(f'`{name}`' for name in found)}."
+
+
+def print_plain(by_file):
+    for path, found in by_file.items():
+        print(f"{os.path.relpath(path, ROOT)} ({size(path, found)} lines): {' '.join(found)}")
+
+
+def print_list(by_file):
+    crate = None
+    for path, found in by_file.items():
+        if parts(path)[0] != crate:
+            crate = parts(path)[0]
+            print(f"\n### {crate}\n")
+        print(item(path, found))
+    print()
+
+
+def lacks(by_file, counts):
+    """Returns what the documents lack of the list and its counts."""
+    pages = {}
+    for name in ("README.md", "docs/THEOREM.md"):
+        with open(os.path.join(ROOT, name), encoding="utf-8") as file:
+            pages[name] = file.read()
+    lines = set(pages["docs/THEOREM.md"].split("\n"))
+    missing = [line for path, found in by_file.items() if (line := item(path, found)) not in lines]
+    return missing + [f"{name}: {counts}" for name, text in pages.items() if counts not in text]
+
+
 def main():
     words = sys.argv[1:]
-    is_list = words[:1] == ["--list"]
-    words = words[1:] if is_list else words
+    way = words.pop(0) if words and words[0] in ("--list", "--check") else None
     if len(words) not in (1, 2):
         print(__doc__, file=sys.stderr)
         return 2
     sys.setrecursionlimit(10_000)
     by_file = found_in(words[0], words[1] if len(words) == 2 else None)
-    lines, crate = 0, None
-    for path, found in by_file.items():
-        count = sum(len(file_at(path).spans[name]) for name in found)
-        lines += count
-        if not is_list:
-            print(f"{os.path.relpath(path, ROOT)} ({count} lines): {' '.join(found)}")
-            continue
-        if parts(path)[0] != crate:
-            crate = parts(path)[0]
-            print(f"\n### {crate}\n")
-        print(f"- {parts(path)[1]}: {head_of(path)} {', '.join(f'`{name}`' for name in found)}.")
-    total = sum(len(found) for found in by_file.values())
-    print(f"{'' if not is_list else chr(10)}{total} definitions in {len(by_file)} files, {lines} lines")
+    counts = f"{sum(len(found) for found in by_file.values())} definitions in {len(by_file)} files"
+    if way == "--check":
+        missing = lacks(by_file, counts)
+        for line in missing:
+            print(f"docs/THEOREM.md is not up to date: {line}", file=sys.stderr)
+        return 1 if missing else 0
+    (print_list if way else print_plain)(by_file)
+    print(f"{counts}, {sum(size(path, found) for path, found in by_file.items())} lines")
     return 0
 
 
