@@ -64,7 +64,7 @@ pub block-more : (parts rest new : List NestedBox) (part part' : NestedBox) (dep
 block-more parts rest new part part' depth def first K D ms ms' e f p m k d n = rw (e, p, n, f, m, k, d) refl
 
 -- ---- leaves only count
-leaf-cond : (p n : Bool) (x : ℕ) → cond p (kept_leaf n (x + 1)) (kept_leaf n x) ≡ kept_leaf n (x + bit p)
+pub leaf-cond : (p n : Bool) (x : ℕ) → cond p (kept_leaf n (x + 1)) (kept_leaf n x) ≡ kept_leaf n (x + bit p)
 leaf-cond true n x = refl
 leaf-cond false n x = let e : x + 0 ≡ x = omega arith in rw e
 
@@ -97,7 +97,7 @@ none-hidden k = elim (cases_lt k 64) [
 ]
 
 -- ---- required structs only count
-struct-cond : (p : Bool) (x : ℕ) → cond p (kept_struct None (x + 1)) (kept_struct None x) ≡ kept_struct None (x + bit p)
+pub struct-cond : (p : Bool) (x : ℕ) → cond p (kept_struct None (x + 1)) (kept_struct None x) ≡ kept_struct None (x + bit p)
 struct-cond true x = refl
 struct-cond false x = let e : x + 0 ≡ x = omega arith in rw e
 

@@ -111,7 +111,7 @@ both-low (suc zero) (suc zero) p q = refl
 both-low (suc zero) (suc (suc b)) p q = absurd (omega (arith, q))
 both-low (suc (suc a)) b p q = absurd (omega (arith, p))
 
-both-first : (a b : ℕ) → (bit_and a b % 2 == 1) ≡ ((a % 2 == 1) && (b % 2 == 1))
+pub both-first : (a b : ℕ) → (bit_and a b % 2 == 1) ≡ ((a % 2 == 1) && (b % 2 == 1))
 both-first a b =
     let e : bit_and a b % 2 ≡ min (a % 2) (b % 2) = sym (bit_at_lowest (bit_and a b)) ∙ (bit_at_and a b 0 ∙ (ap (λ (k : ℕ). min k (bit_at b 0)) (bit_at_lowest a) ∙ ap (λ (k : ℕ). min (a % 2) k) (bit_at_lowest b))) in
     ap (λ (k : ℕ). k == 1) e ∙ both-low (a % 2) (b % 2) (omega arith) (omega arith)

@@ -10,3 +10,4 @@ pub mod Validities
 pub mod Compared
 pub mod Picking
 pub mod Listing
+pub mod Counting

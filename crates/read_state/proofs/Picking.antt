@@ -1,14 +1,14 @@
 -- A list's places and validities, taken from one set bit of a word to the next.
-use Rattle.std.proofs.Common.{◌≡◌, ℕ, zero, suc, ◌+◌, ◌-◌, ◌*◌, ◌/◌, ◌%◌, ◌^◌, ◌<◌, ◌≤◌, ◌==◌, Bool, true, false, inl, inr, List, [], ◌∷◌, ◌++◌, length, replicate, refl, arith, ap, sym, ◌∙◌, append_assoc, append-nil, add-one, pow-suc}
+use Rattle.std.proofs.Common.{◌≡◌, ℕ, zero, suc, ◌+◌, ◌-◌, ◌*◌, ◌/◌, ◌%◌, ◌^◌, ◌<◌, ◌≤◌, ◌==◌, ◌&&◌, Bool, true, false, true≢false, cond, bit_and, inl, inr, List, [], ◌∷◌, ◌++◌, length, replicate, refl, arith, ap, sym, ◌∙◌, append_assoc, append-nil, add-one, pow-suc}
 use Rattle.std.specs.Int.{bit_at, w64, trailing_zeros}
 use Rattle.std.proofs.lemmas.Bool.{cases_lt}
-use Rattle.std.proofs.lemmas.Nat.{shr-shr, shr_below, mul-le}
+use Rattle.std.proofs.lemmas.Nat.{shr-shr, shr_below, mul-le, and_shr, pow_pos}
 use Rattle.std.proofs.lemmas.Nat.Bits.{bit_at_above, bit_at-trailing_zeros}
 use Rattle.columns_core.specs.Bits.{word_bits}
-use Rattle.columns_core.proofs.Words.{zeros_word}
+use Rattle.columns_core.proofs.Words.{zeros_word, ones_word}
 use Rattle.read_laws.specs.Step.{bit}
 use Rattle.read_state.specs.Reach.{chosen, places}
-use Rattle.read_state.proofs.Compared.{word-split, word-alike, word-join, length-word, bit-of}
+use Rattle.read_state.proofs.Compared.{word-split, word-alike, word-join, length-word, bit-of, both-first}
 
 places-passed : (k place : ℕ) (ps gs : List Bool) → places place (replicate k false ++ ps) (replicate k true ++ gs) ≡ places (place + k) ps gs
 unfolding places
@@ -69,7 +69,7 @@ halved w k n h =
     rw (shr-shr w k 1) (shr_below w n (k + 1) (rw e at h))
 
 module _ (first : ℕ) (all : List ℕ) (every : List Bool) (starts : List ℕ) (left more valid place word count len cap gap : ℕ) (is : IsListing first all every starts left more valid place word count len cap) (some : 0 < left) (fits : left < 2 ^ 64) (g : gap ≡ trailing_zeros w64 left) where
-  set-here : bit_at left gap ≡ 1
+  pub set-here : bit_at left gap ≡ 1
   set-here = rw g ((bit_at-trailing_zeros w64 left some fits).1)
 
   clear-before : (i : ℕ) → i < gap → bit_at left i ≡ 0
@@ -151,3 +151,37 @@ listing-done first all every starts left more valid place word count len cap z i
       sym (append-nil starts) ∙ (ap (λ (xs : List ℕ). starts ++ xs) (sym (ap (λ (bs : List Bool). places place bs (word_bits more is.n)) none ∙ places-none is.n place (word_bits more is.n))) ∙ is.starts_are),
       sym (append-nil (word_bits word count)) ∙ (ap (λ (bs : List Bool). word_bits word count ++ bs) (sym (ap (λ (bs : List Bool). chosen bs (word_bits valid is.n)) none ∙ chosen-none is.n (word_bits valid is.n))) ∙ is.bits_are),
     )
+
+-- ---- where all are there
+full-word : (n : ℕ) → word_bits (2 ^ n - 1) n ≡ replicate n true
+full-word zero = refl
+full-word (suc n) =
+    let p : 2 ^ suc n ≡ 2 ^ n * 2 = omega arith in
+    let some : 0 < 2 ^ n = pow_pos n in
+    let low : (2 ^ suc n - 1) % 2 ≡ 1 = omega (arith, p, some) in
+    let high : (2 ^ suc n - 1) / 2 ≡ 2 ^ n - 1 = omega (arith, p, some) in
+    rw (low, high) (ap (λ (bs : List Bool). true ∷ bs) (full-word n))
+
+pub all-there : (count : ℕ) (every : List Bool) → count ≤ 64 → word_bits (2 ^ count - 1) count ≡ every → word_bits (2 ^ 64 - 1) count ≡ every
+all-there count every few e = ones_word count few ∙ (sym (full-word count) ∙ e)
+
+-- a bit more that is set
+pub one-more : (left gap count : ℕ) → bit_at left gap ≡ 1 → 2 ^ (count + 1) - 1 ≡ 2 ^ count - 1 + left / 2 ^ gap % 2 * 2 ^ count
+one-more left gap count e =
+    let power : 2 ^ (count + 1) ≡ 2 ^ count * 2 = rw add-one (pow-suc 2 count) in
+    let some : 0 < 2 ^ count = pow_pos count in
+    let low : left / 2 ^ gap % 2 * 2 ^ count ≡ 1 * 2 ^ count = ap (λ (k : ℕ). k * 2 ^ count) e in
+    omega (arith, power, some, low)
+
+chosen-step : (x y : Bool) (r s : List Bool) → x ≡ (x && y) → r ≡ s → cond x (y ∷ r) r ≡ cond x (x ∷ s) s
+chosen-step true true r s e f = ap (λ (bs : List Bool). true ∷ bs) f
+chosen-step true false r s e f = absurd (true≢false e)
+chosen-step false y r s e f = f
+
+pub chosen-within : (n a b : ℕ) → bit_and a b ≡ a → chosen (word_bits a n) (word_bits b n) ≡ chosen (word_bits a n) (word_bits a n)
+unfolding chosen
+chosen-within zero a b e = refl
+chosen-within (suc n) a b e =
+    let here : (a % 2 == 1) ≡ ((a % 2 == 1) && (b % 2 == 1)) = ap (λ (k : ℕ). k % 2 == 1) (sym e) ∙ both-first a b in
+    let half : bit_and (a / 2) (b / 2) ≡ a / 2 = sym (and_shr a b 1) ∙ ap (λ (k : ℕ). k / 2) e in
+    chosen-step (a % 2 == 1) (b % 2 == 1) _ _ here (chosen-within n (a / 2) (b / 2) half)

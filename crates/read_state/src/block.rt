@@ -11,12 +11,12 @@ ghost use Rattle.read_state.specs.Ticks.{TicksAtMost};
 
 use crate::boxes::NestedBox;
 use crate::kinds::Nested;
-use crate::lists::push_starts;
 use crate::parts::{bit, both, first_len, pushes};
+use crate::plain::{count_words, optional_words, valid_words, words_to};
 use crate::pushes::{more, push_length};
 use crate::steps::Steps;
 use crate::stretch::push_to;
-use crate::words::block_words;
+use crate::words::reached_word;
 use columns_base::Result;
 use columns_core::MutableBitmap;
 use std::sync::ledger::Ledger;
@@ -86,21 +86,6 @@ fn one_if(b: bool) -> u32
     if b { 1 } else { 0 }
 }
 
-// How many of the pairs push to a part that only counts them, where none lies beneath a null.
-fn count_plain(reps: &[u32], defs: &[u32], depth: u32, def: u32) -> u32
-    requires few { length reps.now ≤ 64 }
-    requires defs { length defs.now ≡ length reps.now }
-    ensures leaf { (hidden : List Bool) → length reps.now ≤ length hidden → ((k : ℕ) → k < length reps.now → slice_index_or hidden k false ≡ false) → (n : Bool) → (c place : ℕ) → pushed_all (kept_leaf n c) place depth def (marks_of reps.now defs.now hidden) ≡ kept_leaf n (c + result) }
-    ensures required { (hidden : List Bool) → length reps.now ≤ length hidden → ((k : ℕ) → k < length reps.now → slice_index_or hidden k false ≡ false) → (c place : ℕ) → pushed_all (kept_struct None c) place depth def (marks_of reps.now defs.now hidden) ≡ kept_struct None (c + result) }
-{
-    let mut count = 0;
-    for j in 0..reps.len() {
-        let reaches = both(reps[j] <= depth, def <= defs[j]);
-        count += one_if(reaches);
-    }
-    count
-}
-
 // How many of the pairs push to a part that only counts them, one by one.
 fn count_each(reps: &[u32], defs: &[u32], hidden: &[bool], depth: usize, def: usize) -> usize
     requires defs { length defs.now ≡ length reps.now }
@@ -123,8 +108,9 @@ fn count_block(reps: &[u32], defs: &[u32], hidden: &[bool], depth: usize, def: u
     ensures leaf { (n : Bool) → (c place : ℕ) → pushed_all (kept_leaf n c) place depth def (marks_of reps.now defs.now hidden.now) ≡ kept_leaf n (c + result) }
     ensures required { (c place : ℕ) → pushed_all (kept_struct None c) place depth def (marks_of reps.now defs.now hidden.now) ≡ kept_struct None (c + result) }
 {
-    if depth < 0x1_0000_0000 && def < 0x1_0000_0000 && none_hidden(hidden) {
-        return count_plain(reps, defs, depth as u32, def as u32) as usize;
+    if is_plain(reps, hidden, depth, def) {
+        let pushed = reached_word(reps, defs, depth as u32, def as u32);
+        return count_words(reps, defs, pushed, depth, def);
     }
     count_each(reps, defs, hidden, depth, def)
 }
@@ -227,11 +213,12 @@ fn push_optional(
     ensures err { IfErr result (λ e. e ≡ Error.Memory) }
 {
     if is_plain(reps, hidden, depth, def) {
-        let (pushed, grown, there) = block_words(reps, defs, depth as u32, def as u32, 2);
+        let pushed = reached_word(reps, defs, depth as u32, def as u32);
+        let grown = reached_word(reps, defs, (depth + 1) as u32, (def + 2) as u32);
         if pushed | grown == u64::MAX {
-            lengths.reserve(64)?;
-            let (word, count) = push_starts(lengths, pushed, grown, there, first);
-            return validity.extend_from_word(word, count);
+            return optional_words(
+                lengths, validity, reps, defs, pushed, grown, depth, def, first,
+            );
         }
     }
     optional_each(lengths, validity, reps, defs, hidden, depth, def, first)
@@ -256,11 +243,10 @@ fn push_valid(
     ensures err { IfErr result (λ e. e ≡ Error.Memory) }
 {
     if is_plain(reps, hidden, depth, def) {
-        let (pushed, grown, there) = block_words(reps, defs, depth as u32, def as u32, 1);
+        let pushed = reached_word(reps, defs, depth as u32, def as u32);
+        let grown = reached_word(reps, defs, (depth + 1) as u32, (def + 1) as u32);
         if pushed | grown == u64::MAX {
-            lengths.reserve(64)?;
-            push_starts(lengths, pushed, grown, there, first);
-            return Ok(());
+            return valid_words(lengths, reps, defs, pushed, grown, depth, def, first);
         }
     }
     valid_each(lengths, reps, defs, hidden, depth, def, first)
@@ -324,8 +310,12 @@ fn push_struct(
     validity.extend_from_word(word, count)
 }
 
-// Pushes the pairs to one part, where the part beneath it has `first` slots before them.
-fn push_part(
+/// Pushes the pairs to one part, where the part beneath it has `first` slots before them.
+///
+/// # Errors
+///
+/// `Memory`; the part may then have some of the pushes.
+pub fn push_part(
     part: &mut NestedBox,
     reps: &[u32],
     defs: &[u32],
@@ -460,6 +450,10 @@ pub fn push_all<L: Ledger>(
             reps.len(),
             steps,
         );
+    }
+    if reps.len() == 64 {
+        let pushed = reached_word(reps, defs, 0, 0);
+        return words_to(parts, reps, defs, pushed, 0, 0, steps);
     }
     let hidden = [false; 64];
     block_to(parts, reps, defs, &hidden, 0, 0, steps)

@@ -12,6 +12,7 @@ mod laws;
 mod lists;
 mod nested;
 mod parts;
+mod plain;
 mod pushes;
 mod same;
 mod steps;

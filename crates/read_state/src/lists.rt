@@ -16,10 +16,34 @@ fn with_bit(word: u64, count: usize, bit: u64) -> u64
     (bit << count) | word
 }
 
-/// Pushes the places of a block to a list, within room that is there, and gives the validities as a word and their number. `pushed` has a bit
-/// for each pair that pushes to the list, `grown` for each that pushes to the part beneath, which has `first` slots, and `there` for each that
-/// defines the list.
-pub fn push_starts(
+// Pushes the places of a block to a list that each pair defines, within room that is there, and gives their number. `pushed` has a bit for each
+// pair that pushes to the list, and `grown` for each that pushes to the part beneath, which has `first` slots.
+fn push_present(lengths: &mut Vec<i64>, pushed: u64, grown: u64, first: usize) -> usize
+    requires room { vec_len lengths.old + 64 ≤ vec_capacity lengths.old }
+    requires either { bit_or pushed grown ≡ 2 ^ 64 - 1 }
+    requires few { first + 64 < 2 ^ 64 }
+    ensures starts { starts_of lengths.new.items ≡ starts_of lengths.old.items ++ places first (word_bits pushed 64) (word_bits grown 64) }
+    ensures bits { word_bits (2 ^ 64 - 1) result ≡ chosen (word_bits pushed 64) (word_bits pushed 64) }
+    ensures few { result ≤ 64 }
+{
+    let mut left = pushed;
+    let mut more = grown;
+    let mut place = first;
+    let mut count = 0;
+    while left != 0 {
+        let gap = left.trailing_zeros() as usize;
+        let grows = more >> gap;
+        lengths.push(length_of(place + gap)).unwrap();
+        count += 1;
+        place = place + gap + (grows % 2) as usize;
+        left = (left >> gap) / 2;
+        more = grows / 2;
+    }
+    count
+}
+
+// The same where some pairs do not define the list, with the validities as a word and their number.
+fn push_some(
     lengths: &mut Vec<i64>,
     pushed: u64,
     grown: u64,
@@ -52,4 +76,27 @@ pub fn push_starts(
         valid = slot / 2;
     }
     (word, count)
+}
+
+/// Pushes the places of a block to a list, within room that is there, and gives the validities as a word and their number. `pushed` has a bit
+/// for each pair that pushes to the list, `grown` for each that pushes to the part beneath, which has `first` slots, and `there` for each that
+/// defines the list.
+pub fn push_starts(
+    lengths: &mut Vec<i64>,
+    pushed: u64,
+    grown: u64,
+    there: u64,
+    first: usize,
+) -> (u64, usize)
+    requires room { vec_len lengths.old + 64 ≤ vec_capacity lengths.old }
+    requires either { bit_or pushed grown ≡ 2 ^ 64 - 1 }
+    requires few { first + 64 < 2 ^ 64 }
+    ensures starts { starts_of lengths.new.items ≡ starts_of lengths.old.items ++ places first (word_bits pushed 64) (word_bits grown 64) }
+    ensures bits { word_bits result.0 result.1 ≡ chosen (word_bits pushed 64) (word_bits there 64) }
+    ensures few { result.1 ≤ 64 }
+{
+    if pushed & there == pushed {
+        return (u64::MAX, push_present(lengths, pushed, grown, first));
+    }
+    push_some(lengths, pushed, grown, there, first)
 }

@@ -35,19 +35,11 @@ pub fn levels_at(levels: &[u32], level: u32) -> u64
     lanes.simd_eq(Simd::<u32, 64>::splat(level)).to_bitmask()
 }
 
-/// Of each of 64 pairs, as bits: whether it pushes to a list, whether it pushes to the part beneath it, and whether the list is there. No pair
-/// lies beneath a null.
-pub fn block_words(reps: &[u32], defs: &[u32], depth: u32, def: u32, gain: u32) -> (u64, u64, u64)
+/// A bit for each of 64 pairs, set where it pushes to a part beneath `depth` lists and `def` definition levels. No pair lies beneath a null.
+pub fn reached_word(reps: &[u32], defs: &[u32], depth: u32, def: u32) -> u64
     requires reps { length reps.now ≡ 64 }
     requires defs { length defs.now ≡ 64 }
-    requires deep { depth + 1 < 2 ^ 32 }
-    requires few { def + gain < 2 ^ 32 }
-    requires one { def + 1 < 2 ^ 32 }
-    ensures pushed { word_bits result.0 64 ≡ reached depth def reps.now defs.now }
-    ensures grown { word_bits result.1 64 ≡ reached (depth + 1) (def + gain) reps.now defs.now }
-    ensures there { word_bits result.2 64 ≡ map (λ d. nat_lt def d) defs.now }
+    ensures { word_bits result 64 ≡ reached depth def reps.now defs.now }
 {
-    let pushed = levels_to(reps, depth) & levels_from(defs, def);
-    let grown = levels_to(reps, depth + 1) & levels_from(defs, def + gain);
-    (pushed, grown, levels_from(defs, def + 1))
+    levels_to(reps, depth) & levels_from(defs, def)
 }

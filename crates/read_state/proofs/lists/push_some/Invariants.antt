@@ -3,7 +3,7 @@ use Rattle.columns_core.specs.Bits.{word_bits}
 use Rattle.read_state.specs.Kinds.{starts_of}
 use Rattle.read_state.specs.Reach.{chosen, places}
 use Rattle.read_state.proofs.Picking.{IsListing}
-use Rattle.read_state.proofs.lists.push_starts.Given as goal
+use Rattle.read_state.proofs.lists.push_some.Given as goal
 
 abbrev pub invariant-loop-left : goal.invariant-loop-left
 invariant-loop-left l = IsListing l.first (starts_of l.initial.lengths.items ++ places l.first (word_bits l.pushed 64) (word_bits l.grown 64)) (chosen (word_bits l.pushed 64) (word_bits l.there 64)) (starts_of l.lengths.items) l.left l.more l.valid l.place l.word l.count (vec_len l.lengths) (vec_capacity l.lengths)
