@@ -109,6 +109,34 @@ pub(crate) fn push_copies<T: Copy>(values: &mut Vec<T>, number: T, count: usize)
     Ok(())
 }
 
+// Makes room for the numbers to come: for seven times as many slots as there are, or 1,024, but for no more than the numbers that are `left`. Does
+// nothing where these are few, since room for `count` slots is then made at twice what there is.
+#[cold]
+#[inline(never)]
+fn make_room<T>(values: &mut Vec<T>, count: usize, left: usize) -> Result<()>
+    ensures same { values.new.items ≡ values.old.items }
+    ensures err { IfErr result (λ e. e ≡ Error.Memory) }
+{
+    let len = values.len();
+    let more = len.saturating_mul(7).max(1024).min(left);
+    if more < count.max(len / 4) {
+        return Ok(());
+    }
+    values.reserve_exact(more)?;
+    Ok(())
+}
+
+// The same where there is no room for `count` slots.
+fn want_room<T>(values: &mut Vec<T>, count: usize, left: usize) -> Result<()>
+    ensures same { values.new.items ≡ values.old.items }
+    ensures err { IfErr result (λ e. e ≡ Error.Memory) }
+{
+    if count <= values.capacity().saturating_sub(values.len()) {
+        return Ok(());
+    }
+    make_room(values, count, left)
+}
+
 // Writes the next numbers to the places, one to each, and gives the bytes behind them; none where one of them is none of the leaf.
 fn fill_numbers<'a, T: FromStored<P>, P: StoredNumber>(
     places: &mut [T],
@@ -162,6 +190,7 @@ fn append_numbers<'a, T: FromStored<P>, P: StoredNumber>(
     ensures kept { list_length values.old.items ≤ list_length values.new.items }
     ensures err { IfErr result (λ e. (e ≡ Error.Memory) ⊎ ((e ≡ Error.OutOfSpec S.S7) × OneIsOutside T.loaded P.spelled P.byte_count count bytes.now)) }
 {
+    want_room(values, count, bytes.len() / P::width())?;
     if count < 8 {
         return push_each::<T, P>(values, bytes, count);
     }
@@ -214,6 +243,7 @@ fn append_mixed<'a, T: FromStored<P>, P: StoredNumber>(
     ensures kept { list_length values.old.items ≤ list_length values.new.items }
     ensures err { IfErr result (λ e. (e ≡ Error.Memory) ⊎ ((e ≡ Error.OutOfSpec S.S7) × OneIsOutside T.loaded P.spelled P.byte_count (ones (word_bits valid count)) bytes.now)) }
 {
+    want_room(values, count, bytes.len() / P::width())?;
     let before = values.len();
     push_copies(values, T::zero(), count)?;
     match fill_mixed::<T, P>(&mut values[before..], bytes, valid) {
