@@ -3,6 +3,7 @@ use Rattle.std.proofs.Common.{◌≡◌, ℕ, ◌+◌, ◌-◌, ◌*◌, ◌/◌
 use Rattle.std.proofs.Math.Nat.{add-mul-div_left, mul_assoc}
 use Rattle.std.proofs.lemmas.Nat.{pow-add, pow_pos, shr-shr}
 use Rattle.std.proofs.lemmas.List.{length-take, take-append-drop, take-append-le, take_all, length-drop}
+use lib.Lanes.{put_chunk}
 use Rattle.pq_numbers.specs.Bits.{digits_of}
 use Rattle.pq_numbers.specs.Texts.{number_of}
 use Rattle.pq_numbers.proofs.Bytes.{AreBytes, number-drop}
@@ -56,6 +57,19 @@ eight_put a b c d e f g h (x0 ∷ x1 ∷ x2 ∷ x3 ∷ []) l = absurd (omega (ar
 eight_put a b c d e f g h (x0 ∷ x1 ∷ x2 ∷ x3 ∷ x4 ∷ []) l = absurd (omega (arith, l))
 eight_put a b c d e f g h (x0 ∷ x1 ∷ x2 ∷ x3 ∷ x4 ∷ x5 ∷ []) l = absurd (omega (arith, l))
 eight_put a b c d e f g h (x0 ∷ x1 ∷ x2 ∷ x3 ∷ x4 ∷ x5 ∷ x6 ∷ []) l = absurd (omega (arith, l))
+
+-- eight lanes written at once
+pub lanes_put : (a b c d e f g h : ℕ) (xs : List ℕ) → 8 ≤ length xs → put_chunk 0 xs (a ∷ b ∷ c ∷ d ∷ e ∷ f ∷ g ∷ h ∷ []) ≡ a ∷ b ∷ c ∷ d ∷ e ∷ f ∷ g ∷ h ∷ drop 8 xs
+lanes_put a b c d e f g h (x0 ∷ x1 ∷ x2 ∷ x3 ∷ x4 ∷ x5 ∷ x6 ∷ x7 ∷ []) l = refl
+lanes_put a b c d e f g h (x0 ∷ x1 ∷ x2 ∷ x3 ∷ x4 ∷ x5 ∷ x6 ∷ x7 ∷ x8 ∷ xs) l = refl
+lanes_put a b c d e f g h [] l = absurd (omega (arith, l))
+lanes_put a b c d e f g h (x0 ∷ []) l = absurd (omega (arith, l))
+lanes_put a b c d e f g h (x0 ∷ x1 ∷ []) l = absurd (omega (arith, l))
+lanes_put a b c d e f g h (x0 ∷ x1 ∷ x2 ∷ []) l = absurd (omega (arith, l))
+lanes_put a b c d e f g h (x0 ∷ x1 ∷ x2 ∷ x3 ∷ []) l = absurd (omega (arith, l))
+lanes_put a b c d e f g h (x0 ∷ x1 ∷ x2 ∷ x3 ∷ x4 ∷ []) l = absurd (omega (arith, l))
+lanes_put a b c d e f g h (x0 ∷ x1 ∷ x2 ∷ x3 ∷ x4 ∷ x5 ∷ []) l = absurd (omega (arith, l))
+lanes_put a b c d e f g h (x0 ∷ x1 ∷ x2 ∷ x3 ∷ x4 ∷ x5 ∷ x6 ∷ []) l = absurd (omega (arith, l))
 
 -- there are enough bytes, of the first eight too, and behind eight numbers
 pub enough-eight : (w s standing : ℕ) (xs : List ℕ) → w ≤ 7 → s < 8 → 8 ≤ standing → s + w * standing ≤ 8 * length xs → (s + w * 8 ≤ 8 * length (take 8 xs)) × (w ≤ length xs) × (s + w * (standing - 8) ≤ 8 * length (drop w xs))

@@ -113,6 +113,17 @@ carried-one : (b : Bool) → from_bool b ≡ 1 → b ≡ true
 carried-one true e = refl
 carried-one false e = absurd (omega (arith, e))
 
+-- only 0 is at most 0
+row-zero : (d : ℕ) → nat_eq d 0 ≡ nat_le d 0
+row-zero d = elim (eqb_tells d 0) [
+  | inl x ↦ elim (leb_tells d 0) [ inl h ↦ x.0 ∙ sym h.0 | inr h ↦ absurd (omega (arith, h.1, x.1)) ]
+  | inr x ↦ elim (leb_tells d 0) [ inl h ↦ absurd (x.1 (omega (arith, h.1))) | inr h ↦ x.0 ∙ sym h.0 ]
+]
+
+pub rows-zero : (xs : List ℕ) → map (λ d. nat_eq d 0) xs ≡ map (λ d. nat_le d 0) xs
+rows-zero [] = refl
+rows-zero (x ∷ xs) = ap (λ (b : Bool). b ∷ map (λ d. nat_eq d 0) xs) (row-zero x) ∙ ap (λ (bs : List Bool). nat_le x 0 ∷ bs) (rows-zero xs)
+
 pub chain-pair : (reps defs : List ℕ) (floor rows inner c k : ℕ) (carried : Bool) → length reps ≡ 64 → length defs ≡ 64 → c ≡ from_bool carried → word_bits rows 64 ≡ map (λ d. nat_le d 0) reps → word_bits inner 64 ≡ map (λ d. nat_le floor d) defs → nat_eq (bit_or rows (bit_and inner (inner % 2 ^ 63 * 2 + c))) (2 ^ 64 - 1) ≡ true → k < 64 →
     (get_or reps k 0 ≡ 0) ⊎ ((floor ≤ get_or defs k 0) × (((k ≡ 0) × (carried ≡ true)) ⊎ ((j : ℕ) × (k ≡ j + 1) × (floor ≤ get_or defs j 0))))
 chain-pair reps defs floor rows inner c k carried m n f r i e h =

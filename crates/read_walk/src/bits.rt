@@ -3,6 +3,8 @@ ghost use Rattle.std.specs.Prelude.{◌≡◌, ◌+◌, ◌*◌, ◌/◌, ◌%�
 ghost use Rattle.pq_numbers.specs.Bits.{digits_of};
 ghost use Rattle.pq_numbers.specs.Texts.{number_of};
 
+use std::simd::prelude::*;
+
 // The number that less than eight bytes spell.
 #[cold]
 fn few_bytes(bytes: &[u8]) -> u64
@@ -41,48 +43,26 @@ pub fn number_at(bytes: &[u8], shift: u32, width: u32) -> u32
     ((low_bytes(bytes) >> shift) % (1 << width)) as u32
 }
 
-// Eight numbers of one bit in the front of the memory, the lowest first.
+// Eight numbers of one bit in the front of the memory, the lowest first. Each is moved to the same place of its lane.
 fn put_bits(out: &mut [u32], word: u64)
     requires { 8 ≤ length out.old }
     ensures { out.new ≡ digits_of 2 8 word ++ drop 8 out.old }
 {
-    let second = word / 2;
-    let third = second / 2;
-    let fourth = third / 2;
-    let fifth = fourth / 2;
-    let sixth = fifth / 2;
-    let seventh = sixth / 2;
-    let eighth = seventh / 2;
-    out[0] = (word % 2) as u32;
-    out[1] = (second % 2) as u32;
-    out[2] = (third % 2) as u32;
-    out[3] = (fourth % 2) as u32;
-    out[4] = (fifth % 2) as u32;
-    out[5] = (sixth % 2) as u32;
-    out[6] = (seventh % 2) as u32;
-    out[7] = (eighth % 2) as u32;
+    let all = Simd::<u32, 8>::splat((word % 256) as u32);
+    let moved = all * Simd::<u32, 8>::from_array([128, 64, 32, 16, 8, 4, 2, 1]);
+    let numbers = (moved >> Simd::<u32, 8>::splat(7)) & Simd::<u32, 8>::splat(1);
+    numbers.copy_to_slice(out);
 }
 
-// Eight numbers of two bits in the front of the memory, the lowest first.
+// The same of two bits.
 fn put_pairs(out: &mut [u32], word: u64)
     requires { 8 ≤ length out.old }
     ensures { out.new ≡ digits_of 4 8 word ++ drop 8 out.old }
 {
-    let second = word / 4;
-    let third = second / 4;
-    let fourth = third / 4;
-    let fifth = fourth / 4;
-    let sixth = fifth / 4;
-    let seventh = sixth / 4;
-    let eighth = seventh / 4;
-    out[0] = (word % 4) as u32;
-    out[1] = (second % 4) as u32;
-    out[2] = (third % 4) as u32;
-    out[3] = (fourth % 4) as u32;
-    out[4] = (fifth % 4) as u32;
-    out[5] = (sixth % 4) as u32;
-    out[6] = (seventh % 4) as u32;
-    out[7] = (eighth % 4) as u32;
+    let all = Simd::<u32, 8>::splat((word % 65536) as u32);
+    let moved = all * Simd::<u32, 8>::from_array([16384, 4096, 1024, 256, 64, 16, 4, 1]);
+    let numbers = (moved >> Simd::<u32, 8>::splat(14)) & Simd::<u32, 8>::splat(3);
+    numbers.copy_to_slice(out);
 }
 
 // Eight numbers of at most seven bits in the front of the memory, the lowest first.

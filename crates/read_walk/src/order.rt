@@ -7,7 +7,7 @@ ghost use Rattle.read_walk.specs.Order.{zipped, Follows, MayCome, WhyNot, OneMay
 
 use crate::folds::{all_bits, are_from, are_within};
 use columns_base::{Error, Result, S};
-use read_state::{NestedState, levels_from, levels_to};
+use read_state::{NestedState, levels_at, levels_from};
 
 // Whether a pair that repeats and the one before it lie inside the list that it repeats in.
 fn check_repeated(nested: &NestedState, before: usize, rep: usize, level: usize) -> Result<()>
@@ -134,7 +134,7 @@ fn is_chain(reps: &[u32], defs: &[u32], floor: u32, carried: bool) -> bool
     requires defs { length defs.now ≡ 64 }
     ensures { IsTrue result → (k : ℕ) → k < 64 → (slice_index reps.now k ≡ 0) ⊎ ((floor ≤ slice_index defs.now k) × (((k ≡ 0) × IsTrue carried) ⊎ ((j : ℕ) × (k ≡ j + 1) × (floor ≤ slice_index defs.now j)))) }
 {
-    let rows = levels_to(reps, 0);
+    let rows = levels_at(reps, 0);
     let inner = levels_from(defs, floor);
     let behind = inner % 0x8000_0000_0000_0000 * 2 + u64::from(carried);
     rows | (inner & behind) == u64::MAX

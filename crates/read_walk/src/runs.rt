@@ -187,7 +187,8 @@ fn take_eight<'a>(levels: &mut LevelRuns<'a>, out: &mut [u32])
     levels.left -= 8;
 }
 
-// Packed numbers, eight at a time, as long as so many stand there and there is room.
+// Packed numbers, eight at a time, as long as so many stand there and there is room. What is being read is a value of its own meanwhile, which the
+// loop keeps in registers.
 fn take_eights<'a>(levels: &mut LevelRuns<'a>, out: &mut [u32]) -> usize
     requires is { IsReading levels.old }
     requires none { levels.old.copies ≡ 0 }
@@ -199,12 +200,25 @@ fn take_eights<'a>(levels: &mut LevelRuns<'a>, out: &mut [u32]) -> usize
     ensures is { IsReading levels.new }
     ensures left { runs_left levels.old ≡ given (take result out.new) ++ runs_left levels.new }
 {
+    let mut reading = LevelRuns {
+        runs: Decoder {
+            values: levels.runs.values,
+            num_bits: levels.runs.num_bits,
+        },
+        left: levels.left,
+        packed: levels.packed,
+        shift: levels.shift,
+        standing: levels.standing,
+        number: levels.number,
+        copies: levels.copies,
+    };
     let mut done = 0;
-    while levels.standing >= 8 && out.len() - done >= 8 {
+    while reading.standing >= 8 && out.len() - done >= 8 {
         let part = &mut out[done..];
-        take_eight(levels, part);
+        take_eight(&mut reading, part);
         done += 8;
     }
+    *levels = reading;
     done
 }
 

@@ -3,15 +3,15 @@ use Rattle.pq_runs.specs.Hybrid.{given}
 use Rattle.read_walk.specs.LevelRuns.{IsReading, runs_left}
 use Rattle.read_walk.proofs.runs.take_eights.Given as goal
 
-abbrev pub invariant-loop-levels : goal.invariant-loop-levels
-invariant-loop-levels l = record {
-  is : IsReading l.levels;
-  none : l.levels.copies ≡ 0;
-  narrow : l.levels.runs.num_bits ≤ 7;
-  some : l.done ≡ 0 → (8 ≤ l.levels.standing) × (8 ≤ length l.out);
+abbrev pub invariant-loop-reading : goal.invariant-loop-reading
+invariant-loop-reading l = record {
+  is : IsReading l.reading;
+  none : l.reading.copies ≡ 0;
+  narrow : l.reading.runs.num_bits ≤ 7;
+  some : l.done ≡ 0 → (8 ≤ l.reading.standing) × (8 ≤ length l.out);
   within : l.done ≤ length l.out;
-  filled : runs_left l.initial.levels ≡ given (take l.done l.out) ++ runs_left l.levels;
+  filled : runs_left l.initial.reading ≡ given (take l.done l.out) ++ runs_left l.reading;
 }
 
-abbrev pub decreases-loop-levels : goal.decreases-loop-levels
-decreases-loop-levels l = length l.initial.out - l.done
+abbrev pub decreases-loop-reading : goal.decreases-loop-reading
+decreases-loop-reading l = length l.initial.out - l.done
