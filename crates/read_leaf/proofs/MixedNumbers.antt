@@ -1,8 +1,10 @@
 -- Plain numbers among nulls.
-use Rattle.std.proofs.Common.{◌≡◌, ℕ, zero, suc, ◌+◌, ◌-◌, ◌*◌, ◌/◌, ◌%◌, ◌^◌, ◌<◌, ◌≤◌, ◌==◌, ℤ, Bool, true, false, Option, Some, None, List, [], ◌∷◌, ◌++◌, map, length, take, drop, refl, arith, ap, sym, subst, ◌∙◌, append-nil, append_assoc, length-append}
+use Rattle.std.proofs.Common.{◌≡◌, ℕ, zero, suc, inl, inr, bit_and, ◌+◌, ◌-◌, ◌*◌, ◌/◌, ◌%◌, ◌^◌, ◌<◌, ◌≤◌, ◌==◌, ℤ, Bool, true, false, Option, Some, None, List, [], ◌∷◌, ◌++◌, map, length, take, drop, refl, arith, ap, sym, subst, ◌∙◌, append-nil, append_assoc, length-append}
 use Rattle.std.specs.Int.{bit_at, w64, trailing_zeros}
-use Rattle.std.proofs.lemmas.Nat.{shr-shr}
-use Rattle.std.proofs.lemmas.Nat.Bits.{bit_at_lowest, bit_at-suc, bit_at-trailing_zeros}
+use Rattle.std.proofs.lemmas.Bool.{cases_lt}
+use Rattle.std.specs.Int.Bits.{and_self}
+use Rattle.std.proofs.lemmas.Nat.{shr-shr, and_shr}
+use Rattle.std.proofs.lemmas.Nat.Bits.{bit_at_lowest, bit_at-suc, bit_at-zero, bit_at_and, bit_at-trailing_zeros}
 use Rattle.std.proofs.lemmas.List.{map-append, length-map}
 use Rattle.columns_core.specs.Bits.{word_bits}
 use Rattle.shredding.specs.Slot.{Value, number, Slot, null, value}
@@ -22,6 +24,40 @@ take_on {X} [] (suc i) n = nothing (suc i + n) ∙ sym (nothing n)
 take_on {X} (x ∷ xs) (suc i) n =
     let e : suc i + n ≡ suc (i + n) = omega arith in
     ap (λ (k : ℕ). take k (x ∷ xs)) e ∙ ap (λ (ys : List X). x ∷ ys) (take_on xs i n)
+
+-- a word's bits from a place on
+bit-shifted : (n i j : ℕ) → bit_at (n / 2 ^ i) j ≡ bit_at n (i + j)
+bit-shifted n i j = ap (λ (k : ℕ). k % 2) (shr-shr n i j)
+
+-- a word without its lowest set bit
+pub lowest-cleared : (t n : ℕ) → ((j : ℕ) → j < t → bit_at n j ≡ 0) → bit_at n t ≡ 1 → (bit_and n (n - 1) / 2 ^ (t + 1) ≡ n / 2 ^ (t + 1)) × ((j : ℕ) → j < t + 1 → bit_at (bit_and n (n - 1)) j ≡ 0)
+lowest-cleared zero n below one =
+    let odd : n % 2 ≡ 1 = sym (bit_at_lowest n) ∙ one in
+    let half : (n - 1) / 2 ≡ n / 2 = omega (arith, odd) in
+    let even : bit_at (n - 1) 0 ≡ 0 = bit_at_lowest (n - 1) ∙ omega (arith, odd) in
+    let first : bit_at (bit_and n (n - 1)) 0 ≡ 0 = bit_at_and n (n - 1) 0 ∙ omega (arith, even) in (
+      and_shr n (n - 1) 1 ∙ (ap (bit_and (n / 2)) half ∙ and_self (n / 2)),
+      λ j h. let z : j ≡ 0 = omega (arith, h) in rw z first,
+    )
+lowest-cleared (suc t) n below one =
+    let even : n % 2 ≡ 0 = sym (bit_at_lowest n) ∙ below 0 (omega arith) in
+    let high : bit_at (n / 2) t ≡ 1 = sym (bit_at-suc n t) ∙ one in
+    let some : 0 < n / 2 = elim (cases_lt 0 (n / 2)) [
+      | inl h ↦ h
+      | inr h ↦ let z : n / 2 ≡ 0 = omega (arith, h) in absurd (omega (arith, high, ap (λ (k : ℕ). bit_at k t) z ∙ bit_at-zero t))
+    ] in
+    let less : (n - 1) / 2 ≡ n / 2 - 1 = omega (arith, even, some) in
+    let half : bit_and n (n - 1) / 2 ≡ bit_and (n / 2) (n / 2 - 1) = and_shr n (n - 1) 1 ∙ ap (bit_and (n / 2)) less in
+    let rest = lowest-cleared t (n / 2) (λ j h. sym (bit_at-suc n j) ∙ below (suc j) (omega (arith, h))) high in
+    let place : 1 + (t + 1) ≡ suc t + 1 = omega arith in
+    let first : bit_at (bit_and n (n - 1)) 0 ≡ 0 = bit_at_and n (n - 1) 0 ∙ omega (arith, below 0 (omega arith)) in (
+      ap (λ (k : ℕ). bit_and n (n - 1) / 2 ^ k) (sym place) ∙ (sym (shr-shr (bit_and n (n - 1)) 1 (t + 1)) ∙ (ap (λ (k : ℕ). k / 2 ^ (t + 1)) half ∙ (rest.0 ∙ (shr-shr n 1 (t + 1) ∙ ap (λ (k : ℕ). n / 2 ^ k) place)))),
+      by first half rest.1,
+    )
+  where
+    by : bit_at (bit_and n (n - 1)) 0 ≡ 0 → bit_and n (n - 1) / 2 ≡ bit_and (n / 2) (n / 2 - 1) → ((j : ℕ) → j < t + 1 → bit_at (bit_and (n / 2) (n / 2 - 1)) j ≡ 0) → (j : ℕ) → j < suc t + 1 → bit_at (bit_and n (n - 1)) j ≡ 0
+    by first half others zero h = first
+    by first half others (suc j) h = bit_at-suc (bit_and n (n - 1)) j ∙ (ap (λ (k : ℕ). bit_at k j) half ∙ others j (omega (arith, h)))
 
 module _ (loaded : ℤ → Option ℤ) (spelled : List ℕ → ℤ) (size : ℕ) where
   -- so many slots made, of n; the word has the bits of the others
@@ -144,27 +180,89 @@ module _ (loaded : ℤ → Option ℤ) (spelled : List ℕ → ℤ) (size : ℕ)
       rw (c, d, append_assoc xs (y ∷ []) ys) at more
 
   -- up to the next bit that is set
-  module _ (valid n i word gap : ℕ) (bytes rest : List ℕ) (xs ys : List ℤ) (some : 0 < word) (fits : word < 2 ^ 64) (g : gap ≡ trailing_zeros w64 word) (l : i + gap < n) (e : length ys ≡ gap) (m : IsMixing valid n i word bytes rest xs) where
+  module _ (valid n i word gap : ℕ) (bytes rest : List ℕ) (xs ys : List ℤ) (one : bit_at word gap ≡ 1) (zeros : (j : ℕ) → j < gap → bit_at word j ≡ 0) (l : i + gap < n) (e : length ys ≡ gap) (m : IsMixing valid n i word bytes rest xs) where
     at-bit : IsMixing valid n (i + gap) (word / 2 ^ gap) bytes rest (xs ++ ys)
-    at-bit = mixing-skips valid n gap i word bytes rest xs ys (omega (arith, l)) e (λ j h. (bit_at-trailing_zeros w64 word some fits).2 j (rw g at h)) m
+    at-bit = mixing-skips valid n gap i word bytes rest xs ys (omega (arith, l)) e zeros m
 
     odd : (word / 2 ^ gap % 2 == 1) ≡ true
-    odd =
-        let one : bit_at word gap ≡ 1 = rw g ((bit_at-trailing_zeros w64 word some fits).1) in
-        ap (λ (r : ℕ). r == 1) one
+    odd = ap (λ (r : ℕ). r == 1) one
 
-    pub set-enough : size * ones (word_bits valid n) ≤ length bytes → size ≤ length rest
+    set-enough : size * ones (word_bits valid n) ≤ length bytes → size ≤ length rest
     set-enough enough = mixing-enough valid n (i + gap) (word / 2 ^ gap) bytes rest (xs ++ ys) l enough at-bit odd
 
-    pub set-outside : loaded (spelled (take size rest)) ≡ None → OneIsOutside loaded spelled size (ones (word_bits valid n)) bytes
+    set-outside : loaded (spelled (take size rest)) ≡ None → OneIsOutside loaded spelled size (ones (word_bits valid n)) bytes
     set-outside none = mixing-outside valid n (i + gap) (word / 2 ^ gap) bytes rest (xs ++ ys) l at-bit odd none
 
-    pub set-more : (rest' : List ℕ) (xs' : List ℤ) (z : ℤ) → loaded (spelled (take size rest)) ≡ Some z → rest' ≡ drop size rest → xs' ≡ (xs ++ ys) ++ z ∷ [] → IsMixing valid n (i + gap + 1) (word / 2 ^ gap / 2) bytes rest' xs'
-    set-more rest' xs' z one r p = mixing-more valid n (i + gap) (word / 2 ^ gap) bytes rest rest' (xs ++ ys) xs' z l at-bit (took-one (word / 2 ^ gap % 2 == 1) rest rest' z odd one r) p
+    set-more : (rest' : List ℕ) (xs' : List ℤ) (z : ℤ) → loaded (spelled (take size rest)) ≡ Some z → rest' ≡ drop size rest → xs' ≡ (xs ++ ys) ++ z ∷ [] → IsMixing valid n (i + gap + 1) (word / 2 ^ gap / 2) bytes rest' xs'
+    set-more rest' xs' z one' r p = mixing-more valid n (i + gap) (word / 2 ^ gap) bytes rest rest' (xs ++ ys) xs' z l at-bit (took-one (word / 2 ^ gap % 2 == 1) rest rest' z odd one' r) p
 
   -- no bit is left
   pub mixing-rest : (valid n i word : ℕ) (bytes rest : List ℕ) (xs ys zs : List ℤ) → i ≤ n → length ys ≡ n - i → ((j : ℕ) → j < n - i → bit_at word j ≡ 0) → zs ≡ xs ++ ys → IsMixing valid n i word bytes rest xs → TookMixed loaded spelled size (word_bits valid n) bytes rest [] zs
   mixing-rest valid n i word bytes rest xs ys zs l e h p m = rw p (mixing-done valid n (i + (n - i)) (word / 2 ^ (n - i)) bytes rest (xs ++ ys) (omega (arith, l)) (mixing-skips valid n (n - i) i word bytes rest xs ys (omega (arith, l)) e h m))
+
+  -- The set bits that are left stand at the places that they call for, and none below those that were made.
+  pub record IsFilling (valid n bits : ℕ) (bytes rest : List ℕ) (front : ℕ → List ℤ) : Type 0 where
+    pub i : ℕ
+    pub within : i ≤ n
+    pub is : IsMixing valid n i (bits / 2 ^ i) bytes rest (front i)
+    pub clear : (j : ℕ) → j < i → bit_at bits j ≡ 0
+
+  pub filling-none : (valid n : ℕ) (bytes : List ℕ) (front : ℕ → List ℤ) → front 0 ≡ [] → IsFilling valid n valid bytes bytes front
+  filling-none valid n bytes front e =
+      let whole : valid / 2 ^ 0 ≡ valid = omega arith in
+      record {
+        i = 0;
+        within = omega arith;
+        is = rw (whole, e) (mixing-none valid n bytes);
+        clear = λ j h. absurd (omega (arith, h));
+      }
+
+  module _ (valid n bits t : ℕ) (bytes rest : List ℕ) (front : ℕ → List ℤ) (ys : List ℤ) (some : 0 < bits) (fits : bits < 2 ^ 64) (at : t ≡ trailing_zeros w64 bits) (l : t < n) (f : IsFilling valid n bits bytes rest front) (made : length ys ≡ t - f.i) where
+    lowest : bit_at bits t ≡ 1
+    lowest = rw at ((bit_at-trailing_zeros w64 bits some fits).1)
+
+    below : (j : ℕ) → j < t → bit_at bits j ≡ 0
+    below j h = (bit_at-trailing_zeros w64 bits some fits).2 j (rw at at h)
+
+    pub fill-over : f.i ≤ t
+    fill-over = elim (cases_lt t f.i) [
+      | inl h ↦ absurd (omega (arith, lowest, f.clear t h))
+      | inr h ↦ h
+    ]
+
+    here : f.i + (t - f.i) ≡ t
+    here = omega (arith, fill-over)
+
+    one : bit_at (bits / 2 ^ f.i) (t - f.i) ≡ 1
+    one = bit-shifted bits f.i (t - f.i) ∙ (ap (bit_at bits) here ∙ lowest)
+
+    zeros : (j : ℕ) → j < t - f.i → bit_at (bits / 2 ^ f.i) j ≡ 0
+    zeros j h = bit-shifted bits f.i j ∙ below (f.i + j) (omega (arith, h, fill-over))
+
+    inside : f.i + (t - f.i) < n
+    inside = omega (arith, here, l)
+
+    pub fill-enough : size * ones (word_bits valid n) ≤ length bytes → size ≤ length rest
+    fill-enough enough = set-enough valid n f.i (bits / 2 ^ f.i) (t - f.i) bytes rest (front f.i) ys one zeros inside made f.is enough
+
+    pub fill-outside : loaded (spelled (take size rest)) ≡ None → OneIsOutside loaded spelled size (ones (word_bits valid n)) bytes
+    fill-outside none = set-outside valid n f.i (bits / 2 ^ f.i) (t - f.i) bytes rest (front f.i) ys one zeros inside made f.is none
+
+    pub fill-more : (rest' : List ℕ) (front' : ℕ → List ℤ) (z : ℤ) → loaded (spelled (take size rest)) ≡ Some z → rest' ≡ drop size rest → front' (t + 1) ≡ (front f.i ++ ys) ++ z ∷ [] → IsFilling valid n (bit_and bits (bits - 1)) bytes rest' front'
+    fill-more rest' front' z is r p =
+        let next = set-more valid n f.i (bits / 2 ^ f.i) (t - f.i) bytes rest (front f.i) ys one zeros inside made f.is rest' (front' (t + 1)) z is r p in
+        let place : f.i + (t - f.i) + 1 ≡ t + 1 = omega (arith, here) in
+        let word : bits / 2 ^ f.i / 2 ^ (t - f.i) / 2 ≡ bit_and bits (bits - 1) / 2 ^ (t + 1) = ap (λ (k : ℕ). k / 2) (shr-shr bits f.i (t - f.i) ∙ ap (λ (k : ℕ). bits / 2 ^ k) here) ∙ (shr-shr bits t 1 ∙ sym ((lowest-cleared t bits below lowest).0)) in
+        record {
+          i = t + 1;
+          within = omega (arith, l);
+          is = subst (λ (w : ℕ). IsMixing valid n (t + 1) w bytes rest' (front' (t + 1))) word (subst (λ (k : ℕ). IsMixing valid n k (bits / 2 ^ f.i / 2 ^ (t - f.i) / 2) bytes rest' (front' (t + 1))) place next);
+          clear = (lowest-cleared t bits below lowest).1;
+        }
+
+  -- no bit is left below the last place
+  pub fill-rest : (valid n bits : ℕ) (bytes rest : List ℕ) (front : ℕ → List ℤ) (ys zs : List ℤ) (f : IsFilling valid n bits bytes rest front) → length ys ≡ n - f.i → ((j : ℕ) → j < n → bit_at bits j ≡ 0) → zs ≡ front f.i ++ ys → TookMixed loaded spelled size (word_bits valid n) bytes rest [] zs
+  fill-rest valid n bits bytes rest front ys zs f made none p = mixing-rest valid n f.i (bits / 2 ^ f.i) bytes rest (front f.i) ys zs f.within made (λ j h. bit-shifted bits f.i j ∙ none (f.i + j) (omega (arith, h, f.within))) p f.is
 
   -- what is decoded
   pub mixed-decoded : (bits : List Bool) (bytes rest : List ℕ) (zs zs' : List ℤ) (bs bs' : List Bool) → 0 < size → ones bits ≤ length bytes / size → length zs ≡ length bs → TookMixed loaded spelled size bits bytes rest zs zs' → bs' ≡ bs ++ bits → DecodesMixed bits (stored_numbers loaded spelled size bytes) (stored_numbers loaded spelled size rest) (number_slots zs bs) (number_slots zs' bs')

@@ -214,19 +214,17 @@ fn fill_mixed<'a, T: FromStored<P>, P: StoredNumber>(
 {
     let mut rest = bytes;
     let mut bits = valid;
-    let mut at = 0;
     while bits != 0 {
-        let gap = bits.trailing_zeros() as usize;
-        if places.len() - at <= gap {
+        let at = bits.trailing_zeros() as usize;
+        if places.len() <= at {
             return Some(rest);
         }
         match load::<T, P>(rest) {
-            Some(number) => places[at + gap] = number,
+            Some(number) => places[at] = number,
             None => return None,
         }
         rest = skip(rest, P::width());
-        bits = (bits >> gap) / 2;
-        at += gap + 1;
+        bits = bits & (bits - 1);
     }
     Some(rest)
 }
