@@ -3,7 +3,8 @@ use Rattle.std.proofs.Common.{◌≡◌, ℕ, zero, suc, ◌+◌, ◌-◌, ◌*�
 use Rattle.std.specs.Int.{bit_at, w64, trailing_zeros}
 use Rattle.std.proofs.lemmas.Bool.{cases_lt}
 use Rattle.std.proofs.lemmas.Nat.{shr-shr, shr_below, mul-le, and_shr, pow_pos}
-use Rattle.std.proofs.lemmas.Nat.Bits.{bit_at_above, bit_at-trailing_zeros}
+use Rattle.std.specs.Int.Bits.{and_self}
+use Rattle.std.proofs.lemmas.Nat.Bits.{bit_at_above, bit_at-trailing_zeros, bit_at_lowest, bit_at-suc, bit_at-zero, bit_at_and}
 use Rattle.columns_core.specs.Bits.{word_bits}
 use Rattle.columns_core.proofs.Words.{zeros_word, ones_word}
 use Rattle.read_laws.specs.Step.{bit}
@@ -68,13 +69,7 @@ halved w k n h =
     let e : k + suc n ≡ n + (k + 1) = omega arith in
     rw (shr-shr w k 1) (shr_below w n (k + 1) (rw e at h))
 
-module _ (first : ℕ) (all : List ℕ) (every : List Bool) (starts : List ℕ) (left more valid place word count len cap gap : ℕ) (is : IsListing first all every starts left more valid place word count len cap) (some : 0 < left) (fits : left < 2 ^ 64) (g : gap ≡ trailing_zeros w64 left) where
-  pub set-here : bit_at left gap ≡ 1
-  set-here = rw g ((bit_at-trailing_zeros w64 left some fits).1)
-
-  clear-before : (i : ℕ) → i < gap → bit_at left i ≡ 0
-  clear-before i h = (bit_at-trailing_zeros w64 left some fits).2 i (rw g at h)
-
+module _ (first : ℕ) (all : List ℕ) (every : List Bool) (starts : List ℕ) (left more valid place word count len cap gap : ℕ) (is : IsListing first all every starts left more valid place word count len cap) (set-here : bit_at left gap ≡ 1) (clear-before : (i : ℕ) → i < gap → bit_at left i ≡ 0) where
   pub gap-inside : gap < is.n
   gap-inside = elim (cases_lt gap is.n) [
     | inl h ↦ h
@@ -185,3 +180,119 @@ chosen-within (suc n) a b e =
     let here : (a % 2 == 1) ≡ ((a % 2 == 1) && (b % 2 == 1)) = ap (λ (k : ℕ). k % 2 == 1) (sym e) ∙ both-first a b in
     let half : bit_and (a / 2) (b / 2) ≡ a / 2 = sym (and_shr a b 1) ∙ ap (λ (k : ℕ). k / 2) e in
     chosen-step (a % 2 == 1) (b % 2 == 1) _ _ here (chosen-within n (a / 2) (b / 2) half)
+
+-- ---- set bits that stand at their places
+-- a word's bits from a place on
+bit-shifted : (n i j : ℕ) → bit_at (n / 2 ^ i) j ≡ bit_at n (i + j)
+bit-shifted n i j = ap (λ (k : ℕ). k % 2) (shr-shr n i j)
+
+-- a word without its lowest set bit
+pub lowest-cleared : (t n : ℕ) → ((j : ℕ) → j < t → bit_at n j ≡ 0) → bit_at n t ≡ 1 → (bit_and n (n - 1) / 2 ^ (t + 1) ≡ n / 2 ^ (t + 1)) × ((j : ℕ) → j < t + 1 → bit_at (bit_and n (n - 1)) j ≡ 0)
+lowest-cleared zero n below one =
+    let odd : n % 2 ≡ 1 = sym (bit_at_lowest n) ∙ one in
+    let half : (n - 1) / 2 ≡ n / 2 = omega (arith, odd) in
+    let even : bit_at (n - 1) 0 ≡ 0 = bit_at_lowest (n - 1) ∙ omega (arith, odd) in
+    let first : bit_at (bit_and n (n - 1)) 0 ≡ 0 = bit_at_and n (n - 1) 0 ∙ omega (arith, even) in (
+      and_shr n (n - 1) 1 ∙ (ap (bit_and (n / 2)) half ∙ and_self (n / 2)),
+      λ j h. let z : j ≡ 0 = omega (arith, h) in rw z first,
+    )
+lowest-cleared (suc t) n below one =
+    let even : n % 2 ≡ 0 = sym (bit_at_lowest n) ∙ below 0 (omega arith) in
+    let high : bit_at (n / 2) t ≡ 1 = sym (bit_at-suc n t) ∙ one in
+    let some : 0 < n / 2 = elim (cases_lt 0 (n / 2)) [
+      | inl h ↦ h
+      | inr h ↦ let z : n / 2 ≡ 0 = omega (arith, h) in absurd (omega (arith, high, ap (λ (k : ℕ). bit_at k t) z ∙ bit_at-zero t))
+    ] in
+    let less : (n - 1) / 2 ≡ n / 2 - 1 = omega (arith, even, some) in
+    let half : bit_and n (n - 1) / 2 ≡ bit_and (n / 2) (n / 2 - 1) = and_shr n (n - 1) 1 ∙ ap (bit_and (n / 2)) less in
+    let rest = lowest-cleared t (n / 2) (λ j h. sym (bit_at-suc n j) ∙ below (suc j) (omega (arith, h))) high in
+    let place : 1 + (t + 1) ≡ suc t + 1 = omega arith in
+    let first : bit_at (bit_and n (n - 1)) 0 ≡ 0 = bit_at_and n (n - 1) 0 ∙ omega (arith, below 0 (omega arith)) in (
+      ap (λ (k : ℕ). bit_and n (n - 1) / 2 ^ k) (sym place) ∙ (sym (shr-shr (bit_and n (n - 1)) 1 (t + 1)) ∙ (ap (λ (k : ℕ). k / 2 ^ (t + 1)) half ∙ (rest.0 ∙ (shr-shr n 1 (t + 1) ∙ ap (λ (k : ℕ). n / 2 ^ k) place)))),
+      by first half rest.1,
+    )
+  where
+    by : bit_at (bit_and n (n - 1)) 0 ≡ 0 → bit_and n (n - 1) / 2 ≡ bit_and (n / 2) (n / 2 - 1) → ((j : ℕ) → j < t + 1 → bit_at (bit_and (n / 2) (n / 2 - 1)) j ≡ 0) → (j : ℕ) → j < suc t + 1 → bit_at (bit_and n (n - 1)) j ≡ 0
+    by first half others zero h = first
+    by first half others (suc j) h = bit_at-suc (bit_and n (n - 1)) j ∙ (ap (λ (k : ℕ). bit_at k j) half ∙ others j (omega (arith, h)))
+
+zero-shifted : (i : ℕ) → 0 / 2 ^ i ≡ 0
+zero-shifted i = omega (arith, shr_below 0 0 i (pow_pos (0 + i)))
+
+-- The set bits that are left, and what came before the pair i.
+pub record IsPlacing (first : ℕ) (all : List ℕ) (every : List Bool) (starts : List ℕ) (left grown less count len cap : ℕ) : Type 0 where
+  pub i : ℕ
+  pub few : less ≤ i
+  pub is : IsListing first all every starts (left / 2 ^ i) (grown / 2 ^ i) (left / 2 ^ i) (first + i - less) (2 ^ count - 1) count len cap
+  pub clear : (j : ℕ) → j < i → bit_at left j ≡ 0
+
+pub placing-none : (first : ℕ) (all : List ℕ) (every : List Bool) (starts : List ℕ) (left grown len cap : ℕ) → IsListing first all every starts left grown left first 0 0 len cap → IsPlacing first all every starts left grown 0 0 len cap
+placing-none first all every starts left grown len cap is =
+    let a : left / 2 ^ 0 ≡ left = omega arith in
+    let b : grown / 2 ^ 0 ≡ grown = omega arith in
+    let c : first + 0 - 0 ≡ first = omega arith in
+    record {
+      i = 0;
+      few = omega arith;
+      is = rw (a, b, c) is;
+      clear = λ j h. absurd (omega (arith, h));
+    }
+
+module _ (first : ℕ) (all : List ℕ) (every : List Bool) (starts : List ℕ) (left grown less count len cap t : ℕ) (some : 0 < left) (fits : left < 2 ^ 64) (at : t ≡ trailing_zeros w64 left) (p : IsPlacing first all every starts left grown less count len cap) where
+  lowest : bit_at left t ≡ 1
+  lowest = rw at ((bit_at-trailing_zeros w64 left some fits).1)
+
+  below : (j : ℕ) → j < t → bit_at left j ≡ 0
+  below j h = (bit_at-trailing_zeros w64 left some fits).2 j (rw at at h)
+
+  over : p.i ≤ t
+  over = elim (cases_lt t p.i) [
+    | inl h ↦ absurd (omega (arith, lowest, p.clear t h))
+    | inr h ↦ h
+  ]
+
+  here : p.i + (t - p.i) ≡ t
+  here = omega (arith, over)
+
+  one : bit_at (left / 2 ^ p.i) (t - p.i) ≡ 1
+  one = bit-shifted left p.i (t - p.i) ∙ (ap (bit_at left) here ∙ lowest)
+
+  zeros : (j : ℕ) → j < t - p.i → bit_at (left / 2 ^ p.i) j ≡ 0
+  zeros j h = bit-shifted left p.i j ∙ below (p.i + j) (omega (arith, h, over))
+
+  pub place-within : less ≤ t
+  place-within = omega (arith, p.few, over)
+
+  place-inside : t - p.i < p.is.n
+  place-inside = gap-inside first all every starts (left / 2 ^ p.i) (grown / 2 ^ p.i) (left / 2 ^ p.i) (first + p.i - less) (2 ^ count - 1) count len cap (t - p.i) p.is one zeros
+
+  pub place-room : len < cap
+  place-room = omega (arith, p.is.room, place-inside)
+
+  pub place-few : count < 64
+  place-few = omega (arith, p.is.few, place-inside)
+
+  pub place-next : (starts' : List ℕ) (len' cap' : ℕ) → starts' ≡ starts ++ (first + t - less) ∷ [] → len' ≤ len + 1 → cap ≤ cap' → IsPlacing first all every starts' (bit_and left (left - 1)) grown (less + 1 - grown / 2 ^ t % 2) (count + 1) len' cap'
+  place-next starts' len' cap' s l k =
+      let L : ℕ = left / 2 ^ p.i in
+      let M : ℕ = grown / 2 ^ p.i in
+      let gap : ℕ = t - p.i in
+      let low : grown / 2 ^ t % 2 < 2 = omega arith in
+      let place : first + p.i - less + gap ≡ first + t - less = omega (arith, p.few, here) in
+      let grows : M / 2 ^ gap ≡ grown / 2 ^ t = shr-shr grown p.i gap ∙ ap (λ (k : ℕ). grown / 2 ^ k) here in
+      let lefts : L / 2 ^ gap ≡ left / 2 ^ t = shr-shr left p.i gap ∙ ap (λ (k : ℕ). left / 2 ^ k) here in
+      let word : L / 2 ^ gap / 2 ≡ bit_and left (left - 1) / 2 ^ (t + 1) = ap (λ (k : ℕ). k / 2) lefts ∙ (shr-shr left t 1 ∙ sym ((lowest-cleared t left below lowest).0)) in
+      let more : M / 2 ^ gap / 2 ≡ grown / 2 ^ (t + 1) = ap (λ (k : ℕ). k / 2) grows ∙ shr-shr grown t 1 in
+      let after : first + p.i - less + gap + M / 2 ^ gap % 2 ≡ first + (t + 1) - (less + 1 - grown / 2 ^ t % 2) = omega (arith, place, ap (λ (k : ℕ). k % 2) grows, low, place-within) in
+      let next = listing-next first all every starts L M L (first + p.i - less) (2 ^ count - 1) count len cap gap p.is one zeros starts' (2 ^ (count + 1) - 1) len' cap' (s ∙ ap (λ (k : ℕ). starts ++ k ∷ []) (sym place)) (one-more L gap count one) l k in
+      record {
+        i = t + 1;
+        few = omega (arith, place-within, low);
+        is = rw (word, more, after) at next;
+        clear = (lowest-cleared t left below lowest).1;
+      }
+
+pub placing-done : (first : ℕ) (all : List ℕ) (every : List Bool) (starts : List ℕ) (left grown less count len cap : ℕ) → left ≡ 0 → IsPlacing first all every starts left grown less count len cap → (starts ≡ all) × (word_bits (2 ^ count - 1) count ≡ every)
+placing-done first all every starts left grown less count len cap z p =
+    let none : left / 2 ^ p.i ≡ 0 = ap (λ (k : ℕ). k / 2 ^ p.i) z ∙ zero-shifted p.i in
+    listing-done first all every starts (left / 2 ^ p.i) (grown / 2 ^ p.i) (left / 2 ^ p.i) (first + p.i - less) (2 ^ count - 1) count len cap none p.is

@@ -17,7 +17,8 @@ fn with_bit(word: u64, count: usize, bit: u64) -> u64
 }
 
 // Pushes the places of a block to a list that each pair defines, within room that is there, and gives their number. `pushed` has a bit for each
-// pair that pushes to the list, and `grown` for each that pushes to the part beneath, which has `first` slots.
+// pair that pushes to the list, and `grown` for each that pushes to the part beneath, which has `first` slots; `less` counts those that push to the
+// list alone.
 fn push_present(lengths: &mut Vec<i64>, pushed: u64, grown: u64, first: usize) -> usize
     requires room { vec_len lengths.old + 64 ≤ vec_capacity lengths.old }
     requires either { bit_or pushed grown ≡ 2 ^ 64 - 1 }
@@ -27,17 +28,14 @@ fn push_present(lengths: &mut Vec<i64>, pushed: u64, grown: u64, first: usize) -
     ensures few { result ≤ 64 }
 {
     let mut left = pushed;
-    let mut more = grown;
-    let mut place = first;
+    let mut less = 0;
     let mut count = 0;
     while left != 0 {
-        let gap = left.trailing_zeros() as usize;
-        let grows = more >> gap;
-        lengths.push(length_of(place + gap)).unwrap();
+        let at = left.trailing_zeros() as usize;
+        lengths.push(length_of(first + at - less)).unwrap();
+        less = less + 1 - ((grown >> at) % 2) as usize;
         count += 1;
-        place = place + gap + (grows % 2) as usize;
-        left = (left >> gap) / 2;
-        more = grows / 2;
+        left = left & (left - 1);
     }
     count
 }

@@ -1,48 +1,47 @@
-use Rattle.std.proofs.Common.{◌≡◌, ◌+◌, ◌<◌, ◌≤◌, ℕ, [], ◌∷◌, ◌++◌, vec_len, vec_capacity, arith, ap, refl, ◌∙◌}
+use Rattle.std.proofs.Common.{◌≡◌, ◌+◌, ◌-◌, ◌<◌, ◌≤◌, ℕ, [], ◌∷◌, ◌++◌, vec_len, vec_capacity, arith, ap, refl, ◌∙◌}
 use Rattle.std.specs.Int.{w64, trailing_zeros, cast_signed, cast_unsigned}
 use Rattle.std.proofs.lemmas.List.{map-append}
+use Rattle.std.proofs.lemmas.Nat.Bits.{bit_at-trailing_zeros}
 use Rattle.read_state.specs.Kinds.{start_of, starts_of}
 use Rattle.read_state.proofs.Lengths.{start-again}
 use Rattle.read_state.proofs.Compared.{either-bit}
-use Rattle.read_state.proofs.Picking.{listing-init, listing-next, listing-done, gap-inside, set-here, one-more, all-there}
+use Rattle.read_state.proofs.Picking.{listing-init, placing-none, place-within, place-room, place-next, placing-done, all-there}
 use Rattle.read_state.proofs.lists.push_present.Goals as goal
 
 pub loop-left-init : goal.loop-left-init
-loop-left-init c = listing-init c.args.first (starts_of c.args.lengths.now.items) c.args.pushed c.args.grown c.args.pushed (vec_len c.args.lengths.now) (vec_capacity c.args.lengths.now) (λ i h f. either-bit c.args.pushed c.args.grown i c.requires.either h f) c.ranges.pushed.fits c.requires.room
+loop-left-init c = placing-none c.args.first _ _ _ c.args.pushed c.args.grown _ _ (listing-init c.args.first (starts_of c.args.lengths.now.items) c.args.pushed c.args.grown c.args.pushed (vec_len c.args.lengths.now) (vec_capacity c.args.lengths.now) (λ i h f. either-bit c.args.pushed c.args.grown i c.requires.either h f) c.ranges.pushed.fits c.requires.room)
 
-pub overflow_add-place : goal.overflow_add-place
-overflow_add-place c =
-    let i = c.loop-left.invariant in
-    let inside : trailing_zeros w64 c.loop-left.left < i.n = gap-inside _ _ _ _ _ _ _ _ _ _ _ _ _ i (omega (arith, c.loop-left-test.true)) c.loop-left.auto.left-fits.fits refl in
-    omega (arith, i.reach, inside, c.requires.few)
+pub overflow_sub-first : goal.overflow_sub-first
+overflow_sub-first c =
+    let some : 0 < c.loop-left.left = omega (arith, c.loop-left-test.true) in
+    omega (arith, place-within _ _ _ _ _ _ _ _ _ _ _ some c.loop-left.auto.left-fits.fits refl c.loop-left.invariant)
+
+pub overflow_add-less : goal.overflow_add-less
+overflow_add-less c =
+    let some : 0 < c.loop-left.left = omega (arith, c.loop-left-test.true) in
+    let short = (bit_at-trailing_zeros w64 c.loop-left.left some c.loop-left.auto.left-fits.fits).0 in
+    omega (arith, short, place-within _ _ _ _ _ _ _ _ _ _ _ some c.loop-left.auto.left-fits.fits refl c.loop-left.invariant)
 
 pub unwrap-requires : goal.unwrap-requires
 unwrap-requires c =
-    let i = c.loop-left.invariant in
-    let inside : trailing_zeros w64 c.loop-left.left < i.n = gap-inside _ _ _ _ _ _ _ _ _ _ _ _ _ i (omega (arith, c.loop-left-test.true)) c.loop-left.auto.left-fits.fits refl in
-    c.push.ensures.succeeds (omega (arith, i.room, inside))
-
-pub overflow_add-place-in-loop-left-2 : goal.overflow_add-place-in-loop-left-2
-overflow_add-place-in-loop-left-2 c =
-    let i = c.loop-left.invariant in
-    let inside : trailing_zeros w64 c.loop-left.left < i.n = gap-inside _ _ _ _ _ _ _ _ _ _ _ _ _ i (omega (arith, c.loop-left-test.true)) c.loop-left.auto.left-fits.fits refl in
-    omega (arith, i.reach, inside, c.requires.few)
+    let some : 0 < c.loop-left.left = omega (arith, c.loop-left-test.true) in
+    c.push.ensures.succeeds (omega (arith, place-room _ _ _ _ _ _ _ _ _ _ _ some c.loop-left.auto.left-fits.fits refl c.loop-left.invariant))
 
 pub loop-left-preserved : goal.loop-left-preserved
 loop-left-preserved c =
-    let i = c.loop-left.invariant in
     let some : 0 < c.loop-left.left = omega (arith, c.loop-left-test.true) in
-    let inside : trailing_zeros w64 c.loop-left.left < i.n = gap-inside _ _ _ _ _ _ _ _ _ _ _ _ _ i some c.loop-left.auto.left-fits.fits refl in
-    let again = start-again (c.loop-left.place + trailing_zeros w64 c.loop-left.left) c.length_of.result (omega (arith, i.reach, inside, c.requires.few)) c.length_of.ensures in
-    let more : starts_of c.push.new.self.items ≡ starts_of c.loop-left.lengths.items ++ (c.loop-left.place + trailing_zeros w64 c.loop-left.left) ∷ [] =
+    let t : ℕ = trailing_zeros w64 c.loop-left.left in
+    let p = c.loop-left.invariant in
+    let short : t < 64 = (bit_at-trailing_zeros w64 c.loop-left.left some c.loop-left.auto.left-fits.fits).0 in
+    let again = start-again (c.args.first + t - c.loop-left.less) c.length_of.result (omega (arith, short, c.requires.few)) c.length_of.ensures in
+    let more : starts_of c.push.new.self.items ≡ starts_of c.loop-left.lengths.items ++ (c.args.first + t - c.loop-left.less) ∷ [] =
     ap starts_of (rw c.unwrap.ensures at c.push.ensures.items) ∙ (map-append start_of c.loop-left.lengths.items (cast_signed w64 (cast_unsigned w64 c.length_of.result) ∷ []) ∙ ap (λ (k : ℕ). starts_of c.loop-left.lengths.items ++ k ∷ []) again) in
-    let grown = one-more c.loop-left.left (trailing_zeros w64 c.loop-left.left) c.loop-left.count (set-here _ _ _ _ _ _ _ _ _ _ _ _ _ i some c.loop-left.auto.left-fits.fits refl) in
-    listing-next _ _ _ _ _ _ _ _ _ _ _ _ _ i some c.loop-left.auto.left-fits.fits refl _ _ _ _ more grown (omega (arith, c.push.ensures.upper_bound)) (omega (arith, c.push.ensures.capacity))
+    place-next _ _ _ _ _ _ _ _ _ _ _ some c.loop-left.auto.left-fits.fits refl p _ _ _ more (omega (arith, c.push.ensures.upper_bound)) (omega (arith, c.push.ensures.capacity))
 
 pub returns-clause-starts : goal.returns-clause-starts
-returns-clause-starts c = (listing-done _ _ _ _ _ _ _ _ _ _ _ _ (omega (arith, c.loop-left-test.false)) c.loop-left.invariant).0
+returns-clause-starts c = (placing-done _ _ _ _ _ _ _ _ _ _ (omega (arith, c.loop-left-test.false)) c.loop-left.invariant).0
 
 pub returns-clause-bits : goal.returns-clause-bits
 returns-clause-bits c =
-    let few : c.loop-left.count ≤ 64 = omega (arith, c.loop-left.invariant.few) in
-    all-there c.loop-left.count _ few ((listing-done _ _ _ _ _ _ _ _ _ _ _ _ (omega (arith, c.loop-left-test.false)) c.loop-left.invariant).1)
+    let few : c.loop-left.count ≤ 64 = omega (arith, c.loop-left.invariant.is.few) in
+    all-there c.loop-left.count _ few ((placing-done _ _ _ _ _ _ _ _ _ _ (omega (arith, c.loop-left-test.false)) c.loop-left.invariant).1)
