@@ -1,7 +1,8 @@
-//! Measures how fast the levels of a path are given and written, on three paths of so many level pairs: one whose levels repeat (lists of
-//! four present items), one whose levels alternate (lists of two items, the second a null), and one without lists whose nulls come as by
-//! chance. The number of pairs is the first word, a thousand without one. A second word picks what is measured: `iterators` or `sections`,
-//! both without one. A third picks the path: `repeats`, `alternates` or `flat`, all three without one. A fourth is how often the sections are
+//! Measures how fast the levels of a path are given and written, on paths of so many level pairs: one whose levels repeat (lists of
+//! four present items), one whose levels alternate (lists of two items, the second a null), one without lists whose nulls come as by
+//! chance, and three more by chance: lists, lists of structs of lists of lists, and structs. The number of pairs is the first word, a
+//! thousand without one. A second word picks what is measured: `iterators` or `sections`, both without one. A third picks the path:
+//! `repeats`, `alternates`, `flat`, `random`, `deep` or `structs`, the first three without one. A fourth is how often the sections are
 //! written, so that what one more time costs can be told from all the rest.
 //! Counts and sizes go to standard output, and times, which differ from run to run, to standard error.
 #![tactic(auto)]
@@ -26,6 +27,12 @@ enum Kind {
     Alternates,
     /// No lists, and a null at every other place as by chance.
     Flat,
+    /// Lists of up to five items as by chance, of which one in ten is null; of the items one in eight.
+    Random,
+    /// Lists of structs of lists of lists of structs of numbers, as by chance.
+    Deep,
+    /// No lists, but two structs above a leaf, of each of which one in eight is null as by chance.
+    Structs,
 }
 
 /// What is measured.
@@ -72,12 +79,99 @@ fn flat_of(alloc: Global, pairs: usize) -> Result<Vec<Nested>> {
     Ok(path)
 }
 
+// The next number as by chance, below a bound.
+fn next_below(state: &mut u64, bound: u64) -> u64
+    requires { 0 < bound }
+{
+    *state = state
+        .wrapping_mul(6_364_136_223_846_793_005)
+        .wrapping_add(1_442_695_040_888_963_407);
+    (*state >> 33) % bound
+}
+
+// So many truth values as by chance, of which one in so many is false.
+fn random_mask(alloc: Global, state: &mut u64, count: usize, nulls: u64) -> Result<MutableBitmap>
+    requires { 0 < nulls }
+{
+    let mut mask = MutableBitmap::with_capacity(alloc, 0)?;
+    for _ in 0..count {
+        mask.push(next_below(state, nulls) > 0)?;
+    }
+    Ok(mask)
+}
+
+// So many lists as by chance, and the number of their items.
+fn random_lists(alloc: Global, state: &mut u64, count: usize) -> Result<(Nested, usize)> {
+    let mut offsets = Offsets::<i32>::with_capacity(alloc, 0)?;
+    let mut mask = MutableBitmap::with_capacity(alloc, 0)?;
+    let mut items: usize = 0;
+    for _ in 0..count {
+        let there = next_below(state, 10) > 0;
+        let size = if there {
+            next_below(state, 6) as usize
+        } else {
+            0
+        };
+        mask.push(there)?;
+        offsets.try_push_usize(size)?;
+        items = items.saturating_add(size);
+    }
+    let list = ListNested::new(offsets.into_buffer()?, Some(mask.into_bitmap()?), true);
+    Ok((Nested::List(list), items))
+}
+
+// A path of lists as by chance over an optional leaf.
+fn random_of(alloc: Global, pairs: usize) -> Result<Vec<Nested>> {
+    let mut state = 1;
+    let mut path = Vec::new(alloc);
+    let (lists, items) = random_lists(alloc, &mut state, pairs / 5 * 2)?;
+    path.push(lists)?;
+    let mask = random_mask(alloc, &mut state, items, 8)?;
+    path.push(Nested::Primitive(Some(mask.into_bitmap()?), true, items))?;
+    Ok(path)
+}
+
+// A path of lists of structs of lists of lists of structs of numbers.
+fn deep_of(alloc: Global, pairs: usize) -> Result<Vec<Nested>> {
+    let mut state = 1;
+    let mut path = Vec::new(alloc);
+    let (lists, items) = random_lists(alloc, &mut state, pairs / 16)?;
+    path.push(lists)?;
+    let mask = random_mask(alloc, &mut state, items, 16)?;
+    path.push(Nested::Struct(Some(mask.into_bitmap()?), true, items))?;
+    let (lists, items) = random_lists(alloc, &mut state, items)?;
+    path.push(lists)?;
+    let (lists, items) = random_lists(alloc, &mut state, items)?;
+    path.push(lists)?;
+    let mask = random_mask(alloc, &mut state, items, 16)?;
+    path.push(Nested::Struct(Some(mask.into_bitmap()?), true, items))?;
+    let mask = random_mask(alloc, &mut state, items, 8)?;
+    path.push(Nested::Primitive(Some(mask.into_bitmap()?), true, items))?;
+    Ok(path)
+}
+
+// A path of two structs above a leaf, all optional.
+fn structs_of(alloc: Global, pairs: usize) -> Result<Vec<Nested>> {
+    let mut state = 1;
+    let mut path = Vec::new(alloc);
+    let mask = random_mask(alloc, &mut state, pairs, 8)?;
+    path.push(Nested::Struct(Some(mask.into_bitmap()?), true, pairs))?;
+    let mask = random_mask(alloc, &mut state, pairs, 8)?;
+    path.push(Nested::Struct(Some(mask.into_bitmap()?), true, pairs))?;
+    let mask = random_mask(alloc, &mut state, pairs, 8)?;
+    path.push(Nested::Primitive(Some(mask.into_bitmap()?), true, pairs))?;
+    Ok(path)
+}
+
 // A path with about so many level pairs.
 fn path_of(alloc: Global, kind: Kind, pairs: usize) -> Result<Vec<Nested>> {
     match kind {
         Kind::Repeats => lists_of(alloc, 4, pairs),
         Kind::Alternates => lists_of(alloc, 2, pairs),
         Kind::Flat => flat_of(alloc, pairs),
+        Kind::Random => random_of(alloc, pairs),
+        Kind::Deep => deep_of(alloc, pairs),
+        Kind::Structs => structs_of(alloc, pairs),
     }
 }
 
@@ -137,6 +231,9 @@ fn kind_of(word: &str) -> Option<Kind> {
         "repeats" => Some(Kind::Repeats),
         "alternates" => Some(Kind::Alternates),
         "flat" => Some(Kind::Flat),
+        "random" => Some(Kind::Random),
+        "deep" => Some(Kind::Deep),
+        "structs" => Some(Kind::Structs),
         _ => None,
     }
 }
@@ -176,6 +273,9 @@ fn measure(rt: &HostRuntime, asked: Asked, kind: Kind) -> Result<()> {
         Kind::Repeats => "levels that repeat",
         Kind::Alternates => "levels that alternate",
         Kind::Flat => "levels without lists",
+        Kind::Random => "levels of lists as by chance",
+        Kind::Deep => "levels of lists of lists as by chance",
+        Kind::Structs => "levels of structs as by chance",
     };
     println!(rt; "{name}")?;
     eprintln!(rt; "{name}")?;
