@@ -193,7 +193,7 @@ cond_most : (b : Bool) (x y most : ℕ) → x ≤ most → y ≤ most → cond b
 cond_most true x y most h k = h
 cond_most false x y most h k = k
 
-up-bit : (b : Bool) (d : ℕ) → up b d ≡ d + bit b
+pub up-bit : (b : Bool) (d : ℕ) → up b d ≡ d + bit b
 up-bit true d = omega arith
 up-bit false d = omega arith
 
@@ -226,7 +226,7 @@ flat-most (struct_part is_optional mask count ∷ parts) h e def i =
 pub flat-below : (parts : List Part) (def most : ℕ) → FitTogether parts → max_repetition (path_way parts) ≡ 0 → def + max_definition (path_way parts) < most → (i : ℕ) → flat_level parts def i < most
 flat-below parts def most h e low i = omega (arith, flat-most parts h e def i, low)
 
-run-levels : (level : ℕ → ℕ) (piece : ℕ → ℕ → List (ℕ × ℕ)) → ((rep i : ℕ) → piece rep i ≡ one_pair rep (level i)) → (first others place count : ℕ) → map (level_of Definition) (run piece first others place count) ≡ levels_from level place count
+pub run-levels : (level : ℕ → ℕ) (piece : ℕ → ℕ → List (ℕ × ℕ)) → ((rep i : ℕ) → piece rep i ≡ one_pair rep (level i)) → (first others place count : ℕ) → map (level_of Definition) (run piece first others place count) ≡ levels_from level place count
 unfolding run levels_from
 run-levels level piece same first others place zero = refl
 run-levels level piece same first others place (suc count) =

@@ -5,3 +5,5 @@ pub mod Walked
 pub mod Within
 pub mod Texts
 pub mod Both
+pub mod Listed
+pub mod PlaneNumbers

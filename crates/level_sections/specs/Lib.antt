@@ -1,5 +1,7 @@
 pub mod Blocks
+pub mod Definitions
 pub mod Lists
+pub mod Planes
 pub mod Sections
 pub mod Walk
 pub use Rattle.pq_runs.specs.Stretches

@@ -1,6 +1,6 @@
 -- The levels that a walk over a path writes.
-use Rattle.std.specs.Prelude.{◌≡◌, ℕ, ◌+◌, ◌*◌, ◌^◌, ◌<◌, ◌≤◌, List, ◌∷◌, ◌++◌, map}
-use Rattle.shredding.specs.Parts.{Part, list_part, path_way}
+use Rattle.std.specs.Prelude.{◌≡◌, ℕ, ◌+◌, ◌*◌, ◌^◌, ◌<◌, ◌≤◌, List, [], ◌∷◌, ◌++◌, length, map}
+use Rattle.shredding.specs.Parts.{Part, leaf_part, list_part, struct_part, path_way}
 use Rattle.shredding.specs.Shred.{max_repetition, max_definition}
 use Rattle.levels.specs.Levels.{run, slot_pairs}
 use Rattle.levels.specs.Stretch.{level_of}
@@ -9,7 +9,7 @@ use Rattle.levels.specs.declared.walk.Level.TheVariants.{Repetition, Definition}
 use Rattle.pq_runs.specs.Writing.{Keeps, Waiting}
 use Rattle.level_sections.specs.declared.walk.Above.{Above}
 use Rattle.level_sections.specs.declared.walk.Shape.{Shape}
-use Rattle.level_sections.specs.declared.walk.Shape.TheVariants.{Flat, Lists, LargeLists, Stretches}
+use Rattle.level_sections.specs.declared.walk.Shape.TheVariants.{Flat, Lists, LargeLists, Items, Stretches}
 
 -- the greatest level of a path
 abbrev pub greatest : Level → List Part → ℕ
@@ -44,9 +44,20 @@ pub record IsListAbove (level : Level) (parts : List Part) (list : Part) : Type 
   pub whole : parts ≡ list ∷ rest
   pub flat : max_repetition (path_way rest) ≡ 0
 
+-- the path is a list over a path without lists, which has few parts, and its definition levels are asked for
+abbrev pub IsOfItems : List Part → Type 0
+IsOfItems [] = ⊥
+IsOfItems (leaf_part is_optional mask count ∷ parts) = ⊥
+IsOfItems (list_part is_optional mask offsets ∷ parts) = (max_repetition (path_way parts) ≡ 0) × (length parts ≤ 5)
+IsOfItems (struct_part is_optional mask count ∷ parts) = ⊥
+
+abbrev pub AreItems : Level → List Part → Type 0
+AreItems level parts = (level ≡ Definition) × IsOfItems parts
+
 -- how a path is told: all slots at once, lists at once, or stretch by stretch
 abbrev pub IsShape : Level → List Part → Shape → Type 0
 IsShape level parts Flat = max_repetition (path_way parts) ≡ 0
 IsShape level parts (Lists list) = IsListAbove level parts (list_part list.now.is_optional list.now.validity list.now.offsets)
 IsShape level parts (LargeLists list) = IsListAbove level parts (list_part list.now.is_optional list.now.validity list.now.offsets)
+IsShape level parts Items = AreItems level parts
 IsShape level parts Stretches = Unit {0}

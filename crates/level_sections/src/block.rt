@@ -22,7 +22,7 @@ pub enum Front<'a> {
 }
 
 // Whether a leaf or a struct is optional, and which of up to 64 slots are there.
-fn part_word(part: &Nested, place: usize, count: usize) -> (bool, u64)
+pub fn part_word(part: &Nested, place: usize, count: usize) -> (bool, u64)
     requires reaches { PartReaches (place + count) (part_of part.now) }
     requires some { 0 < count }
     requires few { count ≤ 64 }
@@ -214,7 +214,7 @@ fn there_end(
 }
 
 // What an optional part adds to a level.
-fn step_of(is_optional: bool) -> u32
+pub fn step_of(is_optional: bool) -> u32
     ensures value { result ≡ bit is_optional }
     ensures most { result ≤ 1 }
 {

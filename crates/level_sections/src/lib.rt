@@ -3,7 +3,9 @@
 
 mod block;
 mod flat;
+mod items;
 mod lists;
+mod planes;
 mod prefix;
 mod section;
 mod sections;

@@ -1,13 +1,15 @@
 //! A walk over a path, stretch by stretch.
-ghost use Rattle.std.specs.Prelude.{◌≡◌, ℕ, ◌+◌, ◌-◌, ◌*◌, ◌^◌, ◌<◌, ◌≤◌, ◌++◌, List, length, map, OnOk, IfOk};
-ghost use Rattle.shredding.specs.Parts.{IsPath, slot_count, path_way};
+ghost use Rattle.std.specs.Prelude.{◌≡◌, ℕ, ◌+◌, ◌-◌, ◌*◌, ◌^◌, ◌<◌, ◌≤◌, ◌++◌, ◌∷◌, List, length, map, OnOk, IfOk};
+ghost use Rattle.shredding.specs.Parts.{IsPath, Part, slot_count, path_way};
 ghost use Rattle.shredding.specs.Shred.{max_repetition, max_definition};
-ghost use Rattle.levels.specs.Nested.{parts_of};
+ghost use Rattle.levels.specs.Nested.{part_of, parts_of};
 ghost use Rattle.pq_runs.specs.Writing.{Extends, Keeps};
 ghost use Rattle.levels.specs.Stretch.{level_of, like_pairs};
-ghost use Rattle.level_sections.specs.Walk.{walked, IsLow, Holds, IsShape};
+ghost use Rattle.level_sections.specs.Walk.{walked, AreItems, IsLow, Holds, IsShape};
+ghost use Rattle.levels.specs.declared.walk.Level.TheVariants.{Repetition, Definition};
 
 use crate::block::push_flat;
+use crate::items::{mixed_end, walk_items};
 use crate::lists::walk_lists;
 use levels::{Level, ListNested, Nested, Stretch, max_rep_level, stretch_at};
 use pq_runs::RunWriter;
@@ -29,6 +31,8 @@ pub enum Shape<'a> {
     // the repetition levels of lists above a path without lists
     Lists(&'a ListNested<i32>),
     LargeLists(&'a ListNested<i64>),
+    // the definition levels of lists above a path without lists
+    Items,
     // stretch by stretch
     Stretches,
 }
@@ -40,18 +44,41 @@ fn shape_of(level: Level, parts: &[Nested]) -> Shape<'_>
     if max_rep_level(parts) == 0 {
         return Shape::Flat;
     }
-    if level == Level::Definition {
-        return Shape::Stretches;
-    }
     let Some((part, rest)) = parts.split_first() else {
         return Shape::Stretches;
     };
     if max_rep_level(rest) > 0 {
         return Shape::Stretches;
     }
+    match level {
+        Level::Repetition => lists_at(part),
+        Level::Definition => items_at(part, rest),
+    }
+}
+
+// How the repetition levels of a part above a path without lists are told.
+fn lists_at(part: &Nested) -> Shape<'_>
+    ensures { (rest : List Part) → max_repetition (path_way rest) ≡ 0 → IsShape Repetition (part_of part.now ∷ rest) result }
+{
     match part {
         Nested::List(list) => Shape::Lists(list),
         Nested::LargeList(list) => Shape::LargeLists(list),
+        Nested::Primitive(..) => Shape::Stretches,
+        Nested::Struct(..) => Shape::Stretches,
+    }
+}
+
+// How the definition levels of a part above a path without lists are told.
+fn items_at<'a>(part: &Nested, rest: &[Nested]) -> Shape<'a>
+    requires { max_repetition (path_way (parts_of rest.now)) ≡ 0 }
+    ensures { IsShape Definition (part_of part.now ∷ parts_of rest.now) result }
+{
+    if rest.len() > 5 {
+        return Shape::Stretches;
+    }
+    match part {
+        Nested::List(_) => Shape::Items,
+        Nested::LargeList(_) => Shape::Items,
         Nested::Primitive(..) => Shape::Stretches,
         Nested::Struct(..) => Shape::Stretches,
     }
@@ -191,6 +218,64 @@ fn walk_stretches(
     Ok(())
 }
 
+// The definition levels of lists at a place, and the place behind them: some lists of few items at once, or a stretch of them.
+#[cycle(walk)]
+fn advance(
+    out: &mut Vec<u8>,
+    writer: &mut RunWriter,
+    level: Level,
+    parts: &[Nested],
+    above: Above,
+    place: usize,
+    to: usize,
+) -> Result<usize, AllocError>
+    requires well { IsPath (parts_of parts.now) }
+    requires items { AreItems level (parts_of parts.now) }
+    requires some { place < to }
+    requires within { to ≤ slot_count (parts_of parts.now) }
+    requires low { IsLow above (length parts.now) }
+    requires holds { Holds level above (max_repetition (path_way (parts_of parts.now))) (max_definition (path_way (parts_of parts.now))) writer.old.width }
+    ensures width { writer.new.width ≡ writer.old.width }
+    ensures after { IfOk result (λ next. (place < next) × (next ≤ to)) }
+    ensures added { IfOk result (λ next. (start xs : List ℕ) → Keeps start out.old.items writer.old xs → Keeps start out.new.items writer.new (xs ++ walked level (parts_of parts.now) above place (next - place))) }
+    ensures kept { Extends out.old.items out.new.items }
+{
+    let end = mixed_end(parts, place, to);
+    if end == place {
+        return step(out, writer, level, parts, above, place, to);
+    }
+    walk_items(out, writer, level, parts, above, place, end)?;
+    Ok(end)
+}
+
+// The definition levels of lists above a path without lists.
+#[cycle(walk)]
+fn walk_lists_of_items(
+    out: &mut Vec<u8>,
+    writer: &mut RunWriter,
+    level: Level,
+    parts: &[Nested],
+    above: Above,
+    from: usize,
+    to: usize,
+) -> Result<(), AllocError>
+    requires well { IsPath (parts_of parts.now) }
+    requires items { AreItems level (parts_of parts.now) }
+    requires ordered { from ≤ to }
+    requires within { to ≤ slot_count (parts_of parts.now) }
+    requires low { IsLow above (length parts.now) }
+    requires holds { Holds level above (max_repetition (path_way (parts_of parts.now))) (max_definition (path_way (parts_of parts.now))) writer.old.width }
+    ensures width { writer.new.width ≡ writer.old.width }
+    ensures added { OnOk result ((start xs : List ℕ) → Keeps start out.old.items writer.old xs → Keeps start out.new.items writer.new (xs ++ walked level (parts_of parts.now) above from (to - from))) }
+    ensures kept { Extends out.old.items out.new.items }
+{
+    let mut place = from;
+    while place < to {
+        place = advance(out, writer, level, parts, above, place, to)?;
+    }
+    Ok(())
+}
+
 // The levels of the slots from one place to another.
 #[cycle(walk)]
 pub fn walk(
@@ -215,6 +300,7 @@ pub fn walk(
         Shape::Flat => walk_flat(out, writer, level, parts, above, from, to),
         Shape::Lists(list) => walk_lists(out, writer, list, above, from, to),
         Shape::LargeLists(list) => walk_lists(out, writer, list, above, from, to),
+        Shape::Items => walk_lists_of_items(out, writer, level, parts, above, from, to),
         Shape::Stretches => walk_stretches(out, writer, level, parts, above, from, to),
     }
 }

@@ -3,6 +3,7 @@ use Rattle.levels.specs.Nested.{parts_of}
 use Rattle.pq_runs.specs.Writing.{Keeps}
 use Rattle.pq_runs.proofs.Packs.{kept_then}
 use Rattle.pq_runs.proofs.Steps.{finished}
+use Rattle.level_sections.proofs.Listed.{items-step}
 use Rattle.level_sections.proofs.Repeats.{listed}
 use Rattle.level_sections.specs.Walk.{walked}
 use Rattle.level_sections.proofs.Walked.{walked-step, walked-none, goes_on, goes_end}
@@ -38,3 +39,19 @@ walk-returns-in-LargeLists-clause-added t c =
     let list = c.in-LargeLists.list.now in
     let e = listed c.args.level list.is_optional list.validity list.offsets (parts_of c.args.parts.now) c.args.above c.args.from (c.args.to - c.args.from) c.requires.well.fits c.in-LargeLists.ensures in
     finished c.walk_lists-in-LargeLists.result (λ f start xs k. subst (λ (ys : List ℕ). Keeps start c.walk_lists-in-LargeLists.new.out.items c.walk_lists-in-LargeLists.new.writer (xs ++ ys)) e (f start xs k)) c.walk_lists-in-LargeLists.ensures.added
+
+pub walk_lists_of_items-loop-place-preserved : goal.walk_lists_of_items-loop-place-preserved
+walk_lists_of_items-loop-place-preserved t c =
+    let e = c.in_ok-place.ensures in
+    record {
+      after = omega (arith, c.loop-place.invariant.after, e.after.0);
+      before = e.after.1;
+      width = e.width ∙ c.loop-place.invariant.width;
+      kept = kept_then c.args.out.now.items c.loop-place.out.items c.advance.new.out.items c.loop-place.invariant.kept e.kept;
+      added = λ start xs k. goes_on start c.loop-place.out.items c.advance.new.out.items c.loop-place.writer c.advance.new.writer _ (walked c.args.level (parts_of c.args.parts.now) c.args.above c.loop-place.place (c.in_ok-place.place - c.loop-place.place)) _ _
+          (items-step c.args.level (parts_of c.args.parts.now) c.args.above c.loop-place.place c.in_ok-place.place c.args.to c.requires.items c.requires.well.fits (omega (arith, e.after.0)) e.after.1) e.added (c.loop-place.invariant.added start xs k);
+    }
+
+pub walk_lists_of_items-returns-clause-added : goal.walk_lists_of_items-returns-clause-added
+walk_lists_of_items-returns-clause-added t c = λ start xs k.
+    goes_end start c.loop-place.out.items c.loop-place.writer _ _ (walked-none c.args.level (parts_of c.args.parts.now) c.args.above c.loop-place.place (c.args.to - c.loop-place.place) (omega arith)) (c.loop-place.invariant.added start xs k)

@@ -6,13 +6,19 @@ use Rattle.level_sections.specs.Walk.{walked, Goes}
 use Rattle.level_sections.proofs.walk.+walk.Given as goal
 
 abbrev pub decreases-step : goal.decreases-step
-decreases-step l = 3 * length l.parts.now
+decreases-step l = 4 * length l.parts.now
 
 abbrev pub decreases-walk_stretches : goal.decreases-walk_stretches
-decreases-walk_stretches l = 3 * length l.parts.now + 1
+decreases-walk_stretches l = 4 * length l.parts.now + 2
+
+abbrev pub decreases-advance : goal.decreases-advance
+decreases-advance l = 4 * length l.parts.now + 1
+
+abbrev pub decreases-walk_lists_of_items : goal.decreases-walk_lists_of_items
+decreases-walk_lists_of_items l = 4 * length l.parts.now + 2
 
 abbrev pub decreases-walk : goal.decreases-walk
-decreases-walk l = 3 * length l.parts.now + 2
+decreases-walk l = 4 * length l.parts.now + 3
 
 abbrev pub invariant-walk_stretches-loop-place : goal.invariant-walk_stretches-loop-place
 invariant-walk_stretches-loop-place l = record {
@@ -28,3 +34,15 @@ invariant-walk_stretches-loop-place l = record {
 
 abbrev pub decreases-walk_stretches-loop-place : goal.decreases-walk_stretches-loop-place
 decreases-walk_stretches-loop-place l = l.to - l.place
+
+abbrev pub invariant-walk_lists_of_items-loop-place : goal.invariant-walk_lists_of_items-loop-place
+invariant-walk_lists_of_items-loop-place l = record {
+  after : l.from ≤ l.place;
+  before : l.place ≤ l.to;
+  width : l.writer.width ≡ l.fn.writer.width;
+  kept : Extends l.fn.out.items l.out.items;
+  added : (start xs : List ℕ) → Keeps start l.fn.out.items l.fn.writer xs → Goes start l.out.items l.writer (walked l.level (parts_of l.parts) l.above l.place (l.to - l.place)) (xs ++ walked l.level (parts_of l.parts) l.above l.from (l.to - l.from));
+}
+
+abbrev pub decreases-walk_lists_of_items-loop-place : goal.decreases-walk_lists_of_items-loop-place
+decreases-walk_lists_of_items-loop-place l = l.to - l.place

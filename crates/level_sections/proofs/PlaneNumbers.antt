@@ -1,0 +1,145 @@
+-- Numbers by the bits of words, one behind the other.
+use Rattle.std.proofs.Common.{◌≡◌, ℕ, zero, suc, ◌+◌, ◌-◌, ◌*◌, ◌/◌, ◌%◌, ◌^◌, ◌<◌, ◌≤◌, ◌==◌, min, true, false, cond, List, [], ◌∷◌, ◌++◌, length, take, refl, arith, ap, sym, ◌∙◌}
+use Rattle.std.specs.Prelude.{slice_index, bit_and, bit_or, bit_xor}
+use Rattle.std.specs.Int.{bit_at}
+use Rattle.std.proofs.lemmas.Nat.{pow_pos, mod_below, one_shl, shr-shr, div-add-mod'}
+use Rattle.std.proofs.lemmas.Nat.Bits.{bit_at-lt, bit_at-suc, bit_at-zero, bit_at_and, bit_at_or, bit_at_xor, bit_at_above, bit_at_cat_low, bit_at_cat_high}
+use Rattle.shredding.specs.Parts.{Part}
+use Rattle.level_sections.specs.declared.planes.BitPlanes.{BitPlanes}
+use Rattle.level_sections.specs.Planes.{plane_number, plane_numbers}
+use Rattle.level_sections.specs.Blocks.{part_optional, part_present, flat_level, levels_from}
+use Rattle.level_sections.proofs.Blocks.{one_bit, part-more}
+
+-- ---- sums of bits
+
+-- two bits added
+half_sum : (a b m x : ℕ) → a < 2 → b < 2 → m ≡ min a b → x ≡ (a + b) % 2 → x + 2 * m ≡ a + b
+half_sum a b m x ha hb em ex = omega (arith, ha, hb, em, ex)
+
+pub sum_of_bits : (planes : BitPlanes) (word i : ℕ) → plane_number planes i + bit_at word i ≤ 7 → bit_at (bit_xor planes.ones word) i + 2 * bit_at (bit_xor planes.twos (bit_and planes.ones word)) i + 4 * bit_at (bit_xor planes.fours (bit_and planes.twos (bit_and planes.ones word))) i ≡ plane_number planes i + bit_at word i
+sum_of_bits planes word i few =
+    let a = bit_at planes.ones i in
+    let b = bit_at planes.twos i in
+    let c = bit_at planes.fours i in
+    let m1 = bit_at (bit_and planes.ones word) i in
+    let m2 = bit_at (bit_and planes.twos (bit_and planes.ones word)) i in
+    let e1 = half_sum a (bit_at word i) m1 _ (bit_at-lt planes.ones i) (bit_at-lt word i) (bit_at_and planes.ones word i) (bit_at_xor planes.ones word i) in
+    let e2 = half_sum b m1 m2 _ (bit_at-lt planes.twos i) (bit_at-lt (bit_and planes.ones word) i) (bit_at_and planes.twos (bit_and planes.ones word) i) (bit_at_xor planes.twos (bit_and planes.ones word) i) in
+    top c m2 _ _ _ a b (bit_at word i) m1 (bit_at-lt planes.fours i) (bit_at-lt (bit_and planes.twos (bit_and planes.ones word)) i) (bit_at_xor planes.fours (bit_and planes.twos (bit_and planes.ones word)) i) e1 e2 few
+  where
+    top : (c m2 x1 x2 x4 a b w m1 : ℕ) → c < 2 → m2 < 2 → x4 ≡ (c + m2) % 2 → x1 + 2 * m1 ≡ a + w → x2 + 2 * m2 ≡ b + m1 → a + 2 * b + 4 * c + w ≤ 7 → x1 + 2 * x2 + 4 * x4 ≡ a + 2 * b + 4 * c + w
+    top c m2 x1 x2 x4 a b w m1 hc hm e4 e1 e2 few = omega (arith, hc, hm, e4, e1, e2, few)
+
+-- a part more, where it is optional
+pub parts-optional : (part : Part) (parts : List Part) (d n n' i place alive word next : ℕ) → part_optional part ≡ true → next ≡ bit_and alive word → (bit_at word i == 1) ≡ part_present part place → n' ≡ n + bit_at next i → cond (bit_at next i == 1) (flat_level parts (d + n') place) (d + n') ≡ cond (bit_at alive i == 1) (flat_level (part ∷ parts) (d + n) place) (d + n)
+parts-optional part parts d n n' i place alive word next o e there is =
+    let more : d + n' ≡ d + n + cond (part_optional part) (bit_at next i) 0 = rw o (omega (arith, is)) in
+    part-more part parts (d + n) (d + n') i place alive word next e there more
+
+-- a part more that is required
+pub parts-required : (part : Part) (parts : List Part) (d i place alive word next : ℕ) → part_optional part ≡ false → next ≡ bit_and alive word → (bit_at word i == 1) ≡ part_present part place → cond (bit_at next i == 1) (flat_level parts d place) d ≡ cond (bit_at alive i == 1) (flat_level (part ∷ parts) d place) d
+parts-required part parts d i place alive word next o e there =
+    let more : d ≡ d + cond (part_optional part) (bit_at next i) 0 = rw o (omega arith) in
+    part-more part parts d d i place alive word next e there more
+
+pub bit-most : (word i : ℕ) → bit_at word i ≤ 1
+bit-most word i = omega (arith, bit_at-lt word i)
+
+-- a slot beneath a list that is there
+pub item-level : (parts : List Part) (def n up word i place : ℕ) → bit_at word i ≡ 1 → n ≡ up + 1 → cond (bit_at word i == 1) (flat_level parts (def + n) place) (def + n) ≡ flat_level parts (def + up + 1) place
+item-level parts def n up word i place one e =
+    let same : def + n ≡ def + up + 1 = omega (arith, e) in
+    rw (one_bit word i one) (ap (λ d. flat_level parts d place) same)
+
+-- ---- words one behind the other
+
+low_bit : (n w i : ℕ) → i < w → bit_at (n % 2 ^ w) i ≡ bit_at n i
+low_bit n w i h = sym (ap (λ m. bit_at m i) (sym (div-add-mod' n (2 ^ w))) ∙ bit_at_cat_low (n / 2 ^ w) w (n % 2 ^ w) i h)
+
+shifted-low : (bits k i : ℕ) → k ≤ 64 → i < k → bit_at (bits * 2 ^ k % 2 ^ 64) i ≡ 0
+shifted-low bits k i few h =
+    let e : bits * 2 ^ k ≡ bits * 2 ^ k + 0 = omega arith in
+    low_bit (bits * 2 ^ k) 64 i (omega (arith, few, h)) ∙ (ap (λ n. bit_at n i) e ∙ (bit_at_cat_low bits k 0 i h ∙ bit_at-zero i))
+
+shifted-high : (bits k i : ℕ) → k + i < 64 → bit_at (bits * 2 ^ k % 2 ^ 64) (k + i) ≡ bit_at bits i
+shifted-high bits k i h =
+    let e : bits * 2 ^ k ≡ bits * 2 ^ k + 0 = omega arith in
+    let back : k + i - k ≡ i = omega arith in
+    low_bit (bits * 2 ^ k) 64 (k + i) h ∙ (ap (λ n. bit_at n (k + i)) e ∙ (bit_at_cat_high bits k 0 (k + i) (pow_pos k) (omega arith) ∙ ap (bit_at bits) back))
+
+pub joined-front : (word bits k i : ℕ) → k < 64 → i < k → bit_at (bit_or (word % (1 * 2 ^ k % 2 ^ 64)) (bits * 2 ^ k % 2 ^ 64)) i ≡ bit_at word i
+joined-front word bits k i few h =
+    let one : bit_at (word % (1 * 2 ^ k % 2 ^ 64)) i ≡ bit_at word i = ap (λ m. bit_at (word % m) i) (one_shl k 64 few) ∙ low_bit word k i h in
+    let z : bit_at (bits * 2 ^ k % 2 ^ 64) i ≡ 0 = shifted-low bits k i (omega (arith, few)) h in
+    omega (arith, bit_at_or (word % (1 * 2 ^ k % 2 ^ 64)) (bits * 2 ^ k % 2 ^ 64) i, one, z)
+
+pub joined-back : (word bits k i : ℕ) → k < 64 → k + i < 64 → bit_at (bit_or (word % (1 * 2 ^ k % 2 ^ 64)) (bits * 2 ^ k % 2 ^ 64)) (k + i) ≡ bit_at bits i
+joined-back word bits k i few h =
+    let z : bit_at (word % (1 * 2 ^ k % 2 ^ 64)) (k + i) ≡ 0 = ap (λ m. bit_at (word % m) (k + i)) (one_shl k 64 few) ∙ bit_at_above (word % 2 ^ k) k (k + i) (mod_below word (2 ^ k) (pow_pos k)) (omega arith) in
+    let one : bit_at (bits * 2 ^ k % 2 ^ 64) (k + i) ≡ bit_at bits i = shifted-high bits k i h in
+    omega (arith, bit_at_or (word % (1 * 2 ^ k % 2 ^ 64)) (bits * 2 ^ k % 2 ^ 64) (k + i), one, z)
+
+pub bit-shift : (word p j : ℕ) → bit_at (word / 2 ^ p) j ≡ bit_at word (p + j)
+bit-shift word zero j =
+    let e : word / 2 ^ 0 ≡ word = omega arith in
+    let here : j ≡ 0 + j = omega arith in
+    ap (λ (w : ℕ). bit_at w j) e ∙ ap (bit_at word) here
+bit-shift word (suc p) j =
+    let e : 1 + p ≡ suc p = omega arith in
+    let next : suc (p + j) ≡ suc p + j = omega arith in
+    let half : word / 2 / 2 ^ p ≡ word / 2 ^ suc p = shr-shr word 1 p ∙ ap (λ (k : ℕ). word / 2 ^ k) e in
+    ap (λ (w : ℕ). bit_at w j) (sym half) ∙ (bit-shift (word / 2) p j ∙ (sym (bit_at-suc word (p + j)) ∙ ap (bit_at word) next))
+
+-- ---- lists of numbers
+
+pub planes-none : (low : ℕ) (planes : BitPlanes) (place count : ℕ) → count ≡ 0 → plane_numbers low planes place count ≡ []
+unfolding plane_numbers
+planes-none low planes place zero e = refl
+planes-none low planes place (suc count) e = absurd (omega (arith, e))
+
+pub planes-one : (low : ℕ) (planes : BitPlanes) (place : ℕ) → plane_numbers low planes place 1 ≡ (low + plane_number planes place) ∷ []
+unfolding plane_numbers
+planes-one low planes place = refl
+
+planes-add : (low : ℕ) (planes : BitPlanes) (place m n : ℕ) → plane_numbers low planes place (m + n) ≡ plane_numbers low planes place m ++ plane_numbers low planes (place + m) n
+unfolding plane_numbers
+planes-add low planes place zero n =
+    let a : 0 + n ≡ n = omega arith in
+    let b : place + 0 ≡ place = omega arith in
+    rw (a, b) refl
+planes-add low planes place (suc m) n =
+    let a : suc m + n ≡ suc (m + n) = omega arith in
+    let b : place + suc m ≡ place + 1 + m = omega arith in
+    rw (a, b) (ap (λ ys. (low + plane_number planes place) ∷ ys) (planes-add low planes (place + 1) m n))
+
+planes-alike : (low : ℕ) (a b : BitPlanes) (p q count : ℕ) → ((i : ℕ) → i < count → plane_number a (p + i) ≡ plane_number b (q + i)) → plane_numbers low a p count ≡ plane_numbers low b q count
+unfolding plane_numbers
+planes-alike low a b p q zero same = refl
+planes-alike low a b p q (suc count) same =
+    let first : plane_number a p ≡ plane_number b q = ap (plane_number a) (omega arith) ∙ (same 0 (omega arith) ∙ ap (plane_number b) (omega arith)) in
+    ap (λ n. (low + n) ∷ plane_numbers low a (p + 1) count) first
+    ∙ ap (λ ys. (low + plane_number b q) ∷ ys) (planes-alike low a b (p + 1) (q + 1) count (λ i h. ap (plane_number a) (omega arith) ∙ (same (suc i) (omega (arith, h)) ∙ ap (plane_number b) (omega arith))))
+
+-- some numbers behind others
+pub planes-joined : (low : ℕ) (a b r : BitPlanes) (n from count : ℕ) → ((i : ℕ) → i < n → plane_number r i ≡ plane_number a i) → ((i : ℕ) → i < count → plane_number r (n + i) ≡ plane_number b (from + i)) → plane_numbers low r 0 (n + count) ≡ plane_numbers low a 0 n ++ plane_numbers low b from count
+planes-joined low a b r n from count front back =
+    planes-add low r 0 n count
+    ∙ (ap (λ ys. ys ++ plane_numbers low r (0 + n) count) (planes-alike low r a 0 0 n (λ i h. ap (plane_number r) (omega arith) ∙ (front i h ∙ ap (plane_number a) (omega arith))))
+    ∙ ap (λ ys. plane_numbers low a 0 n ++ ys) (planes-alike low r b (0 + n) from count (λ i h. ap (plane_number r) (omega arith) ∙ back i h)))
+
+-- the same numbers as levels
+pub planes-from : (level : ℕ → ℕ) (low : ℕ) (planes : BitPlanes) (p place count : ℕ) → ((i : ℕ) → i < count → low + plane_number planes (p + i) ≡ level (place + i)) → plane_numbers low planes p count ≡ levels_from level place count
+unfolding plane_numbers levels_from
+planes-from level low planes p place zero each = refl
+planes-from level low planes p place (suc count) each =
+    let first : low + plane_number planes p ≡ level place = ap (λ k. low + plane_number planes k) (omega arith) ∙ (each 0 (omega arith) ∙ ap level (omega arith)) in
+    ap (λ n. n ∷ plane_numbers low planes (p + 1) count) first
+    ∙ ap (λ ys. level place ∷ ys) (planes-from level low planes (p + 1) (place + 1) count (λ i h. ap (λ k. low + plane_number planes k) (omega arith) ∙ (each (suc i) (omega (arith, h)) ∙ ap level (omega arith))))
+
+pub planes-taken : (low : ℕ) (planes : BitPlanes) (xs : List ℕ) (p count : ℕ) → count ≤ length xs → ((i : ℕ) → i < count → slice_index xs i ≡ low + plane_number planes (p + i)) → take count xs ≡ plane_numbers low planes p count
+unfolding plane_numbers
+planes-taken low planes xs p zero few each = refl
+planes-taken low planes [] p (suc count) few each = absurd (omega (arith, few))
+planes-taken low planes (x ∷ xs) p (suc count) few each =
+    let first : x ≡ low + plane_number planes p = each 0 (omega arith) ∙ ap (λ k. low + plane_number planes k) (omega arith) in
+    ap (λ y. y ∷ take count xs) first ∙ ap (λ ys. (low + plane_number planes p) ∷ ys) (planes-taken low planes xs (p + 1) count (omega (arith, few)) (λ i h. each (suc i) (omega (arith, h)) ∙ ap (λ k. low + plane_number planes k) (omega arith)))

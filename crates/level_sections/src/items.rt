@@ -1,0 +1,372 @@
+//! Definition levels of lists above a path without lists, up to 64 at once.
+ghost use Rattle.std.specs.Prelude.{◌≡◌, ℕ, ◌+◌, ◌-◌, ◌^◌, ◌<◌, ◌≤◌, ◌==◌, ◌++◌, List, Bool, Option, All, cond, length, max, OnOk, IfOk};
+ghost use Rattle.std.specs.Int.{bit_at};
+ghost use Rattle.columns_core.specs.Rising.{IsRising};
+ghost use Rattle.shredding.specs.Parts.{IsPath, MaskFits, Part, is_present, item_count, item_span, item_start, path_way, slot_count};
+ghost use Rattle.levels.specs.Levels.{bit};
+ghost use Rattle.levels.specs.Nested.{parts_of};
+ghost use Rattle.pq_runs.specs.Writing.{Extends, Keeps};
+ghost use Rattle.level_sections.specs.Blocks.{flat_level, Reaches};
+ghost use Rattle.level_sections.specs.Definitions.{IsWindow, levels_or, list_definitions, listed_from, pending_levels};
+ghost use Rattle.level_sections.specs.Walk.{AreItems, Goes, IsLow, walked};
+ghost use Rattle.shredding.specs.Shred.{max_definition};
+
+use crate::block::{push_flat, step_of};
+use crate::planes::{BitPlanes, Pending, item_planes, one_plane, push_planes, with_numbers};
+use crate::walk::Above;
+use columns_core::{Offset, OffsetsBuffer};
+use levels::{Level, ListNested, Nested, full_word, present_word};
+use pq_runs::RunWriter;
+use std::alloc::AllocError;
+
+// What is known of up to 64 slots beneath lists: what they add to the level of a null list.
+#[derive(Clone, Copy, Drop)]
+pub struct Window {
+    pub planes: BitPlanes,
+    pub first: usize,
+    pub end: usize,
+}
+
+const NONE: Pending = Pending {
+    planes: BitPlanes {
+        ones: 0,
+        twos: 0,
+        fours: 0,
+    },
+    count: 0,
+};
+
+// The place of the first item of list `i`, or behind all items, counted from the first offset.
+#[inline(always)]
+#[tactic(auto, using(levels::proofs::Rising::rising))]
+fn item_place<O: Offset>(offsets: &OffsetsBuffer<O>, i: usize) -> usize
+    requires { i < length offsets.now }
+    ensures start { result ≡ item_start offsets.now i }
+    ensures within { result ≤ item_span offsets.now }
+    ensures rises { IsRising offsets.now }
+{
+    offsets.know();
+    let _lists = offsets.len_proxy();
+    offsets.place(i) - offsets.place(0)
+}
+
+// Where the items of list `i` begin and end; it has none where it is not there.
+#[inline(always)]
+#[tactic(auto, using(levels::proofs::Rising::rising))]
+fn items_of<O: Offset>(offsets: &OffsetsBuffer<O>, there: bool, i: usize) -> (usize, usize)
+    requires { i + 1 < length offsets.now }
+    ensures first { result.0 ≡ item_start offsets.now i }
+    ensures ordered { result.0 ≤ result.1 }
+    ensures count { result.1 - result.0 ≡ cond there (item_count offsets.now i) 0 }
+    ensures within { result.1 ≤ item_span offsets.now }
+{
+    offsets.know();
+    // the number of lists fits its type, so `i + 1` does
+    let _lists = offsets.len_proxy();
+    let first = item_place(offsets, i);
+    if !there {
+        return (first, first);
+    }
+    (first, item_place(offsets, i + 1))
+}
+
+// What a list without items adds to the level of a null one: one where it is optional and there.
+#[inline(always)]
+fn step_at(is_optional: bool, there: bool) -> u64
+    ensures value { result ≡ cond there (bit is_optional) 0 }
+    ensures most { result ≤ 1 }
+{
+    if !there {
+        return 0;
+    }
+    u64::from(step_of(is_optional))
+}
+
+// What up to 64 slots beneath a list add to a level.
+fn window_at(is_optional: bool, rest: &[Nested], first: usize, to: usize) -> Window
+    requires reaches { Reaches to (parts_of rest.now) }
+    requires parts { length rest.now ≤ 5 }
+    requires ordered { first ≤ to }
+    ensures few { result.end ≤ result.first + 64 }
+    ensures within { result.end ≤ to }
+    ensures all { to ≤ first + 64 → result.end ≡ to }
+    ensures first { result.first ≡ first }
+    ensures levels { (def : ℕ) → IsWindow def (flat_level (parts_of rest.now) (def + bit is_optional + 1)) result }
+{
+    let count = (to - first).min(64);
+    if count == 0 {
+        return Window {
+            planes: NONE.planes,
+            first,
+            end: first,
+        };
+    }
+    Window {
+        planes: item_planes(is_optional, rest, first, count),
+        first,
+        end: first + count,
+    }
+}
+
+// Takes the levels of a list that has room behind those that wait: those of its items, or so much more than a null list's where it has none.
+#[inline(always)]
+fn with_list(pending: Pending, window: Window, empty: u64, first: usize, items: usize) -> Pending
+    requires room { pending.count + max items 1 ≤ 64 }
+    requires some { empty ≤ 1 }
+    requires few { window.end ≤ window.first + 64 }
+    requires after { 0 < items → window.first ≤ first }
+    requires before { 0 < items → first + items ≤ window.end }
+    ensures few { result.count ≤ 64 }
+    ensures levels { (def : ℕ) → (level : ℕ → ℕ) → IsWindow def level window → pending_levels def result ≡ pending_levels def pending ++ levels_or (def + empty) level first items }
+{
+    if items == 0 {
+        return with_numbers(pending, one_plane(empty), 0, 1);
+    }
+    with_numbers(pending, window.planes, first - window.first, items)
+}
+
+// Takes some of up to 64 lists, as long as they have room behind the levels that wait and their items are known, and gives how many. A word
+// tells which are there.
+#[inline(never)]
+fn take_lists<O: Offset>(
+    pending: Pending,
+    window: Window,
+    list: &ListNested<O>,
+    word: u64,
+    place: usize,
+    count: usize,
+) -> (Pending, usize)
+    requires room { pending.count ≤ 64 }
+    requires few { window.end ≤ window.first + 64 }
+    requires lists { count ≤ 64 }
+    requires within { place + count ≤ length list.now.offsets - 1 }
+    requires bits { (i : ℕ) → i < count → (bit_at word i == 1) ≡ is_present list.now.is_optional list.now.validity (place + i) }
+    ensures few { result.0.count ≤ 64 }
+    ensures before { result.1 ≤ count }
+    ensures levels { (rest : List Part) → (def : ℕ) → IsWindow def (flat_level rest (def + bit list.now.is_optional + 1)) window → pending_levels def result.0 ≡ pending_levels def pending ++ listed_from (list_definitions list.now.is_optional list.now.validity list.now.offsets rest def) place result.1 }
+{
+    // the number of lists fits its type, so `place + i` does
+    let _lists = list.offsets.len_proxy();
+    let mut after = pending;
+    let mut i = 0;
+    while i < count {
+        let there = (word >> i) & 1 == 1;
+        let (first, last) = items_of(&list.offsets, there, place + i);
+        let items = last - first;
+        if items.max(1) > 64 - after.count {
+            break;
+        }
+        if items > 0 {
+            if first < window.first {
+                break;
+            }
+            if last > window.end {
+                break;
+            }
+        }
+        let empty = step_at(list.is_optional, there);
+        after = with_list(after, window, empty, first, items);
+        i += 1;
+    }
+    (after, i)
+}
+
+// Tells what waits, and takes a list behind it.
+fn push_list<O: Offset>(
+    out: &mut Vec<u8>,
+    writer: &mut RunWriter,
+    pending: Pending,
+    list: &ListNested<O>,
+    rest: &[Nested],
+    def: u32,
+    there: bool,
+    i: usize,
+) -> Result<Pending, AllocError>
+    requires room { pending.count ≤ 64 }
+    requires reaches { Reaches (item_span list.now.offsets) (parts_of rest.now) }
+    requires parts { length rest.now ≤ 5 }
+    requires low { def + length rest.now + 2 ≤ 256 }
+    requires within { i + 1 < length list.now.offsets }
+    requires there { there ≡ is_present list.now.is_optional list.now.validity i }
+    requires waits { All (λ v. v < 2 ^ writer.old.width) (pending_levels def pending) }
+    requires holds { (j : ℕ) → flat_level (parts_of rest.now) (def + bit list.now.is_optional + 1) j < 2 ^ writer.old.width }
+    ensures width { writer.new.width ≡ writer.old.width }
+    ensures few { IfOk result (λ after. after.count ≤ 64) }
+    ensures waits { IfOk result (λ after. All (λ v. v < 2 ^ writer.old.width) (pending_levels def after)) }
+    ensures added { IfOk result (λ after. (start left whole : List ℕ) → Goes start out.old.items writer.old (pending_levels def pending ++ (list_definitions list.now.is_optional list.now.validity list.now.offsets (parts_of rest.now) def i ++ left)) whole → Goes start out.new.items writer.new (pending_levels def after ++ left) whole) }
+    ensures kept { Extends out.old.items out.new.items }
+{
+    push_planes(out, writer, def, pending.planes, pending.count)?;
+    let (first, last) = items_of(&list.offsets, there, i);
+    let items = last - first;
+    if items > 64 {
+        let above = def + step_of(list.is_optional) + 1;
+        push_flat(out, writer, rest, above, first, last)?;
+        return Ok(NONE);
+    }
+    let window = window_at(list.is_optional, rest, first, last);
+    let empty = step_at(list.is_optional, there);
+    Ok(with_list(NONE, window, empty, first, items))
+}
+
+// Takes as many lists as have room behind the levels that wait, and one more, for which they are told. Gives the place behind them.
+fn push_some<O: Offset>(
+    out: &mut Vec<u8>,
+    writer: &mut RunWriter,
+    pending: Pending,
+    list: &ListNested<O>,
+    rest: &[Nested],
+    def: u32,
+    place: usize,
+    to: usize,
+) -> Result<(Pending, usize), AllocError>
+    requires room { pending.count ≤ 64 }
+    requires fits { MaskFits list.now.validity (length list.now.offsets - 1) }
+    requires reaches { Reaches (item_span list.now.offsets) (parts_of rest.now) }
+    requires parts { length rest.now ≤ 5 }
+    requires low { def + length rest.now + 2 ≤ 256 }
+    requires some { place < to }
+    requires within { to ≤ length list.now.offsets - 1 }
+    requires waits { All (λ v. v < 2 ^ writer.old.width) (pending_levels def pending) }
+    requires holds { (j : ℕ) → flat_level (parts_of rest.now) (def + bit list.now.is_optional + 1) j < 2 ^ writer.old.width }
+    ensures width { writer.new.width ≡ writer.old.width }
+    ensures few { IfOk result (λ after. after.0.count ≤ 64) }
+    ensures after { IfOk result (λ after. place < after.1) }
+    ensures before { IfOk result (λ after. after.1 ≤ to) }
+    ensures waits { IfOk result (λ after. All (λ v. v < 2 ^ writer.old.width) (pending_levels def after.0)) }
+    ensures added { IfOk result (λ after. (start whole : List ℕ) → Goes start out.old.items writer.old (pending_levels def pending ++ listed_from (list_definitions list.now.is_optional list.now.validity list.now.offsets (parts_of rest.now) def) place (to - place)) whole → Goes start out.new.items writer.new (pending_levels def after.0 ++ listed_from (list_definitions list.now.is_optional list.now.validity list.now.offsets (parts_of rest.now) def) after.1 (to - after.1)) whole) }
+    ensures kept { Extends out.old.items out.new.items }
+{
+    let lists = list.offsets.len_proxy();
+    let count = (to - place).min(64);
+    let word = present_word(list.is_optional, &list.validity, lists, place, count);
+    let first = item_place(&list.offsets, place);
+    let end = item_place(&list.offsets, place + count);
+    let window = window_at(list.is_optional, rest, first, end);
+    let (after, taken) = take_lists(pending, window, list, word, place, count);
+    if taken == count {
+        return Ok((after, place + taken));
+    }
+    let there = (word >> taken) & 1 == 1;
+    let after = push_list(out, writer, after, list, rest, def, there, place + taken)?;
+    Ok((after, place + taken + 1))
+}
+
+// The definition levels of lists from one place to another.
+pub fn push_items<O: Offset>(
+    out: &mut Vec<u8>,
+    writer: &mut RunWriter,
+    list: &ListNested<O>,
+    rest: &[Nested],
+    def: u32,
+    from: usize,
+    to: usize,
+) -> Result<(), AllocError>
+    requires fits { MaskFits list.now.validity (length list.now.offsets - 1) }
+    requires reaches { Reaches (item_span list.now.offsets) (parts_of rest.now) }
+    requires parts { length rest.now ≤ 5 }
+    requires low { def + length rest.now + 2 ≤ 256 }
+    requires ordered { from ≤ to }
+    requires within { to ≤ length list.now.offsets - 1 }
+    requires holds { (j : ℕ) → flat_level (parts_of rest.now) (def + bit list.now.is_optional + 1) j < 2 ^ writer.old.width }
+    ensures width { writer.new.width ≡ writer.old.width }
+    ensures added { OnOk result ((start xs : List ℕ) → Keeps start out.old.items writer.old xs → Keeps start out.new.items writer.new (xs ++ listed_from (list_definitions list.now.is_optional list.now.validity list.now.offsets (parts_of rest.now) def) from (to - from))) }
+    ensures kept { Extends out.old.items out.new.items }
+{
+    let mut pending = NONE;
+    let mut place = from;
+    while place < to {
+        let (after, next) = push_some(out, writer, pending, list, rest, def, place, to)?;
+        pending = after;
+        place = next;
+    }
+    push_planes(out, writer, def, pending.planes, pending.count)
+}
+
+// Whether some lists all have items.
+fn have_items<O: Offset>(offsets: &OffsetsBuffer<O>, place: usize, end: usize) -> bool
+    requires { end < length offsets.now }
+{
+    offsets.know();
+    let mut all = true;
+    for i in place..end {
+        all &= offsets.place(i) != offsets.place(i + 1);
+    }
+    all
+}
+
+// Where lists end that are best taken one by one, from a place on: the next ones are neither all null nor all there with items, and those have
+// few. Else there are none.
+fn lists_end<O: Offset>(list: &ListNested<O>, place: usize, to: usize) -> usize
+    requires fits { MaskFits list.now.validity (length list.now.offsets - 1) }
+    requires some { place < to }
+    requires within { to ≤ length list.now.offsets - 1 }
+    ensures after { place ≤ result }
+    ensures before { result ≤ to }
+{
+    let lists = list.offsets.len_proxy();
+    let count = (to - place).min(64);
+    let word = present_word(list.is_optional, &list.validity, lists, place, count);
+    if word == 0 {
+        return place;
+    }
+    let first = item_place(&list.offsets, place);
+    let last = item_place(&list.offsets, place + count);
+    if last.saturating_sub(first) > 8 * count {
+        return place;
+    }
+    if word == full_word(count) && have_items(&list.offsets, place, place + count) {
+        return place;
+    }
+    place + (to - place).min(1024)
+}
+
+// Where lists above a path without lists end that are best taken one by one, from a place on.
+pub fn mixed_end(parts: &[Nested], place: usize, to: usize) -> usize
+    requires well { IsPath (parts_of parts.now) }
+    requires some { place < to }
+    requires within { to ≤ slot_count (parts_of parts.now) }
+    ensures after { place ≤ result }
+    ensures before { result ≤ to }
+{
+    let Some((part, _)) = parts.split_first() else {
+        return place;
+    };
+    match part {
+        Nested::List(list) => lists_end(list, place, to),
+        Nested::LargeList(list) => lists_end(list, place, to),
+        Nested::Primitive(..) => place,
+        Nested::Struct(..) => place,
+    }
+}
+
+// The definition levels of lists above a path without lists.
+pub fn walk_items(
+    out: &mut Vec<u8>,
+    writer: &mut RunWriter,
+    level: Level,
+    parts: &[Nested],
+    above: Above,
+    from: usize,
+    to: usize,
+) -> Result<(), AllocError>
+    requires well { IsPath (parts_of parts.now) }
+    requires items { AreItems level (parts_of parts.now) }
+    requires ordered { from ≤ to }
+    requires within { to ≤ slot_count (parts_of parts.now) }
+    requires low { IsLow above (length parts.now) }
+    requires holds { above.def + max_definition (path_way (parts_of parts.now)) < 2 ^ writer.old.width }
+    ensures width { writer.new.width ≡ writer.old.width }
+    ensures added { OnOk result ((start xs : List ℕ) → Keeps start out.old.items writer.old xs → Keeps start out.new.items writer.new (xs ++ walked level (parts_of parts.now) above from (to - from))) }
+    ensures kept { Extends out.old.items out.new.items }
+{
+    let Some((part, rest)) = parts.split_first() else {
+        unreachable!()
+    };
+    match part {
+        Nested::List(list) => push_items(out, writer, list, rest, above.def, from, to),
+        Nested::LargeList(list) => push_items(out, writer, list, rest, above.def, from, to),
+        Nested::Primitive(..) => unreachable!(),
+        Nested::Struct(..) => unreachable!(),
+    }
+}

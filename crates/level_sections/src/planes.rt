@@ -1,0 +1,245 @@
+//! Definition levels by the bits of words.
+ghost use Rattle.std.specs.Prelude.{◌≡◌, ℕ, ◌+◌, ◌-◌, ◌<◌, ◌≤◌, ◌==◌, ◌^◌, ◌*◌, ◌++◌, List, All, OnOk, cond, length, slice_index};
+ghost use Rattle.pq_runs.specs.Writing.{Extends, Keeps};
+ghost use Rattle.std.specs.Int.{bit_at};
+ghost use Rattle.levels.specs.Nested.{parts_of};
+ghost use Rattle.levels.specs.Levels.{bit};
+ghost use Rattle.level_sections.specs.Planes.{plane_number, plane_numbers};
+ghost use Rattle.level_sections.specs.Blocks.{flat_level, Reaches};
+ghost use Rattle.level_sections.specs.Definitions.{pending_levels};
+
+use crate::block::part_word;
+use levels::{Nested, full_word};
+use pq_runs::RunWriter;
+use std::alloc::AllocError;
+
+// Up to 64 numbers of three bits: the bits of a place, one of each word, count ones, twos and fours.
+#[derive(Clone, Copy, Drop)]
+pub struct BitPlanes {
+    pub ones: u64,
+    pub twos: u64,
+    pub fours: u64,
+}
+
+// Levels that wait for their writer, at most 64, above one that all have.
+#[derive(Clone, Copy, Drop)]
+pub struct Pending {
+    pub planes: BitPlanes,
+    pub count: usize,
+}
+
+// Numbers of one bit.
+#[inline(always)]
+pub fn one_plane(word: u64) -> BitPlanes
+    ensures { (i : ℕ) → plane_number result i ≡ bit_at word i }
+{
+    BitPlanes {
+        ones: word,
+        twos: 0,
+        fours: 0,
+    }
+}
+
+// Adds a word's bits to numbers that have room for one more.
+#[inline(always)]
+fn with_bits(planes: BitPlanes, word: u64) -> BitPlanes
+    ensures { (i : ℕ) → plane_number planes i + bit_at word i ≤ 7 → plane_number result i ≡ plane_number planes i + bit_at word i }
+{
+    let twos = planes.ones & word;
+    let fours = planes.twos & twos;
+    BitPlanes {
+        ones: planes.ones ^ word,
+        twos: planes.twos ^ twos,
+        fours: planes.fours ^ fours,
+    }
+}
+
+// Adds to the numbers of up to 64 slots whose bits are set what the parts say of them.
+pub fn with_parts(
+    planes: BitPlanes,
+    parts: &[Nested],
+    word: u64,
+    place: usize,
+    count: usize,
+) -> BitPlanes
+    requires reaches { Reaches (place + count) (parts_of parts.now) }
+    requires some { 0 < count }
+    requires few { count ≤ 64 }
+    requires low { (i : ℕ) → i < count → plane_number planes i + length parts.now ≤ 7 }
+    ensures { (i : ℕ) → i < count → (def : ℕ) → def + plane_number result i ≡ cond (bit_at word i == 1) (flat_level (parts_of parts.now) (def + plane_number planes i) (place + i)) (def + plane_number planes i) }
+{
+    let mut rest = parts;
+    let mut alive = word;
+    let mut sums = planes;
+    while let Some((part, beneath)) = rest.split_first() {
+        let (is_optional, there) = part_word(part, place, count);
+        alive &= there;
+        if is_optional {
+            sums = with_bits(sums, alive);
+        }
+        rest = beneath;
+    }
+    sums
+}
+
+// What each slot beneath a list adds to a level for the list alone.
+fn list_planes(is_optional: bool) -> BitPlanes
+    ensures { (i : ℕ) → i < 64 → plane_number result i ≡ bit is_optional + 1 }
+{
+    if !is_optional {
+        return one_plane(full_word(64));
+    }
+    BitPlanes {
+        ones: 0,
+        twos: full_word(64),
+        fours: 0,
+    }
+}
+
+// What up to 64 slots beneath a list that is optional or not add to a level.
+pub fn item_planes(is_optional: bool, rest: &[Nested], place: usize, count: usize) -> BitPlanes
+    requires reaches { Reaches (place + count) (parts_of rest.now) }
+    requires some { 0 < count }
+    requires few { count ≤ 64 }
+    requires parts { length rest.now ≤ 5 }
+    ensures { (i : ℕ) → i < count → (def : ℕ) → def + plane_number result i ≡ flat_level (parts_of rest.now) (def + bit is_optional + 1) (place + i) }
+{
+    with_parts(
+        list_planes(is_optional),
+        rest,
+        full_word(count),
+        place,
+        count,
+    )
+}
+
+// The lowest bits of a word, and the bits of another one behind them.
+#[inline(always)]
+fn joined(word: u64, count: usize, bits: u64) -> u64
+    requires few { count < 64 }
+    ensures front { (i : ℕ) → i < count → bit_at result i ≡ bit_at word i }
+    ensures back { (i : ℕ) → count + i < 64 → bit_at result (count + i) ≡ bit_at bits i }
+{
+    (word % (1 << count)) | (bits << count)
+}
+
+// The numbers of some places behind those that wait.
+#[inline(always)]
+pub fn with_numbers(pending: Pending, planes: BitPlanes, from: usize, count: usize) -> Pending
+    requires some { 0 < count }
+    requires room { pending.count + count ≤ 64 }
+    requires within { from + count ≤ 64 }
+    ensures count { result.count ≡ pending.count + count }
+    ensures levels { (low : ℕ) → pending_levels low result ≡ pending_levels low pending ++ plane_numbers low planes from count }
+{
+    Pending {
+        planes: BitPlanes {
+            ones: joined(pending.planes.ones, pending.count, planes.ones >> from),
+            twos: joined(pending.planes.twos, pending.count, planes.twos >> from),
+            fours: joined(pending.planes.fours, pending.count, planes.fours >> from),
+        },
+        count: pending.count + count,
+    }
+}
+
+// The number at a place.
+#[inline(always)]
+fn number_at(planes: BitPlanes, i: usize) -> u32
+    requires { i < 64 }
+    ensures value { result ≡ plane_number planes i }
+    ensures most { result ≤ 7 }
+{
+    let ones = ((planes.ones >> i) & 1) as u32;
+    let twos = ((planes.twos >> i) & 1) as u32;
+    let fours = ((planes.fours >> i) & 1) as u32;
+    ones + 2 * twos + 4 * fours
+}
+
+// The number at a place, none of which has a four.
+#[inline(always)]
+fn low_number_at(planes: BitPlanes, i: usize) -> u32
+    requires within { i < 64 }
+    requires none { planes.fours ≡ 0 }
+    ensures value { result ≡ plane_number planes i }
+    ensures most { result ≤ 3 }
+{
+    let ones = ((planes.ones >> i) & 1) as u32;
+    let twos = ((planes.twos >> i) & 1) as u32;
+    ones + 2 * twos
+}
+
+// The numbers of all places, none of which has a four, each with so much more.
+#[inline(always)]
+fn low_numbers_in(low: u32, planes: BitPlanes) -> [u32; 64]
+    requires low { low ≤ 256 }
+    requires none { planes.fours ≡ 0 }
+    ensures { (i : ℕ) → i < 64 → slice_index result i ≡ low + plane_number planes i }
+{
+    let mut numbers = [low; 64];
+    for i in 0..64 {
+        numbers[i] = low + low_number_at(planes, i);
+    }
+    numbers
+}
+
+// The numbers of all places, each with so much more.
+#[inline(always)]
+fn all_numbers_in(low: u32, planes: BitPlanes) -> [u32; 64]
+    requires { low ≤ 256 }
+    ensures { (i : ℕ) → i < 64 → slice_index result i ≡ low + plane_number planes i }
+{
+    let mut numbers = [low; 64];
+    for i in 0..64 {
+        numbers[i] = low + number_at(planes, i);
+    }
+    numbers
+}
+
+// The numbers of so many places, each with so much more.
+#[inline(never)]
+fn some_numbers_in(low: u32, planes: BitPlanes, count: usize) -> [u32; 64]
+    requires low { low ≤ 256 }
+    requires few { count ≤ 64 }
+    ensures { (i : ℕ) → i < count → slice_index result i ≡ low + plane_number planes i }
+{
+    let mut numbers = [low; 64];
+    for i in 0..count {
+        numbers[i] = low + number_at(planes, i);
+    }
+    numbers
+}
+
+// The numbers of so many places, each with so much more. For many places no loop ends early, so that it is written out.
+#[inline(always)]
+fn numbers_in(low: u32, planes: BitPlanes, count: usize) -> [u32; 64]
+    requires low { low ≤ 256 }
+    requires few { count ≤ 64 }
+    ensures { (i : ℕ) → i < count → slice_index result i ≡ low + plane_number planes i }
+{
+    if count <= 48 {
+        return some_numbers_in(low, planes, count);
+    }
+    if planes.fours == 0 {
+        return low_numbers_in(low, planes);
+    }
+    all_numbers_in(low, planes)
+}
+
+// The numbers of so many places are told to a writer, each with so much more.
+pub fn push_planes(
+    out: &mut Vec<u8>,
+    writer: &mut RunWriter,
+    low: u32,
+    planes: BitPlanes,
+    count: usize,
+) -> Result<(), AllocError>
+    requires few { count ≤ 64 }
+    requires low { low ≤ 256 }
+    requires holds { All (λ v. v < 2 ^ writer.old.width) (plane_numbers low planes 0 count) }
+    ensures width { writer.new.width ≡ writer.old.width }
+    ensures added { OnOk result ((start xs : List ℕ) → Keeps start out.old.items writer.old xs → Keeps start out.new.items writer.new (xs ++ plane_numbers low planes 0 count)) }
+    ensures kept { Extends out.old.items out.new.items }
+{
+    let numbers = numbers_in(low, planes, count);
+    writer.push_each(out, &numbers[..count])
+}
