@@ -175,7 +175,7 @@ same_at zero v i h = absurd (omega (arith, h))
 same_at (suc n) v zero h = refl
 same_at (suc n) v (suc i) h = same_at n v i (omega (arith, h))
 
-mixed : (parts : List Part) (level mid i x : ℕ) → x < 2 → mid ≡ level + x → cond (x == 1) (flat_level parts mid i) mid ≡ cond (x == 1) (flat_level parts (level + 1) i) level
+pub mixed : (parts : List Part) (level mid i x : ℕ) → x < 2 → mid ≡ level + x → cond (x == 1) (flat_level parts mid i) mid ≡ cond (x == 1) (flat_level parts (level + 1) i) level
 mixed parts level mid i zero h e = omega (arith, e)
 mixed parts level mid i (suc zero) h e = ap (λ n. flat_level parts n i) e
 mixed parts level mid i (suc (suc x)) h e = absurd (omega (arith, h))

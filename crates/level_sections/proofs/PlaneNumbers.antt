@@ -1,14 +1,15 @@
 -- Numbers by the bits of words, one behind the other.
 use Rattle.std.proofs.Common.{◌≡◌, ℕ, zero, suc, ◌+◌, ◌-◌, ◌*◌, ◌/◌, ◌%◌, ◌^◌, ◌<◌, ◌≤◌, ◌==◌, min, true, false, cond, List, [], ◌∷◌, ◌++◌, length, take, refl, arith, ap, sym, ◌∙◌}
 use Rattle.std.specs.Prelude.{slice_index, bit_and, bit_or, bit_xor}
-use Rattle.std.specs.Int.{bit_at}
+use Rattle.std.specs.Int.{bit_at, to_le_bytes, w32}
 use Rattle.std.proofs.lemmas.Nat.{pow_pos, mod_below, one_shl, shr-shr, div-add-mod'}
 use Rattle.std.proofs.lemmas.Nat.Bits.{bit_at-lt, bit_at-suc, bit_at-zero, bit_at_and, bit_at_or, bit_at_xor, bit_at_above, bit_at_cat_low, bit_at_cat_high}
 use Rattle.shredding.specs.Parts.{Part}
+use Rattle.pq_runs.specs.Words.{bit_numbers}
 use Rattle.level_sections.specs.declared.planes.BitPlanes.{BitPlanes}
 use Rattle.level_sections.specs.Planes.{plane_number, plane_numbers}
 use Rattle.level_sections.specs.Blocks.{part_optional, part_present, flat_level, levels_from}
-use Rattle.level_sections.proofs.Blocks.{one_bit, part-more}
+use Rattle.level_sections.proofs.Blocks.{mixed, one_bit, part-more}
 
 -- ---- sums of bits
 
@@ -143,3 +144,90 @@ planes-taken low planes [] p (suc count) few each = absurd (omega (arith, few))
 planes-taken low planes (x ∷ xs) p (suc count) few each =
     let first : x ≡ low + plane_number planes p = each 0 (omega arith) ∙ ap (λ k. low + plane_number planes k) (omega arith) in
     ap (λ y. y ∷ take count xs) first ∙ ap (λ ys. (low + plane_number planes p) ∷ ys) (planes-taken low planes xs (p + 1) count (omega (arith, few)) (λ i h. each (suc i) (omega (arith, h)) ∙ ap (λ k. low + plane_number planes k) (omega arith)))
+
+-- numbers of one bit
+pub planes-bits : (low : ℕ) (planes : BitPlanes) (place count : ℕ) → planes.twos ≡ 0 → planes.fours ≡ 0 → bit_numbers low planes.ones place count ≡ plane_numbers low planes place count
+unfolding plane_numbers bit_numbers
+planes-bits low planes place zero t f = refl
+planes-bits low planes place (suc count) t f =
+    let two : bit_at planes.twos place ≡ 0 = ap (λ w. bit_at w place) t ∙ bit_at-zero place in
+    let four : bit_at planes.fours place ≡ 0 = ap (λ w. bit_at w place) f ∙ bit_at-zero place in
+    let first : low + bit_at planes.ones place ≡ low + plane_number planes place = omega (arith, two, four) in
+    ap (λ n. n ∷ bit_numbers low planes.ones (place + 1) count) first ∙ ap (λ ys. (low + plane_number planes place) ∷ ys) (planes-bits low planes (place + 1) count t f)
+
+pub planes-at : (low : ℕ) (planes : BitPlanes) (place count i : ℕ) → i < count → slice_index (plane_numbers low planes place count) i ≡ low + plane_number planes (place + i)
+unfolding plane_numbers
+planes-at low planes place zero i h = absurd (omega (arith, h))
+planes-at low planes place (suc count) zero h = ap (λ k. low + plane_number planes k) (omega arith)
+planes-at low planes place (suc count) (suc i) h = planes-at low planes (place + 1) count i (omega (arith, h)) ∙ ap (λ k. low + plane_number planes k) (omega arith)
+
+-- ---- four at a time
+
+pub spread_of : (n : ℕ) → n < 16 → bit_and (n * 2113665) 16843009 ≡ bit_at n 0 + 256 * bit_at n 1 + 65536 * bit_at n 2 + 16777216 * bit_at n 3
+spread_of zero h = refl
+spread_of (suc zero) h = refl
+spread_of (suc (suc zero)) h = refl
+spread_of (suc (suc (suc zero))) h = refl
+spread_of (suc (suc (suc (suc zero)))) h = refl
+spread_of (suc (suc (suc (suc (suc zero))))) h = refl
+spread_of (suc (suc (suc (suc (suc (suc zero)))))) h = refl
+spread_of (suc (suc (suc (suc (suc (suc (suc zero))))))) h = refl
+spread_of (suc (suc (suc (suc (suc (suc (suc (suc zero)))))))) h = refl
+spread_of (suc (suc (suc (suc (suc (suc (suc (suc (suc zero))))))))) h = refl
+spread_of (suc (suc (suc (suc (suc (suc (suc (suc (suc (suc zero)))))))))) h = refl
+spread_of (suc (suc (suc (suc (suc (suc (suc (suc (suc (suc (suc zero))))))))))) h = refl
+spread_of (suc (suc (suc (suc (suc (suc (suc (suc (suc (suc (suc (suc zero)))))))))))) h = refl
+spread_of (suc (suc (suc (suc (suc (suc (suc (suc (suc (suc (suc (suc (suc zero))))))))))))) h = refl
+spread_of (suc (suc (suc (suc (suc (suc (suc (suc (suc (suc (suc (suc (suc (suc zero)))))))))))))) h = refl
+spread_of (suc (suc (suc (suc (suc (suc (suc (suc (suc (suc (suc (suc (suc (suc (suc zero))))))))))))))) h = refl
+spread_of (suc (suc (suc (suc (suc (suc (suc (suc (suc (suc (suc (suc (suc (suc (suc (suc n)))))))))))))))) h = absurd (omega (arith, h))
+
+-- the bit of a place of the lowest ones from another place on
+pub field-bit : (word at j : ℕ) → j < 4 → bit_at (word / 2 ^ at % 16) j ≡ bit_at word (at + j)
+field-bit word at j h = low_bit (word / 2 ^ at) 4 j h ∙ bit-shift word at j
+
+lists-four : (x y z w a b c d : ℕ) → x ≡ a → y ≡ b → z ≡ c → w ≡ d → x ∷ y ∷ z ∷ w ∷ [] ≡ a ∷ b ∷ c ∷ d ∷ []
+lists-four x y z w a b c d ex ey ez ew = rw (ex, ey, ez, ew) refl
+
+four-bytes : (sum a b c d : ℕ) → a ≤ 7 → b ≤ 7 → c ≤ 7 → d ≤ 7 → sum ≡ a + 256 * b + 65536 * c + 16777216 * d → to_le_bytes w32 sum ≡ a ∷ b ∷ c ∷ d ∷ []
+four-bytes sum a b c d ha hb hc hd e =
+    lists-four _ _ _ _ a b c d at_0 at_1 at_2 at_3
+  where
+    at_0 : slice_index (to_le_bytes w32 sum) 0 ≡ a
+    at_0 = omega (arith, e, ha, hb, hc, hd)
+
+    at_1 : slice_index (to_le_bytes w32 sum) 1 ≡ b
+    at_1 = omega (arith, e, ha, hb, hc, hd)
+
+    at_2 : slice_index (to_le_bytes w32 sum) 2 ≡ c
+    at_2 = omega (arith, e, ha, hb, hc, hd)
+
+    at_3 : slice_index (to_le_bytes w32 sum) 3 ≡ d
+    at_3 = omega (arith, e, ha, hb, hc, hd)
+
+number-most : (planes : BitPlanes) (i : ℕ) → plane_number planes i ≤ 7
+number-most planes i = omega (arith, bit-most planes.ones i, bit-most planes.twos i, bit-most planes.fours i)
+
+pub four-numbers : (planes : BitPlanes) (at sum : ℕ) → sum ≡ plane_number planes at + 256 * plane_number planes (at + 1) + 65536 * plane_number planes (at + 2) + 16777216 * plane_number planes (at + 3) → to_le_bytes w32 sum ≡ plane_numbers 0 planes at 4
+unfolding plane_numbers
+four-numbers planes at sum e =
+    let two : at + 1 + 1 ≡ at + 2 = omega arith in
+    let three : at + 1 + 1 + 1 ≡ at + 3 = omega arith in
+    let a : plane_number planes at ≡ 0 + plane_number planes at = omega arith in
+    let b : plane_number planes (at + 1) ≡ 0 + plane_number planes (at + 1) = omega arith in
+    let c : plane_number planes (at + 2) ≡ 0 + plane_number planes (at + 1 + 1) = ap (plane_number planes) (sym two) ∙ omega arith in
+    let d : plane_number planes (at + 3) ≡ 0 + plane_number planes (at + 1 + 1 + 1) = ap (plane_number planes) (sym three) ∙ omega arith in
+    four-bytes sum (plane_number planes at) (plane_number planes (at + 1)) (plane_number planes (at + 2)) (plane_number planes (at + 3)) (number-most planes at) (number-most planes (at + 1)) (number-most planes (at + 2)) (number-most planes (at + 3)) e
+    ∙ lists-four _ _ _ _ _ _ _ _ a b c d
+
+pub four-more : (planes : BitPlanes) (i : ℕ) (before after bytes : List ℕ) → take (4 * i) before ≡ plane_numbers 0 planes 0 (4 * i) → take (4 * i + 4) after ≡ take (4 * i) before ++ bytes → bytes ≡ plane_numbers 0 planes (4 * i) 4 → take (4 * (i + 1)) after ≡ plane_numbers 0 planes 0 (4 * (i + 1))
+four-more planes i before after bytes h e is =
+    let n : 4 * (i + 1) ≡ 4 * i + 4 = omega arith in
+    let z : 4 * i ≡ 0 + 4 * i = omega arith in
+    rw n (e ∙ (ap (λ ys. ys ++ bytes) h ∙ (ap (λ ys. plane_numbers 0 planes 0 (4 * i) ++ ys) (is ∙ ap (λ p. plane_numbers 0 planes p 4) z) ∙ sym (planes-add 0 planes 0 (4 * i) 4))))
+
+-- ---- the levels of slots that go on beneath where their bit is set
+
+pub planes-mixed : (level : ℕ → ℕ) (rest : List Part) (low word : ℕ) (bits planes : BitPlanes) (place count : ℕ) → ((i : ℕ) → plane_number bits i ≡ bit_at word i) → ((i : ℕ) → i < count → (def : ℕ) → def + plane_number planes i ≡ cond (bit_at word i == 1) (flat_level rest (def + plane_number bits i) (place + i)) (def + plane_number bits i)) → ((i : ℕ) → i < count → level (place + i) ≡ cond (bit_at word i == 1) (flat_level rest (low + 1) (place + i)) low) → plane_numbers low planes 0 count ≡ levels_from level place count
+planes-mixed level rest low word bits planes place count one each is =
+    planes-from level low planes 0 place count (λ i h. ap (λ k. low + plane_number planes k) (omega arith) ∙ (each i h low ∙ (mixed rest low (low + plane_number bits i) (place + i) (bit_at word i) (bit_at-lt word i) (ap (λ n. low + n) (one i)) ∙ sym (is i h))))

@@ -7,6 +7,7 @@ ghost use Rattle.levels.specs.Nested.{part_of, parts_of};
 ghost use Rattle.pq_runs.specs.Writing.{Extends, Keeps};
 ghost use Rattle.level_sections.specs.Blocks.{part_optional, part_present, flat_level, levels_from, PartReaches, Reaches, IsFront};
 
+use crate::planes::{one_plane, push_planes, with_parts};
 use columns_core::Bitmap;
 use levels::{Nested, full_word, present_word};
 use pq_runs::RunWriter;
@@ -154,6 +155,10 @@ fn push_block(
         Front::Mixed(rest, level, word) => {
             if are_required(rest) {
                 return writer.push_bits(out, level, word, count);
+            }
+            if rest.len() <= 6 {
+                let planes = with_parts(one_plane(word), rest, word, place, count);
+                return push_planes(out, writer, level, planes, count);
             }
             let mut levels = [level; 64];
             add_bits(&mut levels, true, word);

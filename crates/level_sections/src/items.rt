@@ -15,7 +15,7 @@ use crate::block::{push_flat, step_of};
 use crate::planes::{BitPlanes, Pending, item_planes, one_plane, push_planes, with_numbers};
 use crate::walk::Above;
 use columns_core::{Offset, OffsetsBuffer};
-use levels::{Level, ListNested, Nested, full_word, present_word};
+use levels::{Level, ListNested, Nested, present_word};
 use pq_runs::RunWriter;
 use std::alloc::AllocError;
 
@@ -283,39 +283,40 @@ pub fn push_items<O: Offset>(
     push_planes(out, writer, def, pending.planes, pending.count)
 }
 
-// Whether some lists all have items.
-fn have_items<O: Offset>(offsets: &OffsetsBuffer<O>, place: usize, end: usize) -> bool
-    requires { end < length offsets.now }
+// How many of some lists have no items. No list ends the loop, so that several are looked at by one instruction.
+fn count_empty<O: Offset>(offsets: &OffsetsBuffer<O>, place: usize, end: usize) -> usize
+    requires ordered { place ≤ end }
+    requires within { end < length offsets.now }
+    ensures { result ≤ end - place }
 {
     offsets.know();
-    let mut all = true;
+    let mut empty = 0;
     for i in place..end {
-        all &= offsets.place(i) != offsets.place(i + 1);
+        empty += usize::from(offsets.place(i) == offsets.place(i + 1));
     }
-    all
+    empty
 }
 
-// Where lists end that are best taken one by one, from a place on: the next ones are neither all null nor all there with items, and those have
+// Where lists end that are best taken one by one, from a place on: of the next ones neither few nor nearly all have no items, and the others have
 // few. Else there are none.
 fn lists_end<O: Offset>(list: &ListNested<O>, place: usize, to: usize) -> usize
-    requires fits { MaskFits list.now.validity (length list.now.offsets - 1) }
     requires some { place < to }
     requires within { to ≤ length list.now.offsets - 1 }
     ensures after { place ≤ result }
     ensures before { result ≤ to }
 {
-    let lists = list.offsets.len_proxy();
+    let _lists = list.offsets.len_proxy();
     let count = (to - place).min(64);
-    let word = present_word(list.is_optional, &list.validity, lists, place, count);
-    if word == 0 {
+    let empty = count_empty(&list.offsets, place, place + count);
+    if 8 * empty < count {
+        return place;
+    }
+    if 8 * empty > 7 * count {
         return place;
     }
     let first = item_place(&list.offsets, place);
     let last = item_place(&list.offsets, place + count);
     if last.saturating_sub(first) > 8 * count {
-        return place;
-    }
-    if word == full_word(count) && have_items(&list.offsets, place, place + count) {
         return place;
     }
     place + (to - place).min(1024)

@@ -1,7 +1,7 @@
 //! Definition levels by the bits of words.
-ghost use Rattle.std.specs.Prelude.{◌≡◌, ℕ, ◌+◌, ◌-◌, ◌<◌, ◌≤◌, ◌==◌, ◌^◌, ◌*◌, ◌++◌, List, All, OnOk, cond, length, slice_index};
+ghost use Rattle.std.specs.Prelude.{◌≡◌, ℕ, ◌+◌, ◌-◌, ◌<◌, ◌≤◌, ◌==◌, ◌^◌, ◌*◌, ◌++◌, List, All, OnOk, cond, length, slice_index, take};
 ghost use Rattle.pq_runs.specs.Writing.{Extends, Keeps};
-ghost use Rattle.std.specs.Int.{bit_at};
+ghost use Rattle.std.specs.Int.{bit_at, to_le_bytes, w32};
 ghost use Rattle.levels.specs.Nested.{parts_of};
 ghost use Rattle.levels.specs.Levels.{bit};
 ghost use Rattle.level_sections.specs.Planes.{plane_number, plane_numbers};
@@ -155,29 +155,67 @@ fn number_at(planes: BitPlanes, i: usize) -> u32
     ones + 2 * twos + 4 * fours
 }
 
-// The number at a place, none of which has a four.
+// Four bits as the lowest bits of four bytes.
 #[inline(always)]
-fn low_number_at(planes: BitPlanes, i: usize) -> u32
-    requires within { i < 64 }
-    requires none { planes.fours ≡ 0 }
-    ensures value { result ≡ plane_number planes i }
-    ensures most { result ≤ 3 }
+fn spread(bits: u64) -> u64
+    requires { bits < 16 }
+    ensures { result ≡ bit_at bits 0 + 256 * bit_at bits 1 + 65536 * bit_at bits 2 + 16777216 * bit_at bits 3 }
 {
-    let ones = ((planes.ones >> i) & 1) as u32;
-    let twos = ((planes.twos >> i) & 1) as u32;
-    ones + 2 * twos
+    (bits * 0x0020_4081) & 0x0101_0101
 }
 
-// The numbers of all places, none of which has a four, each with so much more.
+// A word's bits from a place on as the lowest bits of four bytes.
 #[inline(always)]
-fn low_numbers_in(low: u32, planes: BitPlanes) -> [u32; 64]
-    requires low { low ≤ 256 }
-    requires none { planes.fours ≡ 0 }
-    ensures { (i : ℕ) → i < 64 → slice_index result i ≡ low + plane_number planes i }
+fn spread_at(word: u64, at: usize) -> u64
+    requires { at < 64 }
+    ensures { result ≡ bit_at word at + 256 * bit_at word (at + 1) + 65536 * bit_at word (at + 2) + 16777216 * bit_at word (at + 3) }
+{
+    spread((word >> at) % 16)
+}
+
+// Four numbers from a place on as four bytes, the first lowest.
+#[inline(always)]
+fn four_at(planes: BitPlanes, at: usize) -> u32
+    requires { at < 64 }
+    ensures { to_le_bytes w32 result ≡ plane_numbers 0 planes at 4 }
+{
+    let ones = spread_at(planes.ones, at) as u32;
+    let twos = spread_at(planes.twos, at) as u32;
+    let fours = spread_at(planes.fours, at) as u32;
+    ones + 2 * twos + 4 * fours
+}
+
+// Four bytes take their places, and those before them stay.
+#[inline(always)]
+fn put_four(places: &mut [u8], at: usize, bytes: [u8; 4])
+    requires { at + 4 ≤ length places.old }
+    ensures len { length places.new ≡ length places.old }
+    ensures front { take (at + 4) places.new ≡ take at places.old ++ bytes }
+{
+    places[at..at + 4].copy_from_slice(&bytes);
+}
+
+// The numbers of all places.
+#[inline(always)]
+fn bytes_in(planes: BitPlanes) -> [u8; 64]
+    ensures { result ≡ plane_numbers 0 planes 0 64 }
+{
+    let mut bytes = [0; 64];
+    for i in 0..16 {
+        put_four(&mut bytes, 4 * i, four_at(planes, 4 * i).to_le_bytes());
+    }
+    bytes
+}
+
+// Numbers, each with so much more.
+#[inline(always)]
+fn raised(low: u32, bytes: [u8; 64]) -> [u32; 64]
+    requires { low ≤ 256 }
+    ensures { (i : ℕ) → i < 64 → slice_index result i ≡ low + slice_index bytes i }
 {
     let mut numbers = [low; 64];
     for i in 0..64 {
-        numbers[i] = low + low_number_at(planes, i);
+        numbers[i] = low + u32::from(bytes[i]);
     }
     numbers
 }
@@ -188,11 +226,7 @@ fn all_numbers_in(low: u32, planes: BitPlanes) -> [u32; 64]
     requires { low ≤ 256 }
     ensures { (i : ℕ) → i < 64 → slice_index result i ≡ low + plane_number planes i }
 {
-    let mut numbers = [low; 64];
-    for i in 0..64 {
-        numbers[i] = low + number_at(planes, i);
-    }
-    numbers
+    raised(low, bytes_in(planes))
 }
 
 // The numbers of so many places, each with so much more.
@@ -209,18 +243,15 @@ fn some_numbers_in(low: u32, planes: BitPlanes, count: usize) -> [u32; 64]
     numbers
 }
 
-// The numbers of so many places, each with so much more. For many places no loop ends early, so that it is written out.
+// The numbers of so many places, each with so much more. Many are spelled four at a time.
 #[inline(always)]
 fn numbers_in(low: u32, planes: BitPlanes, count: usize) -> [u32; 64]
     requires low { low ≤ 256 }
     requires few { count ≤ 64 }
     ensures { (i : ℕ) → i < count → slice_index result i ≡ low + plane_number planes i }
 {
-    if count <= 48 {
+    if count <= 24 {
         return some_numbers_in(low, planes, count);
-    }
-    if planes.fours == 0 {
-        return low_numbers_in(low, planes);
     }
     all_numbers_in(low, planes)
 }
@@ -240,6 +271,11 @@ pub fn push_planes(
     ensures added { OnOk result ((start xs : List ℕ) → Keeps start out.old.items writer.old xs → Keeps start out.new.items writer.new (xs ++ plane_numbers low planes 0 count)) }
     ensures kept { Extends out.old.items out.new.items }
 {
+    if planes.twos == 0 {
+        if planes.fours == 0 {
+            return writer.push_bits(out, low, planes.ones, count);
+        }
+    }
     let numbers = numbers_in(low, planes, count);
     writer.push_each(out, &numbers[..count])
 }
