@@ -1,12 +1,13 @@
 //! A walk over a path, stretch by stretch.
-ghost use Rattle.std.specs.Prelude.{◌≡◌, ℕ, ◌+◌, ◌-◌, ◌*◌, ◌^◌, ◌<◌, ◌≤◌, ◌++◌, ◌∷◌, List, length, map, OnOk, IfOk};
-ghost use Rattle.shredding.specs.Parts.{IsPath, Part, slot_count, path_way};
+ghost use Rattle.std.specs.Prelude.{◌≡◌, ℕ, ◌+◌, ◌-◌, ◌*◌, ◌^◌, ◌<◌, ◌≤◌, ◌++◌, ◌∷◌, Bool, List, Option, length, map, OnOk, IfOk};
+ghost use Rattle.shredding.specs.Parts.{IsPath, Part, slot_count, path_way, struct_part};
 ghost use Rattle.shredding.specs.Shred.{max_repetition, max_definition};
 ghost use Rattle.levels.specs.Nested.{part_of, parts_of};
 ghost use Rattle.pq_runs.specs.Writing.{Extends, Keeps};
 ghost use Rattle.levels.specs.Stretch.{level_of, like_pairs};
 ghost use Rattle.level_sections.specs.Walk.{walked, AreItems, IsLow, Holds, IsShape};
 ghost use Rattle.levels.specs.declared.walk.Level.TheVariants.{Repetition, Definition};
+ghost use Rattle.levels.specs.declared.walk.Level.{Level};
 
 use crate::block::push_flat;
 use crate::items::{mixed_end, walk_items};
@@ -41,12 +42,31 @@ pub enum Shape<'a> {
 fn shape_of(level: Level, parts: &[Nested]) -> Shape<'_>
     ensures { IsShape level (parts_of parts.now) result }
 {
-    if max_rep_level(parts) == 0 {
-        return Shape::Flat;
-    }
     let Some((part, rest)) = parts.split_first() else {
         return Shape::Stretches;
     };
+    match part {
+        Nested::Primitive(..) => Shape::Flat,
+        Nested::Struct(..) => struct_shape(rest),
+        Nested::List(_) => list_shape(level, part, rest),
+        Nested::LargeList(_) => list_shape(level, part, rest),
+    }
+}
+
+// How the levels of a struct above a path are told.
+fn struct_shape<'a>(rest: &[Nested]) -> Shape<'a>
+    ensures { (level : Level) (is_optional : Bool) (mask : Option (List Bool)) (count : ℕ) → IsShape level (struct_part is_optional mask count ∷ parts_of rest.now) result }
+{
+    if max_rep_level(rest) > 0 {
+        return Shape::Stretches;
+    }
+    Shape::Flat
+}
+
+// How the levels of a list above a path are told.
+fn list_shape<'a>(level: Level, part: &'a Nested, rest: &[Nested]) -> Shape<'a>
+    ensures { IsShape level (part_of part.now ∷ parts_of rest.now) result }
+{
     if max_rep_level(rest) > 0 {
         return Shape::Stretches;
     }
