@@ -1,5 +1,5 @@
 //! Byte strings that grow.
-ghost use Rattle.std.specs.Prelude.{◌≡◌, ◌⊎◌, ◌+◌, ◌<◌, ◌≤◌, ◌++◌, ◌∷◌, [], List, ℕ, IfOk, OnOk, IfErr, OnErr, drop, replicate, sum, length as list_length};
+ghost use Rattle.std.specs.Prelude.{◌≡◌, ◌⊎◌, ◌+◌, ◌<◌, ◌≤◌, ◌++◌, ◌∷◌, [], List, ℕ, IfOk, OnOk, IfErr, OnErr, take, drop, replicate, sum, length as list_length};
 ghost use Rattle.columns_base.specs.declared.error.Error.{Error};
 ghost use Rattle.columns_base.specs.declared.error.S.{S};
 ghost use Rattle.columns_base.specs.declared.error.V.{V};
@@ -7,6 +7,7 @@ ghost use Rattle.columns_slots.specs.Bytes.{pieces};
 ghost use Rattle.std.specs.Iterator.{IsFinite, Drains};
 ghost use Rattle.read_leaf.specs.Strings.{IsLaid, cut_off, total_bytes};
 
+use crate::cut::front;
 use crate::lengths::{collect_lengths, push_lengths, sum_within};
 use columns_base::{Error, Result, S, V};
 use columns_core::{Offset, Offsets, OffsetsBuffer};
@@ -30,6 +31,25 @@ impl<O: Offset> Model for Binary<O> {
     ghost view = { λ b. pieces b.offsets.0 b.values.items };
 
     ghost invariant = { λ b. IsLaid b.offsets.0 b.values.items };
+}
+
+// How many bytes a short string has at most.
+const SHORT: usize = 32;
+
+// The first bytes more. Behind short ones as many more are copied as a short string may have, and cut off again, which costs less than to
+// copy so many bytes as are known only here.
+fn push_first(values: &mut Vec<u8>, bytes: &[u8], count: usize) -> Result<()>
+    requires { count ≤ list_length bytes.now }
+    ensures ok { OnOk result (values.new.items ≡ values.old.items ++ take count bytes.now) }
+    ensures err { IfErr result (λ e. (e ≡ Error.Memory) × (values.new.items ≡ values.old.items)) }
+{
+    if count <= SHORT && SHORT <= bytes.len() {
+        values.extend_from_slice(front(bytes, SHORT))?;
+        values.truncate(values.len() - (SHORT - count));
+        return Ok(());
+    }
+    values.extend_from_slice(front(bytes, count))?;
+    Ok(())
 }
 
 impl<O: Offset> Binary<O> {
@@ -57,12 +77,30 @@ impl<O: Offset> Binary<O> {
         ensures ok { OnOk result (self.new ≡ self.old ++ string.now ∷ []) }
         ensures err { IfErr result (λ e. ((e ≡ Error.Memory) ⊎ ((e ≡ Error.Overflow V.V1) × (0 < O.limit) × (O.limit ≤ total_bytes self.old + list_length string.now))) × (self.new ≡ self.old)) }
     {
-        self.values.reserve(string.len())?;
+        self.push_front(string, string.len())
+    }
+
+    /// A string more: the first of these bytes.
+    ///
+    /// # Errors
+    ///
+    /// Those of `push`.
+    pub fn push_front(&mut self, bytes: &[u8], count: usize) -> Result<()>
+        requires { count ≤ list_length bytes.now }
+        ensures ok { OnOk result (self.new ≡ self.old ++ take count bytes.now ∷ []) }
+        ensures err { IfErr result (λ e. ((e ≡ Error.Memory) ⊎ ((e ≡ Error.Overflow V.V1) × (0 < O.limit) × (O.limit ≤ total_bytes self.old + count))) × (self.new ≡ self.old)) }
+    {
         // That the last offset fits says that some do.
         let _end = self.offsets.last().to_usize();
-        self.offsets.try_push_usize(string.len())?;
-        self.values.extend_from_slice(string).unwrap();
-        Ok(())
+        let before = self.values.len();
+        push_first(&mut self.values, bytes, count)?;
+        match self.offsets.try_push_usize(count) {
+            Ok(()) => Ok(()),
+            Err(error) => {
+                self.values.truncate(before);
+                Err(error)
+            }
+        }
     }
 
     /// As many empty strings more.

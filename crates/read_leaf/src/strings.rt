@@ -9,7 +9,7 @@ ghost use Rattle.read_walk.specs.Values.{Decodes, DecodesMixed, ones, CannotDeco
 ghost use Rattle.read_leaf.specs.Strings.{string_at, stored_strings, string_slots, AreAllowed, IsText, TookStrings, TookSome, CannotTake};
 
 use crate::binary::Binary;
-use crate::cut::skip;
+use crate::cut::{front, skip};
 use columns_base::{Error, Result, S, V};
 use columns_core::{MutableBitmap, Offset};
 use read_walk::NestedDecoder;
@@ -53,6 +53,9 @@ impl StringKind for Bytes {
 fn is_text(bytes: &[u8]) -> bool
     ensures { IsTrue result ↔ IsText bytes.now }
 {
+    if bytes.is_ascii() {
+        return true;
+    }
     match std::str::from_utf8(bytes) {
         Ok(_) => true,
         Err(_) => false,
@@ -182,9 +185,9 @@ fn first_number(text: &[u8]) -> u32
     }
 }
 
-// The string at the front and the bytes behind it; none where any of them is cut.
-fn take_string(text: &[u8]) -> Option<(&[u8], &[u8])>
-    ensures { MatchOption result (string_at text.now ≡ None) (λ s. string_at text.now ≡ Some (s.0.now, s.1.now)) }
+// How long the string at the front is, and the bytes behind its length, of which it is the first; none where any of them is cut.
+fn take_length(text: &[u8]) -> Option<(usize, &[u8])>
+    ensures { MatchOption result (string_at text.now ≡ None) (λ s. (s.0 ≤ list_length s.1.now) × (string_at text.now ≡ Some (take s.0 s.1.now, drop s.0 s.1.now))) }
 {
     if text.len() < 4 {
         return None;
@@ -194,7 +197,7 @@ fn take_string(text: &[u8]) -> Option<(&[u8], &[u8])>
     if behind.len() < count {
         return None;
     }
-    Some(behind.split_at(count))
+    Some((count, behind))
 }
 
 /// Decodes plain byte strings, of which `K` says which are values of the leaf.
@@ -222,14 +225,14 @@ fn take_next<'a, O: Offset, K: StringKind>(
     ensures err { IfErr result (CannotTake O.limit 1 (stored_strings K.allows state.old.values.now) strings.old) }
     ensures same { IfErr result (λ e. (strings.new ≡ strings.old) × (state.new.values.now ≡ state.old.values.now)) }
 {
-    match take_string(state.values) {
+    match take_length(state.values) {
         None => Err(Error::OutOfSpec(S::S6)),
-        Some((string, behind)) => {
-            if !K::is_value(string) {
+        Some((count, behind)) => {
+            if !K::is_value(front(behind, count)) {
                 return Err(Error::OutOfSpec(S::S7));
             }
-            strings.push(string)?;
-            state.values = behind;
+            strings.push_front(behind, count)?;
+            state.values = skip(behind, count);
             Ok(())
         }
     }
