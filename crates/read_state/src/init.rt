@@ -21,19 +21,20 @@ pub enum InitNested {
     Struct(bool),
 }
 
-// A part without pushes.
+// A part without pushes. A list has room for a block more, since that is asked for before its last block too.
 fn box_of(alloc: Global, part: InitNested, capacity: usize) -> Result<NestedBox>
     ensures ok { IfOk result (λ b. kept_box b ≡ initial part) }
     ensures err { IfErr result (λ e. e ≡ Error.Memory) }
 {
+    let room = capacity.saturating_add(64);
     Ok(match part {
         InitNested::Primitive(nullable) => {
             NestedBox::Primitive(NestedPrimitive::new(alloc, nullable))
         }
         InitNested::List(true) => {
-            NestedBox::Optional(NestedOptional::with_capacity(alloc, capacity)?)
+            NestedBox::Optional(NestedOptional::with_capacity(alloc, room)?)
         }
-        InitNested::List(false) => NestedBox::Valid(NestedValid::with_capacity(alloc, capacity)?),
+        InitNested::List(false) => NestedBox::Valid(NestedValid::with_capacity(alloc, room)?),
         InitNested::Struct(true) => {
             NestedBox::Struct(NestedStruct::with_capacity(alloc, capacity)?)
         }
