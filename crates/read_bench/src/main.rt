@@ -35,13 +35,14 @@ enum Shape {
     Random,
 }
 
-/// A page: its level sections, its values and its number of pairs.
+/// A page: its level sections, its values and its numbers of pairs and rows.
 #[derive(Drop)]
 struct Sections {
     levels: Vec<u8>,
     repetition: usize,
     values: Vec<u8>,
     pairs: usize,
+    rows: usize,
 }
 
 /// Numbers as by chance.
@@ -107,8 +108,8 @@ fn path_of(alloc: Global, shape: Shape, lists: usize) -> Result<Vec<Nested>> {
     Ok(path)
 }
 
-// The page of a path, unless it is none that has levels.
-fn page_of(alloc: Global, path: &[Nested]) -> Result<Option<Sections>> {
+// The page of a path of so many rows, unless it is none that has levels.
+fn page_of(alloc: Global, path: &[Nested], rows: usize) -> Result<Option<Sections>> {
     if !is_well_formed(path) || path.len() > 128 {
         return Ok(None);
     }
@@ -124,10 +125,12 @@ fn page_of(alloc: Global, path: &[Nested]) -> Result<Option<Sections>> {
         repetition,
         values,
         pairs,
+        rows,
     }))
 }
 
-// How many slots the leaf gains by all pairs of the page, into a fresh state. The steps are counted in a ledger of their own.
+// How many slots the leaf gains by all pairs of the page, into a fresh state with room for its rows, as a column's reader makes it. The steps are
+// counted in a ledger of their own.
 fn walk_in<L: Ledger>(alloc: Global, page: &Sections, blank: Blank) -> Result<usize>
     requires name { blank.name ≡ L.name }
     requires parts { blank.parts ≡ L.parts }
@@ -135,7 +138,7 @@ fn walk_in<L: Ledger>(alloc: Global, page: &Sections, blank: Blank) -> Result<us
 {
     let mut steps: Steps<L> = Steps::new(blank);
     let parts = [InitNested::List(true), InitNested::Primitive(true)];
-    let mut nested = init_nested(alloc, &parts, 0)?;
+    let mut nested = init_nested(alloc, &parts, page.rows.min(65_536))?;
     let mut decoded = NumberValues::<i32>::new(alloc);
     let (reps, defs) = page.levels.split_at(page.repetition.min(page.levels.len()));
     let mut pairs = NestedPage::try_new(reps, 1, defs, 3, page.pairs)?;
@@ -169,7 +172,7 @@ fn measure(rt: &HostRuntime, shape: Shape, pages: usize) -> Result<()> {
         Shape::Random => ("random", 21_845),
     };
     let path = path_of(rt.alloc(), shape, lists)?;
-    let Some(page) = page_of(rt.alloc(), &path)? else {
+    let Some(page) = page_of(rt.alloc(), &path, lists)? else {
         return Ok(());
     };
     let start = Instant::now(rt)?;
