@@ -3,3 +3,4 @@ pub mod Further
 pub mod Places
 pub mod Made
 pub mod Unique
+pub mod Kept

@@ -45,6 +45,10 @@ module _ (value : ℕ → Value) where
   stretch_more from i new places low h =
       subst (λ (ps : List ℕ). AreExtremes value (places ++ ps) new) (sym (range_more from i low)) (grows_more places (range from (i - from)) i new h)
 
+  pub stretch_further : (from at end : ℕ) (new : Option Extremes) (places : List ℕ) → from ≤ at → at ≤ end → AreExtremes value ((places ++ range from (at - from)) ++ range at (end - at)) new → AreExtremes value (places ++ range from (end - from)) new
+  stretch_further from at end new places low high h =
+      subst (λ (ps : List ℕ). AreExtremes value ps new) (append_assoc places (range from (at - from)) (range at (end - at)) ∙ ap (λ (ps : List ℕ). places ++ ps) (sym (gather-split (λ j. j ∷ []) from at end low high))) h
+
   -- ---- picked places
 
   -- of all places those that are not left are seen

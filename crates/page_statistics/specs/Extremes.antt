@@ -2,6 +2,7 @@
 use Rattle.std.specs.Prelude.{◌≡◌, ℕ, ◌-◌, ◌^◌, ◌<◌, List, [], ◌∷◌, length, min, All, Contains, Option, Some, None}
 use Rattle.shredding.specs.Slot.{Value}
 use Rattle.pq_files.specs.Statistics.{IsUpTo}
+use Rattle.page_statistics.specs.Between.{AreAllBetween}
 use Rattle.page_statistics.specs.declared.seen.Extremes.{Extremes}
 use Rattle.page_statistics.specs.declared.seen.Seen.{Seen}
 
@@ -25,6 +26,11 @@ AreExtremes value _ _ = ⊥
 abbrev pub AreWithin : ℕ → Option Extremes → Type 0
 AreWithin count None = Unit {0}
 AreWithin count (Some e) = (e.least < count) × (e.greatest < count)
+
+-- none from one place on to another is below the least or above the greatest
+abbrev pub AreBetween : (ℕ → Value) → Option Extremes → ℕ → ℕ → Type 0
+AreBetween value None from to = ⊥
+AreBetween value (Some e) from to = AreAllBetween value from to e.least e.greatest
 
 -- The number of these places, up to the largest number, and the extremes of theirs, each counted from nothing on.
 pub record Sees (value : ℕ → Value) (places : List ℕ) (old new : Seen) : Type 0 where

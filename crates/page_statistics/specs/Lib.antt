@@ -1,3 +1,4 @@
+pub mod Between
 pub mod Extremes
 pub mod Laws
 pub mod Spelled

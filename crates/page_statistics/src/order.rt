@@ -5,12 +5,13 @@ use std::alloc::Global;
 /// The values of a leaf array by place, in the order of their type (Parquet format, `ColumnOrder`: numbers as numbers, false before true,
 /// bytes without a sign): what differs from one leaf type to the next.
 pub trait OrderedLeaf: Drop {
-    ghost use Rattle.std.specs.Prelude.{◌≡◌, ◌<◌, ℕ, IsTrue, true, false, IfOk, IfErr};
+    ghost use Rattle.std.specs.Prelude.{◌≡◌, ◌<◌, ◌≤◌, ℕ, IsTrue, true, false, IfOk, IfErr};
     ghost use Rattle.shredding.specs.Shape.{LeafType};
     ghost use Rattle.shredding.specs.Slot.{Value};
     ghost use Rattle.columns_base.specs.declared.error.Error.TheVariants.{Memory};
     ghost use Rattle.pq_tree.specs.Physical.{Physical};
     ghost use Rattle.pq_files.specs.Statistics.{IsUpTo};
+    ghost use Rattle.page_statistics.specs.Between.{AreAllBetween};
     ghost use Rattle.page_statistics.specs.Spelled.{IsSpelled};
 
     // the number of places
@@ -35,6 +36,15 @@ pub trait OrderedLeaf: Drop {
         requires second { j < count self.now }
         ensures less { IsTrue result → IsUpTo (value self.now i) (value self.now j) }
         ensures other { result ≡ false → IsUpTo (value self.now j) (value self.now i) };
+
+    /// Whether no value at the places from `from` on to `to` is below the one at `least` or above the one at `greatest`. It may answer no
+    /// wherever that is not looked at.
+    fn are_between(&self, from: usize, to: usize, least: usize, greatest: usize) -> bool
+        requires ordered { from ≤ to }
+        requires within { to ≤ count self.now }
+        requires low { least < count self.now }
+        requires high { greatest < count self.now }
+        ensures { IsTrue result → AreAllBetween (value self.now) from to least greatest };
 
     /// The value at a place as statistics state it: plain, without a length, and a truth value as a byte.
     ///

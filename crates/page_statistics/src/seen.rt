@@ -1,7 +1,7 @@
 //! The places of the least and of the greatest value so far.
-ghost use Rattle.std.specs.Prelude.{◌≡◌, ◌+◌, ◌-◌, ◌^◌, ◌<◌, ◌≤◌, ◌++◌, ◌∷◌, [], ℕ, List, Some};
+ghost use Rattle.std.specs.Prelude.{◌≡◌, ◌+◌, ◌-◌, ◌^◌, ◌<◌, ◌≤◌, ◌++◌, ◌∷◌, [], ℕ, List, Some, IsTrue};
 ghost use Rattle.write_places.specs.Places.{range, picked};
-ghost use Rattle.page_statistics.specs.Extremes.{AreExtremes, AreWithin, IsGreatestAt, IsLeastAt};
+ghost use Rattle.page_statistics.specs.Extremes.{AreBetween, AreExtremes, AreWithin, IsGreatestAt, IsLeastAt};
 
 use crate::order::OrderedLeaf;
 
@@ -66,8 +66,21 @@ fn with_place<L: OrderedLeaf>(leaf: &L, extremes: Option<Extremes>, place: usize
     }
 }
 
-// The extremes with the places from one on to another.
-pub fn with_stretch<L: OrderedLeaf>(
+// Whether there are extremes, and no value from one place on to another is past them. It may answer no.
+fn are_between<L: OrderedLeaf>(leaf: &L, extremes: Option<Extremes>, from: usize, to: usize) -> bool
+    requires before { AreWithin (L.count leaf.now) extremes }
+    requires ordered { from ≤ to }
+    requires within { to ≤ L.count leaf.now }
+    ensures { IsTrue result → AreBetween (L.value leaf.now) extremes from to }
+{
+    match extremes {
+        Some(extremes) => leaf.are_between(from, to, extremes.least, extremes.greatest),
+        None => false,
+    }
+}
+
+// The extremes with the places from one on to another, one by one.
+fn with_each<L: OrderedLeaf>(
     leaf: &L,
     extremes: Option<Extremes>,
     from: usize,
@@ -86,6 +99,78 @@ pub fn with_stretch<L: OrderedLeaf>(
     now
 }
 
+// The same: where no value is past the extremes, they stay.
+fn with_block<L: OrderedLeaf>(
+    leaf: &L,
+    extremes: Option<Extremes>,
+    from: usize,
+    to: usize,
+) -> Option<Extremes>
+    requires before { AreWithin (L.count leaf.now) extremes }
+    requires ordered { from ≤ to }
+    requires within { to ≤ L.count leaf.now }
+    ensures within { AreWithin (L.count leaf.now) result }
+    ensures are { (places : List ℕ) → AreExtremes (L.value leaf.now) places extremes → AreExtremes (L.value leaf.now) (places ++ range from (to - from)) result }
+{
+    if are_between(leaf, extremes, from, to) {
+        return extremes;
+    }
+    with_each(leaf, extremes, from, to)
+}
+
+// Where a block of at most 128 places ends.
+fn block_end(from: usize, to: usize) -> usize
+    requires { from < to }
+    ensures past { from < result }
+    ensures within { result ≤ to }
+{
+    if to - from < 128 { to } else { from + 128 }
+}
+
+// The extremes with the places from one on to another.
+pub fn with_stretch<L: OrderedLeaf>(
+    leaf: &L,
+    extremes: Option<Extremes>,
+    from: usize,
+    to: usize,
+) -> Option<Extremes>
+    requires before { AreWithin (L.count leaf.now) extremes }
+    requires ordered { from ≤ to }
+    requires within { to ≤ L.count leaf.now }
+    ensures within { AreWithin (L.count leaf.now) result }
+    ensures are { (places : List ℕ) → AreExtremes (L.value leaf.now) places extremes → AreExtremes (L.value leaf.now) (places ++ range from (to - from)) result }
+{
+    let mut now = extremes;
+    let mut at = from;
+    while at < to {
+        let end = block_end(at, to);
+        now = with_block(leaf, now, at, end);
+        at = end;
+    }
+    now
+}
+
+// Whether there are extremes, and no value at so many places from one on is past them. It may answer no, and does so where the first value that is not
+// picked is past them.
+fn are_calm<L: OrderedLeaf>(
+    leaf: &L,
+    extremes: Option<Extremes>,
+    from: usize,
+    bits: u64,
+    count: usize,
+) -> bool
+    requires before { AreWithin (L.count leaf.now) extremes }
+    requires within { from + count ≤ L.count leaf.now }
+    ensures { IsTrue result → AreBetween (L.value leaf.now) extremes from (from + count) }
+{
+    let _places = leaf.len();
+    let gap = bits.trailing_ones() as usize;
+    if gap < count && !are_between(leaf, extremes, from + gap, from + gap + 1) {
+        return false;
+    }
+    are_between(leaf, extremes, from, from + count)
+}
+
 // The extremes with those of so many places from one on whose bits in the word are set.
 pub fn with_some<L: OrderedLeaf>(
     leaf: &L,
@@ -102,6 +187,9 @@ pub fn with_some<L: OrderedLeaf>(
     ensures are { (places : List ℕ) → AreExtremes (L.value leaf.now) places extremes → AreExtremes (L.value leaf.now) (places ++ picked bits from count) result }
 {
     let _places = leaf.len();
+    if are_calm(leaf, extremes, from, bits, count) {
+        return extremes;
+    }
     let mut left = bits;
     let mut now = extremes;
     while left != 0 {

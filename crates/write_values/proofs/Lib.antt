@@ -19,3 +19,4 @@ pub mod ServedColumns
 pub mod Ordered
 pub mod Fed
 pub mod ServedDeltas
+pub mod Runs

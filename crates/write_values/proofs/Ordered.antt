@@ -1,7 +1,8 @@
 -- The values of leaf arrays in order, and their texts as bounds.
-use Rattle.std.proofs.Common.{◌≡◌, ℕ, ◌<◌, ℤ, ◌≤ℤ◌, ◌<ℤ◌, Bool, true, false, true≢false, List, [], ◌∷◌, map, length, get_or, refl, sym, ap, subst, ◌∙◌, arith, cond, Some}
-use Rattle.std.specs.Prelude.{All, IsUtf8}
-use Rattle.std.proofs.lemmas.List.{get_or-map}
+use Rattle.std.proofs.Common.{◌≡◌, ℕ, zero, suc, ◌+◌, ◌-◌, ◌≤◌, ◌<◌, ℤ, ◌≤ℤ◌, ◌<ℤ◌, Bool, true, false, true≢false, List, [], ◌∷◌, map, length, take, drop, get_or, refl, sym, ap, subst, ◌∙◌, arith, cond, Some}
+use Rattle.std.specs.Prelude.{All, IsTrue, IsUtf8, ◌↔◌, ◌||◌, not}
+use Rattle.std.proofs.lemmas.List.{get_or-map, get_or-take, get_or-drop, get_or_default, length-take, length-drop, take_more, take_all}
+use Rattle.std.proofs.lemmas.List.Elements.{All-append}
 use Rattle.std.proofs.lemmas.Int.{by_lt_z, ints}
 use Rattle.shredding.specs.Shape.{LeafType, truths, text, binary, fixed_bytes}
 use Rattle.shredding.specs.Slot.{Value, truth, number, bytes}
@@ -31,6 +32,45 @@ module _ {A : Type 0} (g : A → Value) (ordinal : A → ℤ) (is : (x : A) → 
       let u : number (ordinal x) ≡ at_place (map g xs) i = sym (is x) ∙ number_here g xs i x l e in
       let v : number (ordinal y) ≡ at_place (map g xs) j = sym (is y) ∙ number_here g xs j y m f in
       subst (λ (a : Value). IsUpTo a (at_place (map g xs) j)) u (subst (λ (b : Value). IsUpTo (number (ordinal x)) b) v h)
+
+  -- those of a stretch that lie between two
+  pub between_up : (from to least greatest : ℕ) (x y : A) → from ≤ to → to ≤ length xs → least < length xs → greatest < length xs → x ≡ get_or xs least x → y ≡ get_or xs greatest y → All (λ z. (ordinal x ≤ℤ ordinal z) × (ordinal z ≤ℤ ordinal y)) (take (to - from) (drop from xs))
+      → (i : ℕ) → from ≤ i → i < to → IsUpTo (at_place (map g xs) least) (at_place (map g xs) i) × IsUpTo (at_place (map g xs) i) (at_place (map g xs) greatest)
+  between_up from to least greatest x y ordered within l m e f all i low high =
+      let z = get_or xs i x in
+      let k : from + (i - from) ≡ i = omega (arith, low) in
+      let here : i < length xs = omega (arith, high, within) in
+      let short : i - from < to - from = omega (arith, low, high) in
+      let inside : i - from < length (take (to - from) (drop from xs)) = omega (arith, short, within, length-take (to - from) (drop from xs), length-drop from xs) in
+      let same : get_or (take (to - from) (drop from xs)) (i - from) x ≡ z = get_or-take (to - from) (drop from xs) (i - from) x short ∙ (get_or-drop from xs (i - from) x ∙ ap (λ (n : ℕ). get_or xs n x) k) in
+      let own : z ≡ get_or xs i z = get_or_default xs i x z here in
+      let p : (ordinal x ≤ℤ ordinal z) × (ordinal z ≤ℤ ordinal y) = subst (λ (w : A). (ordinal x ≤ℤ ordinal w) × (ordinal w ≤ℤ ordinal y)) same (all (i - from) x inside) in
+      (numbers_up least i x z l here e own p.0, numbers_up i greatest z y here m own f p.1)
+
+none_past : (a b : Bool) → (a || b) ≡ false → (a ≡ false) × (b ≡ false)
+none_past false b h = (refl, h)
+none_past true b h = absurd (true≢false h)
+
+not_less : (r : Bool) (a b : ℤ) → IsTrue r ↔ (a <ℤ b) → r ≡ false → b ≤ℤ a
+not_less r a b d e = not_below a b (λ l. absurd (true≢false (sym (d.1 l) ∙ e)))
+
+one : {A : Type 0} (P : A → Type 0) (x : A) → P x → All P (x ∷ [])
+one P x h zero d k = h
+one P x h (suc i) d k = absurd (omega (arith, k))
+
+-- one number more
+pub between_more : {A : Type 0} (ordinal : A → ℤ) (low high : A) (xs : List A) (i : ℕ) (x : A) (past below above : Bool) → i < length xs → x ≡ get_or xs i x → (past ≡ false → All (λ z. (ordinal low ≤ℤ ordinal z) × (ordinal z ≤ℤ ordinal high)) (take i xs)) → IsTrue below ↔ (ordinal x <ℤ ordinal low) → IsTrue above ↔ (ordinal high <ℤ ordinal x)
+    → ((past || below) || above) ≡ false → All (λ z. (ordinal low ≤ℤ ordinal z) × (ordinal z ≤ℤ ordinal high)) (take (i + 1) xs)
+between_more {A} ordinal low high xs i x past below above l is h d f e =
+    let P : A → Type 0 = λ z. (ordinal low ≤ℤ ordinal z) × (ordinal z ≤ℤ ordinal high) in
+    let a = none_past (past || below) above e in
+    let b = none_past past below a.0 in
+    let p : P x = (not_less below (ordinal x) (ordinal low) d b.1, not_less above (ordinal high) (ordinal x) f a.1) in
+    subst (λ (ys : List A). All P ys) (sym (take_more xs i x l)) (All-append P (take i xs) (get_or xs i x ∷ []) (h b.0) (subst (λ (y : A). All P (y ∷ [])) is (one P x p)))
+
+pub between_all : {A : Type 0} (P : A → Type 0) (xs : List A) (i : ℕ) (past : Bool) → length xs ≤ i → (past ≡ false → All P (take i xs)) → IsTrue (not past) → All P xs
+between_all {A} P xs i false l h t = subst (λ (ys : List A). All P ys) (take_all i xs l) (h refl)
+between_all P xs i true l h t = absurd (true≢false (sym t))
 
 -- the text of the number at a place
 pub number_spelled : {A : Type 0} (t : LeafType) (p : Physical) (g : A → Value) (xs : List A) (i : ℕ) (x : A) (z : ℤ) (s : List ℕ) → i < length xs → x ≡ get_or xs i x → IsStored t p (g x) (number z) → s ≡ bound_text p (number z) → IsSpelled t p s (at_place (map g xs) i)

@@ -1,5 +1,5 @@
 //! The values of leaf arrays in order (Parquet format, `ColumnOrder`).
-ghost use Rattle.std.specs.Prelude.{◌≡◌, IsTrue, false};
+ghost use Rattle.std.specs.Prelude.{◌≡◌, ◌≤ℤ◌, IsTrue, false, All};
 ghost use Rattle.columns_core.specs.Natives.{within_signed};
 ghost use Rattle.shredding.specs.Slot.{bytes};
 ghost use Rattle.pq_files.specs.Statistics.{IsUpTo};
@@ -16,6 +16,18 @@ use page_statistics::OrderedLeaf;
 use std::alloc::Global;
 use std::cmp::Ordering;
 use write_statistics::ord_binary;
+
+// Whether no number is below one or above another. All are looked at, so that several are at once.
+fn lie_between<T: OrderedNative>(numbers: &[T], low: &T, high: &T) -> bool
+    ensures { IsTrue result → All (λ x. (T.ordinal low.now ≤ℤ T.ordinal x) × (T.ordinal x ≤ℤ T.ordinal high.now)) numbers.now }
+{
+    let mut are_past = false;
+    for number in numbers {
+        are_past |= number.is_less(low);
+        are_past |= high.is_less(number);
+    }
+    !are_past
+}
 
 impl<'a, T: AlwaysStored<P> + OrderedNative, P: StoredNumber> OrderedLeaf for Numbers<'a, T, P> {
     ghost use Rattle.std.specs.Prelude.{map};
@@ -43,6 +55,12 @@ impl<'a, T: AlwaysStored<P> + OrderedNative, P: StoredNumber> OrderedLeaf for Nu
         values[i].is_less(&values[j])
     }
 
+    fn are_between(&self, from: usize, to: usize, least: usize, greatest: usize) -> bool {
+        self.array.know();
+        let values = self.array.values();
+        lie_between(&values[from..to], &values[least], &values[greatest])
+    }
+
     fn bound(&self, alloc: Global, i: usize) -> Result<Vec<u8>> {
         self.array.know();
         let stored: P = self.array.values()[i].to_stored();
@@ -57,6 +75,11 @@ fn is_before(a: &[u8], b: &[u8]) -> bool
     ensures less { IsTrue result → IsUpTo (bytes a.now) (bytes b.now) }
     ensures other { result ≡ false → IsUpTo (bytes b.now) (bytes a.now) }
 {
+    if let ([first, ..], [other, ..]) = (a, b)
+        && first != other
+    {
+        return first < other;
+    }
     match ord_binary(a, b) {
         Ordering::Less => true,
         Ordering::Equal => false,
@@ -89,6 +112,10 @@ impl<'a, O: Offset> OrderedLeaf for Texts<'a, O> {
         self.array.know();
         let (offsets, all) = (self.array.offsets(), self.array.values());
         is_before(string_at(offsets, all, i), string_at(offsets, all, j))
+    }
+
+    fn are_between(&self, from: usize, to: usize, least: usize, greatest: usize) -> bool {
+        false
     }
 
     fn bound(&self, alloc: Global, i: usize) -> Result<Vec<u8>> {
@@ -126,6 +153,10 @@ impl<'a, O: Offset> OrderedLeaf for Strings<'a, O> {
         self.array.know();
         let (offsets, all) = (self.array.offsets(), self.array.values());
         is_before(string_at(offsets, all, i), string_at(offsets, all, j))
+    }
+
+    fn are_between(&self, from: usize, to: usize, least: usize, greatest: usize) -> bool {
+        false
     }
 
     fn bound(&self, alloc: Global, i: usize) -> Result<Vec<u8>> {
@@ -170,6 +201,10 @@ impl<'a> OrderedLeaf for OrderedTruths<'a> {
         !values.get_bit(i) && values.get_bit(j)
     }
 
+    fn are_between(&self, from: usize, to: usize, least: usize, greatest: usize) -> bool {
+        false
+    }
+
     fn bound(&self, alloc: Global, i: usize) -> Result<Vec<u8>> {
         self.array.know();
         let byte = u8::from(self.array.values().get_bit(i));
@@ -200,6 +235,10 @@ impl<'a> OrderedLeaf for FixedStrings<'a> {
 
     fn is_less(&self, i: usize, j: usize) -> bool {
         is_before(self.string(i), self.string(j))
+    }
+
+    fn are_between(&self, from: usize, to: usize, least: usize, greatest: usize) -> bool {
+        false
     }
 
     fn bound(&self, alloc: Global, i: usize) -> Result<Vec<u8>> {
@@ -242,6 +281,10 @@ impl<'a> OrderedLeaf for Decimals<'a> {
         self.array.know();
         let values = self.array.values();
         held_decimal(self.form, &values[i]) < held_decimal(self.form, &values[j])
+    }
+
+    fn are_between(&self, from: usize, to: usize, least: usize, greatest: usize) -> bool {
+        false
     }
 
     fn bound(&self, alloc: Global, i: usize) -> Result<Vec<u8>> {

@@ -76,19 +76,7 @@ fn push_strings<O: Offset>(
     Ok(())
 }
 
-// The number of bytes of the plain spelling of a string.
-#[tactic(auto, using(columns_leaf::proofs::Texts::step_of_places))]
-fn string_size<O: Offset>(offsets: &OffsetsBuffer<O>, all: &[u8], i: usize) -> u128
-    requires places { IsPlaces offsets.now (length all.now) }
-    requires within { i + 1 < length offsets.now }
-    ensures { result ≡ plain_size byte_array (at_place (pieces_values offsets.now all.now) i) }
-{
-    let _strings = offsets.len_proxy();
-    let size = offsets.place(i + 1) - offsets.place(i);
-    4 + size as u128
-}
-
-// The number of bytes of the plain spelling of the strings at picked places.
+// The number of bytes of the plain spelling of the strings at picked places, run by run.
 fn picked_size<O: Offset>(
     offsets: &OffsetsBuffer<O>,
     all: &[u8],
@@ -103,12 +91,19 @@ fn picked_size<O: Offset>(
     ensures { result ≡ plain_length byte_array (map (at_place (pieces_values offsets.now all.now)) (picked bits from count)) }
 {
     let _strings = offsets.len_proxy();
+    if bits == u64::MAX {
+        return strings_size(offsets, all, from, from + count);
+    }
     let mut left = bits;
+    let mut at = from;
     let mut plain = 0;
     while left != 0 {
-        let i = left.trailing_zeros() as usize;
-        plain += string_size(offsets, all, from + i);
-        left ^= 1 << i;
+        let gap = left.trailing_zeros() as usize;
+        let run = (left >> gap).trailing_ones() as usize;
+        let behind = at + (gap + run);
+        plain += strings_size(offsets, all, at + gap, behind);
+        left = (left >> gap) >> run;
+        at = behind;
     }
     plain
 }

@@ -1,8 +1,13 @@
-use Rattle.std.proofs.Common.{arith}
+use Rattle.std.proofs.Common.{◌+◌, arith}
 use Rattle.write_places.specs.Places.{picked}
 use Rattle.write_places.proofs.Picked.{next_picked}
+use Rattle.page_statistics.proofs.Kept.{kept, all_of_picked}
 use Rattle.page_statistics.proofs.Places.{partly_all, partly_more, one_less}
 use Rattle.page_statistics.proofs.seen.with_some.Goals as goal
+
+pub returns-then-are_calm-clause-are : goal.returns-then-are_calm-clause-are
+returns-then-are_calm-clause-are g c = λ places h.
+    kept (g.L.OrderedLeaf.value c.args.leaf.now) c.args.extremes c.args.from (c.args.from + c.args.count) (picked c.args.bits c.args.from c.args.count) places (c.are_calm.ensures c.if-are_calm.true) (all_of_picked c.args.bits c.args.from c.args.count) h
 
 pub overflow_add-from : goal.overflow_add-from
 overflow_add-from g c =
