@@ -22,10 +22,8 @@ use Rattle.pq_files.specs.Room.{max_size}
 use Rattle.write_places.specs.Places.{gather, range, picked}
 use Rattle.write_places.proofs.Gather.{gather-none}
 use Rattle.write_places.proofs.Picked.{IsNext}
-use Rattle.write_values.specs.declared.spelling.Deltas.{Deltas}
-use Rattle.write_values.specs.declared.spelling.Deltas.TheVariants.{Numbers32, Numbers64, Lengths}
-use Rattle.write_values.specs.Deltas.{AppendsSpelled, AreDeltasOf, delta_in}
-use Rattle.write_values.specs.Feeding.{AppendsDeltas, AreNumbersOf, FeedsRow, IsTold, delta_number, deltas_of, feeds-nothing, feeds-more, has_deltas, text_of}
+use Rattle.write_values.specs.Deltas.{AppendsSpelled}
+use Rattle.write_values.specs.Feeding.{AppendsDeltas, AreNumbersOf, FeedsRow, IsTold, delta_number, feeds-nothing, feeds-more, text_of}
 use Rattle.write_values.specs.Numbers.{at_place, is_number}
 use Rattle.write_values.proofs.NumberPlaces.{take_on}
 use Rattle.write_values.proofs.Picked.{picked_none}

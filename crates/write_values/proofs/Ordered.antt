@@ -1,8 +1,9 @@
 -- The values of leaf arrays in order, and their texts as bounds.
-use Rattle.std.proofs.Common.{◌≡◌, ℕ, zero, suc, ◌+◌, ◌-◌, ◌≤◌, ◌<◌, ℤ, ◌≤ℤ◌, ◌<ℤ◌, Bool, true, false, true≢false, List, [], ◌∷◌, map, length, take, drop, get_or, refl, sym, ap, subst, ◌∙◌, arith, cond, Some}
+use Rattle.std.proofs.Common.{◌≡◌, ℕ, zero, suc, ◌+◌, ◌-◌, ◌≤◌, ◌<◌, ℤ, ◌≤ℤ◌, ◌<ℤ◌, Bool, true, false, true≢false, ◌⊎◌, inl, inr, List, [], ◌∷◌, map, length, take, drop, get_or, refl, sym, ap, subst, ◌∙◌, arith, cond, Some}
 use Rattle.std.specs.Prelude.{All, IsTrue, IsUtf8, ◌↔◌, ◌||◌, not}
 use Rattle.std.proofs.lemmas.List.{get_or-map, get_or-take, get_or-drop, get_or_default, length-take, length-drop, take_more, take_all}
 use Rattle.std.proofs.lemmas.List.Elements.{All-append}
+use Rattle.std.proofs.lemmas.Bool.{cases_lt}
 use Rattle.std.proofs.lemmas.Int.{by_lt_z, ints}
 use Rattle.shredding.specs.Shape.{LeafType, truths, text, binary, fixed_bytes}
 use Rattle.shredding.specs.Slot.{Value, truth, number, bytes}
@@ -13,6 +14,7 @@ use Rattle.columns_slots.specs.Types.{byte_width, is_binary, is_boolean, is_text
 use Rattle.pq_tree.specs.Physical.{Physical, boolean, byte_array, fixed}
 use Rattle.pq_files.specs.Statistics.{IsImplied, IsUpTo}
 use Rattle.pq_files.specs.Stored.{IsStored}
+use Rattle.page_statistics.specs.Between.{AreAllBetween}
 use Rattle.page_statistics.specs.Spelled.{IsSpelled, bound_text}
 use Rattle.write_values.specs.Fixed.{width_in}
 use Rattle.write_values.specs.Numbers.{at_place}
@@ -71,6 +73,17 @@ between_more {A} ordinal low high xs i x past below above l is h d f e =
 pub between_all : {A : Type 0} (P : A → Type 0) (xs : List A) (i : ℕ) (past : Bool) → length xs ≤ i → (past ≡ false → All P (take i xs)) → IsTrue (not past) → All P xs
 between_all {A} P xs i false l h t = subst (λ (ys : List A). All P ys) (take_all i xs l) (h refl)
 between_all P xs i true l h t = absurd (true≢false (sym t))
+
+pub up_by : (a b c d : Value) → a ≡ c → b ≡ d → IsUpTo a b → IsUpTo c d
+up_by a b c d e f h = subst (λ (x : Value). IsUpTo x d) e (subst (λ (y : Value). IsUpTo a y) f h)
+
+-- one value more that lies between two
+pub between_next : (value : ℕ → Value) (from at low high : ℕ) → AreAllBetween value from at low high → IsUpTo (value low) (value at) → IsUpTo (value at) (value high) → (i : ℕ) → from ≤ i → i < at + 1 → IsUpTo (value low) (value i) × IsUpTo (value i) (value high)
+between_next value from at low high h l g i a b = by_order (cases_lt i at)
+  where
+    by_order : (i < at) ⊎ (at ≤ i) → IsUpTo (value low) (value i) × IsUpTo (value i) (value high)
+    by_order (inl k) = h i a k
+    by_order (inr k) = let e : at ≡ i = omega (arith, k, b) in subst (λ (j : ℕ). IsUpTo (value low) (value j) × IsUpTo (value j) (value high)) e (l, g)
 
 -- the text of the number at a place
 pub number_spelled : {A : Type 0} (t : LeafType) (p : Physical) (g : A → Value) (xs : List A) (i : ℕ) (x : A) (z : ℤ) (s : List ℕ) → i < length xs → x ≡ get_or xs i x → IsStored t p (g x) (number z) → s ≡ bound_text p (number z) → IsSpelled t p s (at_place (map g xs) i)

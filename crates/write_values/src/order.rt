@@ -1,5 +1,9 @@
 //! The values of leaf arrays in order (Parquet format, `ColumnOrder`).
-ghost use Rattle.std.specs.Prelude.{◌≡◌, ◌≤ℤ◌, IsTrue, false, All};
+ghost use Rattle.std.specs.Prelude.{◌≡◌, ◌<◌, ◌≤◌, ◌+◌, ◌≤ℤ◌, length, IsTrue, false, All};
+ghost use Rattle.columns_slots.specs.Bytes.{pieces_values};
+ghost use Rattle.columns_slots.specs.Slots.{IsPlaces};
+ghost use Rattle.page_statistics.specs.Between.{AreAllBetween};
+ghost use Rattle.write_values.specs.Numbers.{at_place};
 ghost use Rattle.columns_core.specs.Natives.{within_signed};
 ghost use Rattle.shredding.specs.Slot.{bytes};
 ghost use Rattle.pq_files.specs.Statistics.{IsUpTo};
@@ -9,7 +13,7 @@ use crate::decimals::{DecimalForm, Decimals, push_decimal};
 use crate::fixed::FixedStrings;
 use crate::numbers::{AlwaysStored, Numbers, StoredNumber};
 use crate::strings::{Strings, Texts, string_at};
-use columns_core::{Offset, Result};
+use columns_core::{Offset, OffsetsBuffer, Result};
 use columns_leaf::BooleanArray;
 use columns_native::OrderedNative;
 use page_statistics::OrderedLeaf;
@@ -87,6 +91,34 @@ fn is_before(a: &[u8], b: &[u8]) -> bool
     }
 }
 
+// Whether no string from one place on to another goes before the one at `least` or behind the one at `greatest`.
+fn strings_between<O: Offset>(
+    offsets: &OffsetsBuffer<O>,
+    all: &[u8],
+    from: usize,
+    to: usize,
+    least: usize,
+    greatest: usize,
+) -> bool
+    requires places { IsPlaces offsets.now (length all.now) }
+    requires ordered { from ≤ to }
+    requires within { to < length offsets.now }
+    requires low { least + 1 < length offsets.now }
+    requires high { greatest + 1 < length offsets.now }
+    ensures { IsTrue result → AreAllBetween (at_place (pieces_values offsets.now all.now)) from to least greatest }
+{
+    let _strings = offsets.len_proxy();
+    let low = string_at(offsets, all, least);
+    let high = string_at(offsets, all, greatest);
+    for i in from..to {
+        let string = string_at(offsets, all, i);
+        if is_before(string, low) || is_before(high, string) {
+            return false;
+        }
+    }
+    true
+}
+
 impl<'a, O: Offset> OrderedLeaf for Texts<'a, O> {
     ghost use Rattle.columns_core.specs.Shapes.{base, leaf_type};
     ghost use Rattle.columns_slots.specs.Bytes.{pieces_values};
@@ -115,7 +147,9 @@ impl<'a, O: Offset> OrderedLeaf for Texts<'a, O> {
     }
 
     fn are_between(&self, from: usize, to: usize, least: usize, greatest: usize) -> bool {
-        false
+        self.array.know();
+        let (offsets, all) = (self.array.offsets(), self.array.values());
+        strings_between(offsets, all, from, to, least, greatest)
     }
 
     fn bound(&self, alloc: Global, i: usize) -> Result<Vec<u8>> {
@@ -156,7 +190,9 @@ impl<'a, O: Offset> OrderedLeaf for Strings<'a, O> {
     }
 
     fn are_between(&self, from: usize, to: usize, least: usize, greatest: usize) -> bool {
-        false
+        self.array.know();
+        let (offsets, all) = (self.array.offsets(), self.array.values());
+        strings_between(offsets, all, from, to, least, greatest)
     }
 
     fn bound(&self, alloc: Global, i: usize) -> Result<Vec<u8>> {
