@@ -45,7 +45,7 @@ pub fn part_word(part: &Nested, place: usize, count: usize) -> (bool, u64)
 }
 
 // What the parts down to the first optional one with nulls say of up to 64 slots.
-fn front_at<'a>(parts: &'a [Nested], def: u32, place: usize, count: usize) -> Front<'a>
+pub fn front_at<'a>(parts: &'a [Nested], def: u32, place: usize, count: usize) -> Front<'a>
     requires reaches { Reaches (place + count) (parts_of parts.now) }
     requires low { def + length parts.now ≤ 256 }
     requires some { 0 < count }
@@ -119,7 +119,7 @@ fn is_optional(part: &Nested) -> bool
 }
 
 // Whether parts add nothing to a level, since all of them are required.
-fn are_required(parts: &[Nested]) -> bool
+pub fn are_required(parts: &[Nested]) -> bool
     ensures { IsTrue result → (def i : ℕ) → flat_level (parts_of parts.now) def i ≡ def }
 {
     let mut rest = parts;
@@ -253,6 +253,7 @@ fn first_run(parts: &[Nested], def: u32, from: usize, to: usize) -> (u32, usize)
 }
 
 // The definition levels of the slots from one place to another.
+#[inline(always)]
 pub fn push_flat(
     out: &mut Vec<u8>,
     writer: &mut RunWriter,

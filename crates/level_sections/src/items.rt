@@ -8,10 +8,10 @@ ghost use Rattle.levels.specs.Nested.{parts_of};
 ghost use Rattle.pq_runs.specs.Writing.{Extends, Keeps};
 ghost use Rattle.level_sections.specs.Blocks.{flat_level, Reaches};
 ghost use Rattle.level_sections.specs.Definitions.{IsWindow, levels_or, list_definitions, listed_from, pending_levels};
-ghost use Rattle.level_sections.specs.Walk.{AreItems, Goes, IsLow, walked};
+ghost use Rattle.level_sections.specs.Walk.{AreItems, IsOfItems, Goes, IsLow, walked};
 ghost use Rattle.shredding.specs.Shred.{max_definition};
 
-use crate::block::{push_flat, step_of};
+use crate::block::{Front, front_at, push_flat, step_of};
 use crate::planes::{BitPlanes, Pending, item_planes, one_plane, push_planes, with_numbers};
 use crate::walk::Above;
 use columns_core::{Offset, OffsetsBuffer};
@@ -297,9 +297,27 @@ fn count_empty<O: Offset>(offsets: &OffsetsBuffer<O>, place: usize, end: usize) 
     empty
 }
 
+// Whether some of the next slots of a path are null.
+fn has_nulls(parts: &[Nested], from: usize, to: usize) -> bool
+    requires reaches { Reaches to (parts_of parts.now) }
+    requires parts { length parts.now ≤ 5 }
+    requires ordered { from ≤ to }
+{
+    let count = (to - from).min(64);
+    if count == 0 {
+        return false;
+    }
+    match front_at(parts, 0, from, count) {
+        Front::Even(_) => false,
+        Front::Mixed(..) => true,
+    }
+}
+
 // Where lists end that are best taken one by one, from a place on: of the next ones neither few nor nearly all have no items, and the others have
-// few. Else there are none.
-fn lists_end<O: Offset>(list: &ListNested<O>, place: usize, to: usize) -> usize
+// few, of which some are null. Else there are none.
+fn lists_end<O: Offset>(list: &ListNested<O>, rest: &[Nested], place: usize, to: usize) -> usize
+    requires reaches { Reaches (item_span list.now.offsets) (parts_of rest.now) }
+    requires parts { length rest.now ≤ 5 }
     requires some { place < to }
     requires within { to ≤ length list.now.offsets - 1 }
     ensures after { place ≤ result }
@@ -308,7 +326,7 @@ fn lists_end<O: Offset>(list: &ListNested<O>, place: usize, to: usize) -> usize
     let _lists = list.offsets.len_proxy();
     let count = (to - place).min(64);
     let empty = count_empty(&list.offsets, place, place + count);
-    if 8 * empty < count {
+    if 10 * empty < count {
         return place;
     }
     if 8 * empty > 7 * count {
@@ -316,7 +334,13 @@ fn lists_end<O: Offset>(list: &ListNested<O>, place: usize, to: usize) -> usize
     }
     let first = item_place(&list.offsets, place);
     let last = item_place(&list.offsets, place + count);
-    if last.saturating_sub(first) > 8 * count {
+    if first > last {
+        return place;
+    }
+    if last - first > 8 * count {
+        return place;
+    }
+    if !has_nulls(rest, first, last) {
         return place;
     }
     place + (to - place).min(1024)
@@ -325,17 +349,18 @@ fn lists_end<O: Offset>(list: &ListNested<O>, place: usize, to: usize) -> usize
 // Where lists above a path without lists end that are best taken one by one, from a place on.
 pub fn mixed_end(parts: &[Nested], place: usize, to: usize) -> usize
     requires well { IsPath (parts_of parts.now) }
+    requires items { IsOfItems (parts_of parts.now) }
     requires some { place < to }
     requires within { to ≤ slot_count (parts_of parts.now) }
     ensures after { place ≤ result }
     ensures before { result ≤ to }
 {
-    let Some((part, _)) = parts.split_first() else {
+    let Some((part, rest)) = parts.split_first() else {
         return place;
     };
     match part {
-        Nested::List(list) => lists_end(list, place, to),
-        Nested::LargeList(list) => lists_end(list, place, to),
+        Nested::List(list) => lists_end(list, rest, place, to),
+        Nested::LargeList(list) => lists_end(list, rest, place, to),
         Nested::Primitive(..) => place,
         Nested::Struct(..) => place,
     }

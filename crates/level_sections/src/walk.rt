@@ -9,7 +9,7 @@ ghost use Rattle.level_sections.specs.Walk.{walked, AreItems, IsLow, Holds, IsSh
 ghost use Rattle.levels.specs.declared.walk.Level.TheVariants.{Repetition, Definition};
 ghost use Rattle.levels.specs.declared.walk.Level.{Level};
 
-use crate::block::push_flat;
+use crate::block::{are_required, push_flat};
 use crate::items::{mixed_end, walk_items};
 use crate::lists::walk_lists;
 use levels::{Level, ListNested, Nested, Stretch, max_rep_level, stretch_at};
@@ -96,6 +96,9 @@ fn items_at<'a>(part: &Nested, rest: &[Nested]) -> Shape<'a>
     if rest.len() > 5 {
         return Shape::Stretches;
     }
+    if are_required(rest) {
+        return Shape::Stretches;
+    }
     match part {
         Nested::List(_) => Shape::Items,
         Nested::LargeList(_) => Shape::Items,
@@ -161,6 +164,7 @@ fn walk_flat(
 
 // The levels of the stretch at a place, and the place behind it.
 #[cycle(walk)]
+#[inline(always)]
 fn step(
     out: &mut Vec<u8>,
     writer: &mut RunWriter,
@@ -238,7 +242,7 @@ fn walk_stretches(
     Ok(())
 }
 
-// The definition levels of lists at a place, and the place behind them: some lists of few items at once, or a stretch of them.
+// The definition levels of lists at a place, and the place behind them: some lists of few items at once, or stretch by stretch.
 #[cycle(walk)]
 fn advance(
     out: &mut Vec<u8>,
@@ -262,7 +266,9 @@ fn advance(
 {
     let end = mixed_end(parts, place, to);
     if end == place {
-        return step(out, writer, level, parts, above, place, to);
+        let next = place + (to - place).min(8192);
+        walk_stretches(out, writer, level, parts, above, place, next)?;
+        return Ok(next);
     }
     walk_items(out, writer, level, parts, above, place, end)?;
     Ok(end)

@@ -6,19 +6,19 @@ use Rattle.level_sections.specs.Walk.{walked, Goes}
 use Rattle.level_sections.proofs.walk.+walk.Given as goal
 
 abbrev pub decreases-step : goal.decreases-step
-decreases-step l = 4 * length l.parts.now
+decreases-step l = 5 * length l.parts.now
 
 abbrev pub decreases-walk_stretches : goal.decreases-walk_stretches
-decreases-walk_stretches l = 4 * length l.parts.now + 2
+decreases-walk_stretches l = 5 * length l.parts.now + 1
 
 abbrev pub decreases-advance : goal.decreases-advance
-decreases-advance l = 4 * length l.parts.now + 1
+decreases-advance l = 5 * length l.parts.now + 2
 
 abbrev pub decreases-walk_lists_of_items : goal.decreases-walk_lists_of_items
-decreases-walk_lists_of_items l = 4 * length l.parts.now + 2
+decreases-walk_lists_of_items l = 5 * length l.parts.now + 3
 
 abbrev pub decreases-walk : goal.decreases-walk
-decreases-walk l = 4 * length l.parts.now + 3
+decreases-walk l = 5 * length l.parts.now + 4
 
 abbrev pub invariant-walk_stretches-loop-place : goal.invariant-walk_stretches-loop-place
 invariant-walk_stretches-loop-place l = record {
