@@ -150,8 +150,8 @@ pub fn with_stretch<L: OrderedLeaf>(
     now
 }
 
-// Whether there are extremes, and no value at so many places from one on is past them. It may answer no, and does so where the first value that is not
-// picked is past them.
+// Whether there are extremes, and no value at so many places from one on is past them, be they picked or not. It may answer no, and does so at once
+// where the first value that is not picked is past them.
 fn are_calm<L: OrderedLeaf>(
     leaf: &L,
     extremes: Option<Extremes>,
