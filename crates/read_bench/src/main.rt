@@ -1,11 +1,14 @@
 //! Measures how fast the level pairs of a list of optional numbers are walked: levels are decoded from their sections, and values from theirs. The first word
 //! is the number of pages (one without it), the second the shape (all without it): `nulls`, `ones`, `fours`, `twos` or `random`. A page has about 65,536
-//! pairs, and each has a fresh state.
+//! pairs, and each has a fresh state. With `packed` or `copies` as the second word a million numbers in such runs are decoded alone, as often as the first says.
 //! Counts go to standard output, and times, which differ from run to run, to standard error.
 #![tactic(auto)]
 
 ghost use Rattle.std.specs.Prelude.{◌≡◌, ◌<◌};
 
+mod runs;
+
+use crate::runs::Runs;
 use anyhow::Result;
 use columns_core::{MutableBitmap, Offsets};
 use level_sections::write_rep_and_def;
@@ -201,6 +204,15 @@ fn measure(rt: &HostRuntime, shape: Shape, pages: usize) -> Result<()> {
     Ok(())
 }
 
+// The runs that a word names.
+fn runs_of(word: &str) -> Option<Runs> {
+    match word {
+        "packed" => Some(Runs::Packed),
+        "copies" => Some(Runs::Copies),
+        _ => None,
+    }
+}
+
 // The shape that a word names.
 fn shape_of(word: &str) -> Option<Shape> {
     match word {
@@ -222,6 +234,9 @@ fn main(rt: HostRuntime) -> Result<()> {
     };
     let asked = args.next();
     if let Some(word) = asked {
+        if let Some(runs) = runs_of(word.as_str()) {
+            runs::measure(&rt, runs, pages)?;
+        }
         if let Some(shape) = shape_of(word.as_str()) {
             measure(&rt, shape, pages)?;
         }
