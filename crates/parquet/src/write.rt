@@ -15,7 +15,7 @@ pub use levels::{
 pub use nested_paths::{to_leaves, to_nested, to_parquet_leaves};
 pub use nested_slice::slice_parquet_array;
 pub use page_parts::{ExactSizedIter, build_plain_page};
-pub use pq_io::{MemorySink, PlainSink, Sink, SinkFault, StdSink, push_all};
+pub use pq_io::{MemorySink, PieceSink, PlainSink, Sink, SinkFault, StdSink, push_all, push_owned};
 pub use pq_pages::write_page_header;
 pub use pq_tree::{CompressionOptions, Encoding, ParquetStatistics, Statistics, Version};
 pub use row_groups::RowGroupIterator;

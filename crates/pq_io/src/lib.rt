@@ -3,6 +3,7 @@
 
 mod memory_sink;
 mod memory_source;
+mod piece_sink;
 mod plain_sink;
 mod plain_source;
 mod push;
@@ -14,9 +15,10 @@ mod std_source;
 
 pub use memory_sink::MemorySink;
 pub use memory_source::MemorySource;
+pub use piece_sink::PieceSink;
 pub use plain_sink::PlainSink;
 pub use plain_source::PlainSource;
-pub use push::push_all;
+pub use push::{push_all, push_owned};
 pub use read::read_all;
 pub use sink::{Sink, SinkFault};
 pub use source::{Failed, Source};

@@ -1,4 +1,4 @@
-//! Hands a whole text to a sink.
+//! Hands whole texts to a sink.
 ghost use Rattle.std.specs.Prelude.{◌≡◌, ◌≤◌, ◌⊎◌, OnOk, IfErr, IsErrOf};
 ghost use Rattle.std.specs.Io.KnownBytes.{Appends};
 ghost use Rattle.columns_base.specs.declared.error.Error.{Error};
@@ -30,4 +30,21 @@ pub fn push_all<K: Sink>(sink: &mut K, bytes: &[u8]) -> Result<()>
         }
     }
     Ok(())
+}
+
+/// Hands all the bytes over, as `push_all` does. A sink in memory may keep the vector as it is.
+pub fn push_owned<K: Sink>(sink: &mut K, bytes: Vec<u8>) -> Result<()>
+    ensures ok { OnOk result (Appends (K.taken sink.old) (K.taken sink.new) bytes.items) }
+    ensures front { AppendsFront (K.taken sink.old) (K.taken sink.new) bytes.items }
+    ensures later { K.faults sink.old ≤ K.faults sink.new }
+    ensures fault { IsErrOf result Error.WriteFault → Rose (K.faults sink.old) (K.faults sink.new) }
+    ensures wants_later { K.wants sink.old ≤ K.wants sink.new }
+    ensures memory { IsErrOf result Error.Memory → Rose (K.wants sink.old) (K.wants sink.new) }
+    ensures only { IfErr result (λ e. (e ≡ Error.WriteFault) ⊎ (e ≡ Error.Memory)) }
+{
+    match sink.push_owned(bytes) {
+        Ok(()) => Ok(()),
+        Err(SinkFault::Failed) => Err(Error::WriteFault),
+        Err(SinkFault::Memory) => Err(Error::Memory),
+    }
 }

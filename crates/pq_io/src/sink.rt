@@ -1,9 +1,9 @@
 //! A sink of bytes.
-ghost use Rattle.std.specs.Prelude.{◌≤◌, List, ℕ, IsErrOf};
+ghost use Rattle.std.specs.Prelude.{◌≤◌, List, ℕ, OnOk, IsErrOf};
 ghost use Rattle.std.specs.declared.option.Option.{Option};
-ghost use Rattle.std.specs.Io.KnownBytes.{WriteAppends};
+ghost use Rattle.std.specs.Io.KnownBytes.{Appends, WriteAppends};
 ghost use Rattle.pq_io.specs.Causes.{Rose};
-ghost use Rattle.pq_io.specs.Ends.{TakesSome};
+ghost use Rattle.pq_io.specs.Ends.{AppendsFront, TakesSome};
 
 use thiserror::Error;
 
@@ -38,4 +38,21 @@ pub trait Sink {
         ensures cause { IsErrOf result SinkFault.Failed → Rose (faults self.old) (faults self.new) }
         ensures wants_later { wants self.old ≤ wants self.new }
         ensures wants_cause { IsErrOf result SinkFault.Memory → Rose (wants self.old) (wants self.new) };
+
+    /// Takes all the bytes; a sink in memory may keep the vector as it is. After a fault it has taken a front part of them.
+    /// Each fault comes only where its count rose in the call.
+    fn push_owned(&mut self, bytes: Vec<u8>) -> Result<(), SinkFault>
+        ensures all { OnOk result (Appends (taken self.old) (taken self.new) bytes.items) }
+        ensures front { AppendsFront (taken self.old) (taken self.new) bytes.items }
+        ensures later { faults self.old ≤ faults self.new }
+        ensures cause { IsErrOf result SinkFault.Failed → Rose (faults self.old) (faults self.new) }
+        ensures wants_later { wants self.old ≤ wants self.new }
+        ensures wants_cause { IsErrOf result SinkFault.Memory → Rose (wants self.old) (wants self.new) }
+    {
+        let mut pushed = 0;
+        'pushing: while pushed < bytes.len() {
+            pushed += self.push(&bytes[pushed..])?;
+        }
+        Ok(())
+    }
 }

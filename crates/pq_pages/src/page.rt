@@ -81,6 +81,13 @@ impl DataPage {
         &self.buffer
     }
 
+    /// The bytes of its body, taken out of the page.
+    pub fn into_buffer(self) -> Vec<u8>
+        ensures { result.items ≡ self.buffer }
+    {
+        self.buffer
+    }
+
     /// Its column, with the greatest levels.
     pub fn descriptor(&self) -> &Descriptor
         ensures is { result.now ≡ self.now.descriptor }

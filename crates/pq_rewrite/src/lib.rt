@@ -6,8 +6,8 @@ mod sampling;
 
 pub use call::run;
 pub use pq_io::{
-    Failed, MemorySink, MemorySource, PlainSink, PlainSource, Sink, SinkFault, Source, StdSink,
-    StdSource, push_all, read_all,
+    Failed, MemorySink, MemorySource, PieceSink, PlainSink, PlainSource, Sink, SinkFault, Source,
+    StdSink, StdSource, push_all, push_owned, read_all,
 };
 pub use rewrite_notes::Report;
 pub use rewrite_whole::{NoView, RowsView, View, rewrite};

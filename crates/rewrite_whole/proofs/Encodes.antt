@@ -16,7 +16,7 @@ use Rattle.pq_tree.specs.declared.types.Encoding.{Encoding as RustEncoding}
 use Rattle.pq_tree.specs.declared.types.ParquetType.{ParquetType}
 use Rattle.pq_files.specs.Layout.{OutGroup}
 use Rattle.pq_io.specs.Causes.{Rose}
-use Rattle.pq_io.specs.declared.plain_sink.PlainSink.{PlainSink}
+use Rattle.pq_io.specs.declared.piece_sink.PieceSink.{PieceSink}
 use Rattle.schema_to_tree.specs.Table.{schema_of}
 use Rattle.pq_headline.specs.Arrays.{rows_of, all_entries}
 use Rattle.pq_headline.specs.Columns.{schema_columns}
@@ -103,14 +103,14 @@ made_of job piece encodings trees o g r p s ee et eo is k =
 -- ---- what a writer of the job's schema makes of it
 
 -- the writer is of the schema of a job, and writes pages as the job does
-pub record IsWriterOf (job : Job) (w : FileWriter PlainSink) : Type 0 where
+pub record IsWriterOf (job : Job) (w : FileWriter PieceSink) : Type 0 where
   pub schema : schema_view w.file.schema ≡ schema_view job.plan.now.schema
   pub options : w.options ≡ write_options (asked_of job)
 
-same_fields : (job : Job) (w : FileWriter PlainSink) → IsWriterOf job w → writer_fields w ≡ fields_in job
+same_fields : (job : Job) (w : FileWriter PieceSink) → IsWriterOf job w → writer_fields w ≡ fields_in job
 same_fields job w h = ap (λ (t : SchemaTree). t.fields) h.schema
 
-takes : (job : Job) (piece : ArrayTrees) (groups : List OutGroup) (g : RowGroupIter) (old : FileWriter PlainSink) → IsMadeOf job piece g → IsWriterOf job old → IsWriting taken_by (Some []) old groups → Takes old g
+takes : (job : Job) (piece : ArrayTrees) (groups : List OutGroup) (g : RowGroupIter) (old : FileWriter PieceSink) → IsMadeOf job piece g → IsWriterOf job old → IsWriting taken_by (Some []) old groups → Takes old g
 takes job piece groups g old m w h = record {
   trees = m.suiting.trees_are ∙ ap (λ fs. (schema_of fs).fields) (sym (same_fields job old w)) ∙ sym (ap (λ (s : Schema). s.fields) h.has.schema);
   typed = subst (λ fs. AreTyped fs g.chunk) (sym (same_fields job old w)) m.suiting.typed;
@@ -126,11 +126,11 @@ at_style job g cs out r o e h =
     subst (λ (k : ArrayTrees). IsWrittenAs (asked_of job) (fields_in job) k out) e styled
 
 -- the group that its columns give is one that the piece is written as
-written_as : (job : Job) (piece : ArrayTrees) (g : RowGroupIter) (old : FileWriter PlainSink) (out : OutGroup) → GroupsAreWritten → IsReady job → IsMadeOf job piece g → IsWriterOf job old → IsGroupOf (writer_fields old) g out → IsWrittenAs (asked_of job) (fields_in job) piece out
+written_as : (job : Job) (piece : ArrayTrees) (g : RowGroupIter) (old : FileWriter PieceSink) (out : OutGroup) → GroupsAreWritten → IsReady job → IsMadeOf job piece g → IsWriterOf job old → IsGroupOf (writer_fields old) g out → IsWrittenAs (asked_of job) (fields_in job) piece out
 written_as job piece g old out law r m w h = at_style job g piece out r m.options m.chunk (law job.options.now.delta (fields_in job) g out m.suiting m.columns (subst (λ fs. IsGroupOf fs g out) (same_fields job old w) h))
 
 pub put_ok :
-    (job : Job) (piece : ArrayTrees) (groups : List OutGroup) (g : RowGroupIter) (old now : FileWriter PlainSink) (r : Result (Unit {0}) Error)
+    (job : Job) (piece : ArrayTrees) (groups : List OutGroup) (g : RowGroupIter) (old now : FileWriter PieceSink) (r : Result (Unit {0}) Error)
     → GroupsAreWritten → IsReady job → IsPieceOf job piece → IsMadeOf job piece g → IsWriterOf job old → OnOk r (Adds taken_by (Some []) groups g old now) → OnOk r (PutsGroup job piece groups now)
 put_ok job piece groups g old now (Err e) law ready p m w h = tt
 put_ok job piece groups g old now (Ok u) law ready p m w (inl h) = absurd (omega (arith, p.some, h.0, ap first_len m.chunk))
@@ -140,7 +140,7 @@ never_rose : Rose 0 0 → ⊥
 never_rose h = absurd (omega (arith, h))
 
 -- the counts of a writer are those of the chunk
-counts_are : (job : Job) (piece : ArrayTrees) (groups : List OutGroup) (g : RowGroupIter) (old : FileWriter PlainSink) → GroupsAreWritten → IsReady job → IsMadeOf job piece g → IsWriterOf job old
+counts_are : (job : Job) (piece : ArrayTrees) (groups : List OutGroup) (g : RowGroupIter) (old : FileWriter PieceSink) → GroupsAreWritten → IsReady job → IsMadeOf job piece g → IsWriterOf job old
     → (out : OutGroup) × IsGroupOf (writer_fields old) g out × GroupPasses old.options.version (columns_of (schema_of (writer_fields old))) groups out → PassesCounts (asked_of job) (fields_in job) groups piece
 counts_are job piece groups g old law r m w h = (
   h.0,
@@ -156,7 +156,7 @@ too_large job piece groups g e m (inr h) =
     inr (inr (h.0, inl (subst (λ cs. PieceIsTooLarge (asked_of job).style (fields_in job) (rows_of cs) (all_entries cs)) m.chunk (subst (λ (o : WriteOptions). PieceIsTooLarge (style_of o) (fields_in job) (rows_of g.chunk) (all_entries g.chunk)) m.options h.1))))
 
 pub put_err :
-    (job : Job) (piece : ArrayTrees) (groups : List OutGroup) (g : RowGroupIter) (old now : FileWriter PlainSink) (r : Result (Unit {0}) Error)
+    (job : Job) (piece : ArrayTrees) (groups : List OutGroup) (g : RowGroupIter) (old now : FileWriter PieceSink) (r : Result (Unit {0}) Error)
     → GroupsAreWritten → LargePagesAreLarge → IsReady job → IsMadeOf job piece g → IsWriterOf job old → IsWriting taken_by (Some []) old groups
     → IfErr r (λ e. ((e ≡ InvalidArgumentError A8) × (¬ Takes old g)) ⊎ Refuses (λ _. 0) groups g old now e)
     → IfErr r (λ e. (e ≡ Memory) ⊎ RefusesChunk (asked_of job) (fields_in job) groups piece e)
@@ -197,7 +197,7 @@ went_by job piece chunks output e some h = record {
 }
 
 -- a piece more is written
-pub kept : (job : Job) (piece : ArrayTrees) (chunks : List ArrayTrees) (output : Output) (now : FileWriter PlainSink) → IsOutput (schema_view job.plan.now.schema) (asked_of job) output chunks → output.refusal ≡ None → now.file.schema ≡ output.writer.file.schema → now.options ≡ output.writer.options
+pub kept : (job : Job) (piece : ArrayTrees) (chunks : List ArrayTrees) (output : Output) (now : FileWriter PieceSink) → IsOutput (schema_view job.plan.now.schema) (asked_of job) output chunks → output.refusal ≡ None → now.file.schema ≡ output.writer.file.schema → now.options ≡ output.writer.options
     → ((gs : List OutGroup) → IsWriting taken_by (Some []) output.writer gs → PutsGroup job piece gs now)
     → IsOutput (schema_view job.plan.now.schema) (asked_of job) (record { writer = now; refusal = output.refusal }) (chunks ++ piece ∷ [])
 kept job piece chunks output now h none es eo f =
@@ -211,7 +211,7 @@ kept job piece chunks output now h none es eo f =
     }
 
 -- the piece is refused, and its refusal is kept
-pub refused_now : (job : Job) (piece : ArrayTrees) (chunks : List ArrayTrees) (output : Output) (now : FileWriter PlainSink) (later : Option Error) (e : Error) → IsOutput (schema_view job.plan.now.schema) (asked_of job) output chunks → output.refusal ≡ None → now.file.schema ≡ output.writer.file.schema → now.options ≡ output.writer.options
+pub refused_now : (job : Job) (piece : ArrayTrees) (chunks : List ArrayTrees) (output : Output) (now : FileWriter PieceSink) (later : Option Error) (e : Error) → IsOutput (schema_view job.plan.now.schema) (asked_of job) output chunks → output.refusal ≡ None → now.file.schema ≡ output.writer.file.schema → now.options ≡ output.writer.options
     → ((gs : List OutGroup) → IsWriting taken_by (Some []) output.writer gs → (e ≡ Memory) ⊎ RefusesChunk (asked_of job) (fields_in job) gs piece e) → (later ≡ Some e) × (e ≢ Memory)
     → IsOutput (schema_view job.plan.now.schema) (asked_of job) (record { writer = now; refusal = later }) (chunks ++ piece ∷ [])
 refused_now job piece chunks output now later e h none es eo f k =

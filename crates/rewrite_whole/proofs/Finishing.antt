@@ -14,7 +14,8 @@ use Rattle.pq_files.specs.Layout.{OutGroup}
 use Rattle.pq_files.specs.Packed.{Packed}
 use Rattle.pq_files.specs.Room.{are_same, max_size, footer_room, planned_footer}
 use Rattle.pq_io.specs.Causes.{Rose}
-use Rattle.pq_io.specs.declared.plain_sink.PlainSink.{PlainSink}
+use Rattle.pq_io.specs.PieceSinks.{pieces_taken}
+use Rattle.pq_io.specs.declared.piece_sink.PieceSink.{PieceSink}
 use Rattle.schema_key.specs.Key.{keys_in, schema_entry, schema_key}
 use Rattle.schema_to_tree.specs.Table.{schema_of}
 use Rattle.pq_headline.specs.Rewrites.{Codec, keys_out}
@@ -36,12 +37,12 @@ same_keys : (codec : Codec) (job : Job) (s : SchemaTree) (keys : List Key) → s
 same_keys codec job s keys es ek = ap (λ ks. ks ++ schema_entry (codec.bytes_of s) ∷ []) ek ∙ ap (λ (t : SchemaTree). Others job ++ schema_entry (codec.bytes_of t) ∷ []) es
 
 pub ended :
-    (codec : Codec) (job : Job) (outs : List OutGroup) (old : FileWriter PlainSink) (now sink : PlainSink) (size : ℕ) (keys : Option (Vec KeyValue Global)) (report : Report) → schema_view old.file.schema ≡ schema_view job.plan.now.schema → old.options ≡ write_options (asked_of job) → keys_in keys ≡ Others job
+    (codec : Codec) (job : Job) (outs : List OutGroup) (old : FileWriter PieceSink) (now sink : PieceSink) (size : ℕ) (keys : Option (Vec KeyValue Global)) (report : Report) → schema_view old.file.schema ≡ schema_view job.plan.now.schema → old.options ≡ write_options (asked_of job) → keys_in keys ≡ Others job
     → IsWriting taken_by (Some []) old outs → sink ≡ now → (report.groups ≡ length old.file.body.metadata.row_groups.items) × (report.rows ≡ old.file.body.rows) × (report.data_pages ≡ old.file.body.data_pages)
     → HasFile (Some []) (taken_by now) (schema_of (writer_fields old)) (keys_in keys ++ schema_entry (codec.bytes_of (schema_view old.file.schema)) ∷ []) old.options.version outs size
-    → IsEnded codec job outs sink.bytes.items report
+    → IsEnded codec job outs (pieces_taken sink) report
 ended codec job outs old now sink size keys report es eo ek w is counts f =
-    let bytes : sink.bytes.items ≡ f.file = ap (λ (s : PlainSink). s.bytes.items) is ∙ f.gained in
+    let bytes : pieces_taken sink ≡ f.file = ap pieces_taken is ∙ f.gained in
     let at_schema : Packed f.file (schema_of (fields_in job)) (keys_out codec (schema_view job.plan.now.schema) (metadata_view job.metadata.now).keys) old.options.version outs =
     subst (λ (t : SchemaTree). Packed f.file (schema_of t.fields) (keys_out codec (schema_view job.plan.now.schema) (metadata_view job.metadata.now).keys) old.options.version outs) es
     (subst (λ ks. Packed f.file (schema_of (writer_fields old)) ks old.options.version outs) (same_keys codec job (schema_view old.file.schema) (keys_in keys) es ek) f.packed) in
@@ -55,7 +56,7 @@ never_rose : Rose 0 0 → ⊥
 never_rose h = absurd (omega (arith, h))
 
 pub end_refused :
-    (codec : Codec) (job : Job) (outs : List OutGroup) (old : FileWriter PlainSink) (keys : Option (Vec KeyValue Global)) (e : Error) → schema_view old.file.schema ≡ schema_view job.plan.now.schema → keys_in keys ≡ Others job
+    (codec : Codec) (job : Job) (outs : List OutGroup) (old : FileWriter PieceSink) (keys : Option (Vec KeyValue Global)) (e : Error) → schema_view old.file.schema ≡ schema_view job.plan.now.schema → keys_in keys ≡ Others job
     → (e ≡ Memory) ⊎ ((e ≡ WriteFault) × Rose 0 0) ⊎ ((e ≡ Overflow V3) × ((max_size < length (codec.bytes_of (schema_view old.file.schema))) ⊎ (max_size < footer_room (planned_footer (schema_of (schema_view old.file.schema).fields) (keys_in keys ++ schema_entry (codec.bytes_of (schema_view old.file.schema)) ∷ []) outs))))
     → EndRefuses codec job outs e
 end_refused codec job outs old keys e es ek (inl m) = inl m
@@ -73,12 +74,12 @@ end_refused codec job outs old keys e es ek (inr (inr (v, inr n))) =
 pub still_open : (job : Job) (output : Output) (chunks : List ArrayTrees) → output.refusal ≡ None → IsOutput (schema_view job.plan.now.schema) (asked_of job) output chunks → HoldsChunks (asked_of job) (fields_in job) output.writer None chunks
 still_open job output chunks none h = subst (λ (o : Option Error). HoldsChunks (asked_of job) (fields_in job) output.writer o chunks) none h.holds
 
-pub finishes : {A : Type 0} (r : Result A Error) (codec : Codec) (job : Job) (chunks : List ArrayTrees) (file : A → List ℕ) (report : A → Report) (writer : FileWriter PlainSink) → HoldsChunks (asked_of job) (fields_in job) writer None chunks
+pub finishes : {A : Type 0} (r : Result A Error) (codec : Codec) (job : Job) (chunks : List ArrayTrees) (file : A → List ℕ) (report : A → Report) (writer : FileWriter PieceSink) → HoldsChunks (asked_of job) (fields_in job) writer None chunks
     → ((outs : List OutGroup) → IsWriting taken_by (Some []) writer outs → IfOk r (λ x. IsEnded codec job outs (file x) (report x))) → IfOk r (λ x. Finishes codec job chunks (file x) (report x))
 finishes (Ok x) codec job chunks file report writer h f = (h.0, h.1, f h.0 h.2)
 finishes (Err e) codec job chunks file report writer h f = tt
 
-pub finish_refuses : {A : Type 0} (r : Result A Error) (codec : Codec) (job : Job) (chunks : List ArrayTrees) (writer : FileWriter PlainSink) → HoldsChunks (asked_of job) (fields_in job) writer None chunks
+pub finish_refuses : {A : Type 0} (r : Result A Error) (codec : Codec) (job : Job) (chunks : List ArrayTrees) (writer : FileWriter PieceSink) → HoldsChunks (asked_of job) (fields_in job) writer None chunks
     → ((outs : List OutGroup) → IsWriting taken_by (Some []) writer outs → IfErr r (EndRefuses codec job outs)) → IfErr r (FinishRefuses codec job chunks)
 finish_refuses (Ok x) codec job chunks writer h f = tt
 finish_refuses (Err e) codec job chunks writer h f = inr (h.0, h.1, f h.0 h.2)

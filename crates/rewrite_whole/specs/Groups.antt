@@ -8,7 +8,8 @@ use Rattle.columns_core.specs.View.{SchemaTree, schema_view}
 use Rattle.columns_slots.specs.Tree.{ArrayTree, ArrayTrees}
 use Rattle.pq_files.specs.Layout.{OutGroup}
 use Rattle.pq_files.specs.Reasons.{AnyOf}
-use Rattle.pq_io.specs.declared.plain_sink.PlainSink.{PlainSink}
+use Rattle.pq_io.specs.PieceSinks.{pieces_taken}
+use Rattle.pq_io.specs.declared.piece_sink.PieceSink.{PieceSink}
 use Rattle.assembly.specs.Giving.{FieldReading, IsGiving}
 use Rattle.write_groups.specs.Writing.{IsWriting}
 use Rattle.write_groups.specs.declared.writer.FileWriter.{FileWriter}
@@ -61,15 +62,15 @@ TakesPiece rows n os iters chunks piece = AreItems (rows_in_chunks chunks) os pi
 
 -- ---- the output
 
-abbrev pub taken_by : PlainSink → Option (List ℕ)
-taken_by s = Some s.bytes.items
+abbrev pub taken_by : PieceSink → Option (List ℕ)
+taken_by s = Some (pieces_taken s)
 
 -- how pages are written
 abbrev pub write_options : Asked → WriteOptions
 write_options asked = record { write_statistics = asked.style.statistics; version = asked.version; compression = Uncompressed; data_pagesize_limit = Some asked.style.page_limit }
 
 -- The chunks are written as groups; or one of them is refused, and nothing is written since.
-abbrev pub HoldsChunks : Asked → FieldTrees → FileWriter PlainSink → Option Error → List ArrayTrees → Type 0
+abbrev pub HoldsChunks : Asked → FieldTrees → FileWriter PieceSink → Option Error → List ArrayTrees → Type 0
 HoldsChunks asked fs writer None chunks = (outs : List OutGroup) × AllZip (IsWrittenAs asked fs) chunks outs × IsWriting taken_by (Some []) writer outs
 HoldsChunks asked fs writer (Some e) chunks = IsRefusedAt asked fs chunks e
 

@@ -23,7 +23,7 @@ use Rattle.pq_files.specs.Layout.{OutGroup}
 use Rattle.pq_files.specs.Packed.{Packed}
 use Rattle.pq_files.specs.Reasons.{AnyOf}
 use Rattle.pq_files.specs.Room.{max_size, footer_room, planned_footer}
-use Rattle.pq_io.specs.declared.plain_sink.PlainSink.{PlainSink}
+use Rattle.pq_io.specs.declared.piece_sink.PieceSink.{PieceSink}
 use Rattle.schema_to_tree.specs.Table.{schema_of}
 use Rattle.pq_headline.specs.Arrays.{rows_of, seen_in}
 use Rattle.pq_headline.specs.Opened.{AreOpened, GroupIsPlaced, rows_in_chunks}
@@ -108,7 +108,7 @@ pub record IsPieceOf (job : Job) (piece : ArrayTrees) : Type 0 where
   pub some : 0 < first_len piece
 
 -- a group of the piece behind those before
-pub record PutsGroup (job : Job) (piece : ArrayTrees) (groups : List OutGroup) (writer : FileWriter PlainSink) : Type 0 where
+pub record PutsGroup (job : Job) (piece : ArrayTrees) (groups : List OutGroup) (writer : FileWriter PieceSink) : Type 0 where
   pub out : OutGroup
   pub written : IsWrittenAs (asked_of job) (fields_in job) piece out
   pub writes : IsWriting taken_by (Some []) writer (groups ++ out ∷ [])

@@ -16,7 +16,7 @@ use crate::job::Job;
 use crate::{Output, RewriteOptions};
 use columns_array::Chunk;
 use columns_base::{Error, Result};
-use pq_io::PlainSink;
+use pq_io::PieceSink;
 use pq_tree::{CompressionOptions, Encoding, ParquetType};
 use std::alloc::Global;
 use typed_groups::{
@@ -60,7 +60,7 @@ fn copy_encodings(alloc: Global, encodings: &Vec<Vec<Encoding>>) -> Result<Vec<V
 }
 
 /// Writes a piece.
-fn put(alloc: Global, job: &Job, chunk: Chunk, writer: &mut FileWriter<PlainSink>) -> Result<()>
+fn put(alloc: Global, job: &Job, chunk: Chunk, writer: &mut FileWriter<PieceSink>) -> Result<()>
     requires ready { IsReady job.now }
     requires piece { IsPieceOf job.now chunk }
     requires schema { schema_view writer.old.file.schema ≡ schema_view job.now.plan.now.schema }

@@ -10,7 +10,7 @@ ghost use Rattle.rewrite_whole.specs.Views.{Grows};
 use crate::whole::convert;
 use crate::{Report, RewriteOptions, View};
 use columns_base::{A, Error, Result};
-use pq_io::{Sink, Source, push_all, read_all};
+use pq_io::{Sink, Source, read_all};
 use schema_codec::SchemaCodec;
 use std::alloc::Global;
 
@@ -48,6 +48,6 @@ pub fn rewrite<S: Source, K: Sink, C: SchemaCodec, V: View>(
         Ok(made) => made,
         Err(error) => return Err(error),
     };
-    push_all(sink, made.bytes())?;
+    made.push_to(sink)?;
     Ok(report)
 }

@@ -1,5 +1,6 @@
 //! A whole input to a whole output.
 ghost use Rattle.std.specs.Prelude.{◌≡◌, ◌≢◌, Some, IfOk, IfErr};
+ghost use Rattle.pq_io.specs.PieceSinks.{pieces_taken};
 ghost use Rattle.rewrite_whole.specs.Asks.{Gives, Says, asked_by, codec_of};
 ghost use Rattle.rewrite_whole.specs.Views.{Grows};
 
@@ -13,7 +14,7 @@ use crate::{Report, RewriteOptions, View};
 use columns_base::Result;
 use pq_container::{frames_are_told, read_metadata};
 use pq_headline::{outputs_are_refused, written_is_converted};
-use pq_io::PlainSink;
+use pq_io::PieceSink;
 use schema_codec::SchemaCodec;
 use std::alloc::Global;
 
@@ -24,9 +25,9 @@ pub fn convert<C: SchemaCodec, V: View>(
     options: &RewriteOptions,
     codec: &C,
     view: &mut V,
-) -> Result<(PlainSink, Report)>
+) -> Result<(PieceSink, Report)>
     requires rows { options.now.chunk_size ≢ Some 0 }
-    ensures ok { IfOk result (λ made. Gives (codec_of (C.bytes_of codec.now) (C.reads codec.now)) (asked_by options.now) (V.seen view.old) (V.seen view.new) input.now made.0.bytes.items made.1) }
+    ensures ok { IfOk result (λ made. Gives (codec_of (C.bytes_of codec.now) (C.reads codec.now)) (asked_by options.now) (V.seen view.old) (V.seen view.new) input.now (pieces_taken made.0) made.1) }
     ensures err { IfErr result (Says (codec_of (C.bytes_of codec.now) (C.reads codec.now)) (asked_by options.now) input.now) }
     ensures grows { Grows (V.seen view.old) (V.seen view.new) }
 {

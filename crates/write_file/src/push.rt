@@ -17,7 +17,7 @@ ghost use Rattle.write_counts.specs.Passing.{ColumnPasses};
 
 use crate::{ChunkPages, Count};
 use columns_base::Result;
-use pq_io::{Sink, push_all};
+use pq_io::{Sink, push_all, push_owned};
 use pq_pages::{DataPage, DictPage, Page, pages_are_written, write_page_header};
 use std::alloc::Global;
 
@@ -29,13 +29,13 @@ pub(crate) struct Pushed {
     pub pages: Count,
 }
 
-// The body of a page.
-fn body_of(page: &Page) -> &[u8]
-    ensures { result.now ≡ body_bytes page.now }
+// The body of a page, taken out of it.
+fn into_body(page: Page) -> Vec<u8>
+    ensures { result.items ≡ body_bytes page }
 {
     match page {
-        Page::Data(page) => page.buffer(),
-        Page::Dict(page) => &page.buffer,
+        Page::Data(page) => page.into_buffer(),
+        Page::Dict(page) => page.buffer,
     }
 }
 
@@ -49,22 +49,22 @@ fn bytes_of(head: &[u8], body: &[u8]) -> Result<Count>
 }
 
 // Pushes a page behind its header, and gives the number of their bytes.
-fn push_headed<W: Sink>(alloc: Global, sink: &mut W, page: &Page) -> Result<Count>
-    ensures ok { IfOk result (λ n. (text : List ℕ) × Appends (W.taken sink.old) (W.taken sink.new) text × (n ≡ length text) × IsHeaded page.now text) }
+fn push_headed<W: Sink>(alloc: Global, sink: &mut W, page: Page) -> Result<Count>
+    ensures ok { IfOk result (λ n. (text : List ℕ) × Appends (W.taken sink.old) (W.taken sink.new) text × (n ≡ length text) × IsHeaded page text) }
     ensures some { IfOk result (λ n. 1 ≤ n) }
     ensures later { W.faults sink.old ≤ W.faults sink.new }
     ensures fault { IsErrOf result WriteFault → Rose (W.faults sink.old) (W.faults sink.new) }
-    ensures refused { IfErr result (λ e. (e ≡ Memory) ⊎ (e ≡ WriteFault) ⊎ ((e ≡ Overflow V3) × (IsTooLong page.now ⊎ ((text : List ℕ) × IsHeaded page.now text × (max_count < length text))))) }
+    ensures refused { IfErr result (λ e. (e ≡ Memory) ⊎ (e ≡ WriteFault) ⊎ ((e ≡ Overflow V3) × (IsTooLong page ⊎ ((text : List ℕ) × IsHeaded page text × (max_count < length text))))) }
 {
     let mut head = Vec::new(alloc);
-    write_page_header(page, &mut head)?;
-    let body = body_of(page);
-    let bytes = match bytes_of(&head, body) {
+    write_page_header(&page, &mut head)?;
+    let body = into_body(page);
+    let bytes = match bytes_of(&head, &body) {
         Ok(bytes) => bytes,
         Err(error) => return Err(error),
     };
     push_all(sink, &head)?;
-    push_all(sink, body)?;
+    push_owned(sink, body)?;
     Ok(bytes)
 }
 
@@ -81,7 +81,7 @@ fn push_page<W: Sink>(alloc: Global, sink: &mut W, page: DataPage) -> Result<Pus
     let pages = Count::zero().plus(1)?;
     pages_are_written();
     let page = Page::Data(page);
-    let bytes = match push_headed(alloc, sink, &page) {
+    let bytes = match push_headed(alloc, sink, page) {
         Ok(bytes) => bytes,
         Err(error) => return Err(error),
     };
@@ -113,7 +113,7 @@ pub(crate) fn push_dictionary<W: Sink>(
     };
     pages_are_written();
     let page = Page::Dict(page);
-    push_headed(alloc, sink, &page)
+    push_headed(alloc, sink, page)
 }
 
 // One page more.

@@ -8,4 +8,6 @@ mod group_tests;
 #[cfg(test)]
 mod page_tests;
 #[cfg(test)]
+mod sink_tests;
+#[cfg(test)]
 mod struct_tests;

@@ -1,5 +1,6 @@
 use Rattle.columns_core.specs.View.{schema_view}
 use Rattle.pq_tree.specs.TreeViews.{metadata_view}
+use Rattle.pq_io.specs.PieceSinks.{pieces_taken}
 use Rattle.rewrite_whole.specs.Asks.{asked_by, codec_of}
 use Rattle.rewrite_whole.proofs.Middles.{nothing_shown}
 use Rattle.rewrite_whole.proofs.Reasons.{from_file, from_schema, from_pages, from_finish, if_err}
@@ -11,7 +12,7 @@ returns-clause-ok g c =
     let d = c.in_default-write_groups.ensures.ok in
     let f = footer_at c.args.input.now c.in_ok-place.place _ c.frames_are_told.ensures c.in-Ok.ensures.framed c.in_ok-place.ensures.ok c.in-Ok.ensures.found in
     on_both c.finish_output.result _ _
-    (λ made p. whole (codec_of (g.C.SchemaCodec.bytes_of c.args.codec.now) (g.C.SchemaCodec.reads c.args.codec.now)) _ _ _ _ made.0.bytes.items made.1 c.written_is_converted.ensures d
+    (λ made p. whole (codec_of (g.C.SchemaCodec.bytes_of c.args.codec.now) (g.C.SchemaCodec.reads c.args.codec.now)) _ _ _ _ (pieces_taken made.0) made.1 c.written_is_converted.ensures d
     (record { fifth = record { fourth = record { third = record { footer = f; shallow = c.in-Ok.ensures.shallow }; few = c.in_ok-check_pairs.ensures.ok }; placed = c.in_default.ensures.ok }; infers = c.in-Ok-plan_schema.ensures.ok.infers; fits = c.in-Ok-plan_schema.ensures.ok.fits })
     p)
     (c.finish_output.ensures.ok d.chunks d.output_is)
