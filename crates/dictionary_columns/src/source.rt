@@ -6,7 +6,7 @@ ghost use Rattle.pq_tree.specs.declared.types.TypedPageHeader.TheVariants as T;
 ghost use Rattle.dictionary_columns.specs.Sources.{has_indices, is_indices};
 
 use columns_base::{Error, N, Result};
-use pq_pages::{Page, Pages};
+use pq_pages::{Page, PageRef, Pages};
 use pq_tree::DataPageHeader;
 
 /// What a source of keys lends.
@@ -55,6 +55,8 @@ impl<I: Pages> Pages for KeyPages<I> {
 
     ghost lent = { λ p. keyed_lent p.lent (page_shown p.keys) (I.lent p.pages) };
 
+    ghost shown = { λ p. keyed_lent p.lent (page_shown p.keys) (I.lent p.pages) };
+
     fn advance(&mut self) -> Result<()> {
         if self.lent == Lent::Ahead {
             self.lent = Lent::Keys;
@@ -79,6 +81,17 @@ impl<I: Pages> Pages for KeyPages<I> {
             Lent::Keys => Some(&self.keys),
             Lent::Page => self.pages.get(),
             Lent::Ahead | Lent::Nothing => None,
+        }
+    }
+
+    fn advance_shown(&mut self) -> Result<()> {
+        self.advance()
+    }
+
+    fn show(&self) -> Option<PageRef<'_>> {
+        match self.get() {
+            Some(page) => Some(page.as_page_ref()),
+            None => None,
         }
     }
 }

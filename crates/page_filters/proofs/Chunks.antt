@@ -15,7 +15,7 @@ abbrev column_or : Column → Option Descriptor → Column
 column_or c None = c
 column_or c (Some d) = column_view d
 
-pub opens_kept : (file : List ℕ) (c : ColumnChunkMetaData) (max : ℕ) (keeps : Column → Header → Bool) (d copy : Descriptor) (whole r : Source) → OpensChunk file c max whole → c.descriptor ≡ Some d → column_view copy ≡ column_view d → r ≡ record { outcomes = kept (keeps (column_view copy)) whole.outcomes; lent = whole.lent } → OpensKept file c max keeps r
+pub opens_kept : (file : List ℕ) (c : ColumnChunkMetaData) (max : ℕ) (keeps : Column → Header → Bool) (d copy : Descriptor) (whole r : Source) → OpensChunk file c max whole → c.descriptor ≡ Some d → column_view copy ≡ column_view d → r ≡ record { outcomes = kept (keeps (column_view copy)) whole.outcomes; lent = whole.lent; shown = whole.lent } → OpensKept file c max keeps r
 opens_kept file c max keeps d copy whole r o e m n =
     let outcomes : Source → List Outcome = λ s. s.outcomes in
     let lent : Source → Option Outcome = λ s. s.lent in

@@ -6,7 +6,7 @@ ghost use Rattle.page_filters.specs.Filters.{header_view, is_refused, keeping, k
 
 use crate::filter::PageFilter;
 use columns_base::Result;
-use pq_pages::{Page, Pages};
+use pq_pages::{Page, PageRef, Pages};
 use pq_tree::{DataPageHeader, Descriptor};
 use std::marker::Model;
 
@@ -27,13 +27,13 @@ impl<P: Pages, F: PageFilter> Model for FilteredPages<P, F> {
 
     ghost Value = { Source };
 
-    ghost view = { λ s. record { outcomes = kept (keeping F.keeps s.filter (column_view s.column)) (P.outcomes s.pages); lent = P.lent s.pages } };
+    ghost view = { λ s. record { outcomes = kept (keeping F.keeps s.filter (column_view s.column)) (P.outcomes s.pages); lent = P.lent s.pages; shown = P.lent s.pages } };
 }
 
 impl<P: Pages, F: PageFilter> FilteredPages<P, F> {
     /// The pages of this column that the filter keeps, of those that the source gives. It lends what the source lends.
     pub fn new(pages: P, column: Descriptor, filter: Option<F>) -> Self
-        ensures { result ≡ record { outcomes = kept (keeping F.keeps filter (column_view column)) (P.outcomes pages); lent = P.lent pages } }
+        ensures { result ≡ record { outcomes = kept (keeping F.keeps filter (column_view column)) (P.outcomes pages); lent = P.lent pages; shown = P.lent pages } }
     {
         FilteredPages {
             pages,
@@ -95,11 +95,24 @@ impl<P: Pages, F: PageFilter> Pages for FilteredPages<P, F> {
 
     ghost lent = { λ s. s.lent };
 
+    ghost shown = { λ s. s.lent };
+
     fn advance(&mut self) -> Result<()> {
         take_kept(&mut self.pages, &self.column, &self.filter)
     }
 
     fn get(&self) -> Option<&Page> {
         self.pages.get()
+    }
+
+    fn advance_shown(&mut self) -> Result<()> {
+        self.advance()
+    }
+
+    fn show(&self) -> Option<PageRef<'_>> {
+        match self.pages.get() {
+            Some(page) => Some(page.as_page_ref()),
+            None => None,
+        }
     }
 }

@@ -10,3 +10,4 @@ pub mod Placed
 pub mod ChunkRead
 pub mod Behind
 pub mod HeldChunks
+pub mod Ended

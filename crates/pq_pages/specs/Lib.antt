@@ -8,6 +8,7 @@ pub mod Outcomes
 pub mod Parts
 pub mod Reading
 pub mod ReadsChunk
+pub mod Shown
 pub mod Sources
 pub mod Split
 pub mod Worked

@@ -11,6 +11,7 @@ mod parts;
 mod place;
 mod raw;
 mod reader;
+mod shown;
 mod split;
 mod vec_pages;
 
@@ -23,5 +24,6 @@ pub use laws::{
 pub use page::{DataPage, DictPage, Page, encoding_named};
 pub use pages::Pages;
 pub use reader::PageReader;
-pub use split::split_buffer;
+pub use shown::{DataPageRef, DictPageRef, PageRef};
+pub use split::{split_buffer, split_shown};
 pub use vec_pages::VecPages;

@@ -9,6 +9,7 @@ ghost use Rattle.pq_pages.specs.Outcomes.{levels_in, HasLevels};
 ghost use Rattle.pq_pages.specs.Split.{sections, Splits, Splits1, Splits2};
 
 use crate::page::DataPage;
+use crate::shown::DataPageRef;
 use columns_base::{Error, Result, S};
 use pq_numbers::read_u32_le;
 use pq_tree::{DataPageHeader, DataPageHeaderV2, Descriptor};
@@ -121,6 +122,21 @@ fn split_by<'a>(
 ///
 /// `OutOfSpec(S4)`: exactly where a section of levels does not lie in the body.
 pub fn split_buffer(page: &DataPage) -> Result<(&[u8], &[u8], &[u8])>
+    ensures ok { IfOk result (λ x. Splits page.now.header (levels_in page.now.descriptor) page.now.buffer (sections x.0.now x.1.now x.2.now)) }
+    ensures refused { IfErr result (λ e. (e ≡ OutOfSpec S4) × ((s : Sections) → Splits page.now.header (levels_in page.now.descriptor) page.now.buffer s → ⊥)) }
+{
+    match split_by(page.header(), page.descriptor(), page.buffer()) {
+        Some(parts) => Ok(parts),
+        None => Err(Error::OutOfSpec(S::S4)),
+    }
+}
+
+/// The sections of the body of a data page that is shown, as `split_buffer` has them.
+///
+/// # Errors
+///
+/// `OutOfSpec(S4)`: exactly where a section of levels does not lie in the body.
+pub fn split_shown<'a>(page: &DataPageRef<'a>) -> Result<(&'a [u8], &'a [u8], &'a [u8])>
     ensures ok { IfOk result (λ x. Splits page.now.header (levels_in page.now.descriptor) page.now.buffer (sections x.0.now x.1.now x.2.now)) }
     ensures refused { IfErr result (λ e. (e ≡ OutOfSpec S4) × ((s : Sections) → Splits page.now.header (levels_in page.now.descriptor) page.now.buffer s → ⊥)) }
 {

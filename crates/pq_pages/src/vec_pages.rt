@@ -4,6 +4,7 @@ ghost use Rattle.pq_pages.specs.Outcomes.{outcome_of, page_shown, Advances};
 
 use crate::page::Page;
 use crate::pages::Pages;
+use crate::shown::PageRef;
 use columns_base::{Error, Result as Outcome};
 use std::marker::Model;
 use std::vec::IntoIter;
@@ -23,13 +24,13 @@ impl Model for VecPages {
 
     ghost Value = { Source };
 
-    ghost view = { λ s. record { outcomes = map outcome_of (into_iter_items s.left); lent = option_map page_shown s.page } };
+    ghost view = { λ s. record { outcomes = map outcome_of (into_iter_items s.left); lent = option_map page_shown s.page; shown = option_map page_shown s.page } };
 }
 
 impl VecPages {
     /// A source that gives these, and lends none before.
     pub fn new(outcomes: Vec<Result<Page, Error>>) -> Self
-        ensures { result ≡ record { outcomes = map outcome_of outcomes.items; lent = None } }
+        ensures { result ≡ record { outcomes = map outcome_of outcomes.items; lent = None; shown = None } }
     {
         VecPages {
             left: outcomes.into_iter(),
@@ -42,6 +43,8 @@ impl Pages for VecPages {
     ghost outcomes = { λ s. s.outcomes };
 
     ghost lent = { λ s. s.lent };
+
+    ghost shown = { λ s. s.lent };
 
     fn advance(&mut self) -> Outcome<()> {
         self.page = None;
@@ -57,5 +60,16 @@ impl Pages for VecPages {
 
     fn get(&self) -> Option<&Page> {
         self.page.as_ref()
+    }
+
+    fn advance_shown(&mut self) -> Outcome<()> {
+        self.advance()
+    }
+
+    fn show(&self) -> Option<PageRef<'_>> {
+        match &self.page {
+            Some(page) => Some(page.as_page_ref()),
+            None => None,
+        }
     }
 }

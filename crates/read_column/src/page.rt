@@ -16,7 +16,7 @@ ghost use Rattle.read_column.specs.Opened.{ArePairsIn, CannotOpen, IsCutInto, Is
 use crate::deltas::{Deltas, count_present};
 use crate::encoding::{ValueEncoding, served_encoding};
 use columns_base::{Error, N, Result, S};
-use pq_pages::{DataPage, split_buffer, splits_are_of_pages};
+use pq_pages::{DataPageRef, split_shown, splits_are_of_pages};
 use pq_tree::{DataPageHeader, DataPageHeaderV1, DataPageHeaderV2, Descriptor};
 use read_walk::NestedPage;
 
@@ -81,7 +81,7 @@ fn both_say_runs(max_repetition: usize, max_definition: usize, header: &DataPage
 }
 
 // The greatest repetition and definition level of a page's column.
-fn greatest_levels(page: &DataPage) -> (usize, usize)
+fn greatest_levels(page: &DataPageRef<'_>) -> (usize, usize)
     ensures repetition { result.0 ≡ natural_part page.now.descriptor.max_rep_level }
     ensures definition { result.1 ≡ natural_part page.now.descriptor.max_def_level }
     ensures few { result.0 < 2 ^ 32 }
@@ -121,9 +121,9 @@ fn split_at<'a>(
     Some((repetition, definition, values))
 }
 
-// The sections of a page of version 2. `split_buffer` refuses lengths below 0, which count as none in what contracts see of a page.
+// The sections of a page of version 2. `split_shown` refuses lengths below 0, which count as none in what contracts see of a page.
 fn cut_v2<'a>(
-    page: &'a DataPage,
+    page: &DataPageRef<'a>,
     header: &DataPageHeaderV2,
 ) -> Result<(&'a [u8], &'a [u8], &'a [u8])>
     requires { page.now.header ≡ V2 header.now }
@@ -140,7 +140,7 @@ fn cut_v2<'a>(
 
 // The sections of a page of version 1.
 fn cut_v1<'a>(
-    page: &'a DataPage,
+    page: &DataPageRef<'a>,
     _header: &DataPageHeaderV1,
 ) -> Result<(&'a [u8], &'a [u8], &'a [u8])>
     requires { page.now.header ≡ V1 _header.now }
@@ -149,11 +149,11 @@ fn cut_v1<'a>(
 {
     splits_are_of_pages();
     let _counted = page.header();
-    split_buffer(page)
+    split_shown(page)
 }
 
 // The sections of a page.
-fn cut(page: &DataPage) -> Result<(&[u8], &[u8], &[u8])>
+fn cut<'a>(page: &DataPageRef<'a>) -> Result<(&'a [u8], &'a [u8], &'a [u8])>
     ensures ok { IfOk result (λ x. IsCutInto (raw_page page.now) (levels_in page.now.descriptor) (sections x.0.now x.1.now x.2.now)) }
     ensures err { IfErr result (λ e. (e ≡ OutOfSpec S4) × ((l : Leaf) → leaf_repetition l ≡ natural_part page.now.descriptor.max_rep_level → leaf_definition l ≡ natural_part page.now.descriptor.max_def_level → (s : Sections) → IsSplit l (raw_page page.now).header page.now.buffer s → ⊥)) }
 {
@@ -169,7 +169,11 @@ fn cut(page: &DataPage) -> Result<(&[u8], &[u8], &[u8])>
 ///
 /// N4 for another encoding than PLAIN, where values stand in bytes of their own those of a dictionary, and that of the deltas, or levels that are
 /// no runs; S4 where a section of levels lies outside of the body.
-pub fn open_page(page: &DataPage, own: bool, deltas: Deltas) -> Result<OpenPage<'_>>
+pub fn open_page<'a>(
+    page: &DataPageRef<'a>,
+    own: bool,
+    deltas: Deltas,
+) -> Result<OpenPage<'a>>
     ensures ok { IfOk result (IsOpenPage own deltas (raw_page page.now) (levels_in page.now.descriptor)) }
     ensures err { IfErr result (CannotOpen own deltas (raw_page page.now) (levels_in page.now.descriptor)) }
 {
@@ -273,7 +277,11 @@ pub struct PagePairs<'a> {
 /// # Errors
 ///
 /// Those of `open_page`.
-pub fn open_pairs(page: &DataPage, own: bool, deltas: Deltas) -> Result<PagePairs<'_>>
+pub fn open_pairs<'a>(
+    page: &DataPageRef<'a>,
+    own: bool,
+    deltas: Deltas,
+) -> Result<PagePairs<'a>>
     ensures ok { IfOk result (λ x. IsOpenPage own deltas (raw_page page.now) (levels_in page.now.descriptor) x.open × ArePairsIn x.open x.pairs × (x.goes_on ≡ first_goes_on x.pairs)) }
     ensures err { IfErr result (CannotOpen own deltas (raw_page page.now) (levels_in page.now.descriptor)) }
 {

@@ -20,7 +20,7 @@ use crate::parts::is_flat;
 use crate::queue::Queue;
 use crate::take::take_page;
 use columns_base::{Error, PhysicalType, Result, S};
-use pq_pages::{DictPage, Page, Pages};
+use pq_pages::{DictPageRef, PageRef, Pages};
 use read_items::items_are_counted;
 use read_pieces::LeafReader;
 use read_state::{InitNested, NestedState};
@@ -71,12 +71,12 @@ fn end<L: LeafReader>(queue: Queue<L>) -> Result<(Queue<L>, bool)>
 fn take_entries<L: LeafReader>(
     alloc: Global,
     leaf: &L,
-    page: &DictPage,
+    page: &DictPageRef<'_>,
     entries: &mut Option<Entries>,
     began: bool,
 ) -> Result<()>
-    ensures ok { OnOk result ((began ≡ false) × (entries.old ≡ None) × (texts : Texts) × (entries.new ≡ Some texts) × HoldsEntries (λ text. L.stored leaf.now text 0) page.now.num_values page.now.buffer.items texts) }
-    ensures err { IfErr result (λ e. (e ≡ Memory) ⊎ ((e ≡ OutOfSpec S3) × ((began ≡ true) ⊎ IsTrue (is_some entries.old))) ⊎ ((began ≡ false) × (entries.old ≡ None) × CannotHold (λ text. L.stored leaf.now text 0) page.now.num_values page.now.buffer.items e)) }
+    ensures ok { OnOk result ((began ≡ false) × (entries.old ≡ None) × (texts : Texts) × (entries.new ≡ Some texts) × HoldsEntries (λ text. L.stored leaf.now text 0) page.now.num_values page.now.buffer.now texts) }
+    ensures err { IfErr result (λ e. (e ≡ Memory) ⊎ ((e ≡ OutOfSpec S3) × ((began ≡ true) ⊎ IsTrue (is_some entries.old))) ⊎ ((began ≡ false) × (entries.old ≡ None) × CannotHold (λ text. L.stored leaf.now text 0) page.now.num_values page.now.buffer.now e)) }
 {
     if began {
         return Err(Error::OutOfSpec(S::S3));
@@ -84,7 +84,7 @@ fn take_entries<L: LeafReader>(
     if entries.is_some() {
         return Err(Error::OutOfSpec(S::S3));
     }
-    match read_entries(alloc, leaf, &page.buffer, page.num_values) {
+    match read_entries(alloc, leaf, page.buffer, page.num_values) {
         Ok(read) => {
             *entries = Some(read);
             Ok(())
@@ -109,18 +109,18 @@ fn take_next<I: Pages, L: LeafReader>(
     ensures err { (o : ColumnOpening) (pieces : List (List Triple)) (others : List Outcome) → IsReading (λ text. L.stored leaf.now text 0) L.byte_limit o pieces (reading (foreseen (I.outcomes pages.old) others) (means entries.old deltas) queue began.old) → IfErr result (λ e. SourceFails e (I.outcomes pages.old) ⊎ RefusesPiece o e) }
 {
     items_are_counted();
-    match pages.advance() {
+    match pages.advance_shown() {
         Ok(()) => {}
         Err(error) => return Err(error),
     }
-    match pages.get() {
+    match pages.show() {
         None => end(queue),
-        Some(Page::Dict(page)) => match take_entries(alloc, leaf, page, entries, *began) {
+        Some(PageRef::Dict(page)) => match take_entries(alloc, leaf, &page, entries, *began) {
             Ok(()) => Ok((queue, true)),
             Err(error) => Err(error),
         },
-        Some(Page::Data(page)) => match take_page(
-            alloc, leaf, queue, page, entries, deltas, !*began,
+        Some(PageRef::Data(page)) => match take_page(
+            alloc, leaf, queue, &page, entries, deltas, !*began,
         ) {
             Ok(queue) => {
                 *began = true;

@@ -21,7 +21,7 @@ use crate::indices::plain_values;
 use crate::page::{OpenPage, PagePairs, open_pairs, states_rows};
 use crate::queue::Queue;
 use columns_base::{Error, N, Result, S};
-use pq_pages::DataPage;
+use pq_pages::DataPageRef;
 use pq_tree::DataPageHeader;
 use read_pieces::{LeafReader, PlainBytes};
 use read_walk::NestedPage;
@@ -177,7 +177,7 @@ pub fn take_page<L: LeafReader>(
     alloc: Global,
     leaf: &L,
     queue: Queue<L>,
-    page: &DataPage,
+    page: &DataPageRef<'_>,
     entries: &Option<Entries>,
     deltas: Deltas,
     is_first: bool,

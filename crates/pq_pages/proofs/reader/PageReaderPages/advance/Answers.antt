@@ -1,24 +1,8 @@
-use Rattle.std.proofs.Common.{◌≡◌, ℕ, List, [], ◌∷◌, None, refl, sym, ap, subst, ◌∙◌, inl, inr}
-use Rattle.std.specs.Prelude.{◌⊎◌, ◌≢◌}
-use Rattle.columns_base.specs.declared.error.Error.{Error}
-use Rattle.columns_base.specs.declared.error.Error.TheVariants.{Memory}
-use Rattle.pq_pages.specs.declared.place.Place.{Place}
-use Rattle.pq_pages.specs.Outcomes.{Levels, Outcome, Takes, fails, levels_in}
-use Rattle.pq_pages.specs.Reading.{pages_in}
+use Rattle.std.proofs.Common.{refl, sym, ap}
+use Rattle.pq_pages.specs.Outcomes.{levels_in}
 use Rattle.pq_pages.specs.Sources.{Source}
-use Rattle.pq_pages.proofs.Steps.{at_end}
+use Rattle.pq_pages.proofs.Ended.{ended, failed, of_levels}
 use Rattle.pq_pages.proofs.reader.PageReaderPages.advance.Goals as goal
-
-ended : (max : ℕ) (levels : Levels) (place : Place) (left : ℕ) (bytes : List ℕ) (os : List Outcome) → os ≡ pages_in max levels place left bytes → left ≡ 0 → Takes os (pages_in max levels place left bytes) None
-ended max levels place left bytes os are none =
-    let empty : pages_in max levels place left bytes ≡ [] = ap (λ (k : ℕ). pages_in max levels place k bytes) none ∙ at_end max levels place bytes in
-    subst (λ (xs : List Outcome). Takes xs (pages_in max levels place left bytes) None) (sym (are ∙ empty)) (empty, refl)
-
-failed : (max : ℕ) (levels : Levels) (place : Place) (left after : ℕ) (bytes : List ℕ) (os : List Outcome) (e : Error) → os ≡ pages_in max levels place left bytes → (e ≡ Memory) ⊎ (pages_in max levels place left bytes ≡ fails e ∷ [])
-    → ((e ≡ Memory) × (after ≡ left)) ⊎ ((e ≢ Memory) × (after ≡ 0)) → ((e ≡ Memory) × (pages_in max levels place after bytes ≡ os)) ⊎ (os ≡ fails e ∷ pages_in max levels place after bytes)
-failed max levels place left after bytes os e are refused (inl kept) = inl (kept.0, ap (λ (k : ℕ). pages_in max levels place k bytes) kept.1 ∙ sym are)
-failed max levels place left after bytes os e are (inl m) (inr gone) = absurd (gone.0 m)
-failed max levels place left after bytes os e are (inr is) (inr gone) = inr (are ∙ is ∙ ap (λ (xs : List Outcome). fails e ∷ xs) (sym (ap (λ (k : ℕ). pages_in max levels place k bytes) gone.1 ∙ at_end max levels place bytes)))
 
 pub returns-then-self-eq0 : goal.returns-then-self-eq0
 returns-then-self-eq0 c =
@@ -29,6 +13,6 @@ returns-in-Err c = (
   refl,
   failed c.self.inside.max_header_size (levels_in c.self.inside.descriptor) c.self.inside.place c.self.inside.left c.left_after-self-inside.result c.self.inside.bytes.now c.args.self.now.outcomes c.in-Err.error
       (ap (λ (s : Source). s.outcomes) (sym c.self.view_is))
-      c.in-Err.ensures.refused
+      (of_levels c.self.inside.max_header_size (levels_in c.self.inside.descriptor) c.self.inside.place c.self.inside.left c.self.inside.bytes.now c.in-Err.error c.in-Err.ensures.refused)
       c.left_after-self-inside.ensures,
 )
