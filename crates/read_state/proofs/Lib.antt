@@ -11,3 +11,4 @@ pub mod Compared
 pub mod Picking
 pub mod Listing
 pub mod Counting
+pub mod Marked

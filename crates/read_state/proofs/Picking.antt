@@ -1,27 +1,16 @@
 -- A list's places and validities, taken from one set bit of a word to the next.
-use Rattle.std.proofs.Common.{◌≡◌, ℕ, zero, suc, ◌+◌, ◌-◌, ◌*◌, ◌/◌, ◌%◌, ◌^◌, ◌<◌, ◌≤◌, ◌==◌, ◌&&◌, Bool, true, false, true≢false, cond, bit_and, inl, inr, List, [], ◌∷◌, ◌++◌, length, replicate, refl, arith, ap, sym, ◌∙◌, append_assoc, append-nil, add-one, pow-suc}
+use Rattle.std.proofs.Common.{◌≡◌, ℕ, zero, suc, ◌+◌, ◌-◌, ◌*◌, ◌/◌, ◌%◌, ◌^◌, ◌<◌, ◌≤◌, ◌==◌, ◌&&◌, Bool, true, false, true≢false, cond, bit_and, count_ones, inl, inr, List, [], ◌∷◌, ◌++◌, length, replicate, refl, arith, ap, sym, ◌∙◌, append_assoc, append-nil, add-one, pow-suc}
 use Rattle.std.specs.Int.{bit_at, w64, trailing_zeros}
 use Rattle.std.proofs.lemmas.Bool.{cases_lt}
-use Rattle.std.proofs.lemmas.Nat.{shr-shr, shr_below, mul-le, and_shr, pow_pos}
+use Rattle.std.proofs.lemmas.Nat.{shr-shr, shr_below, mul-le, and_shr, pow_pos, ones_le_self}
+use lib.Count.{ones_step}
 use Rattle.std.specs.Int.Bits.{and_self}
-use Rattle.std.proofs.lemmas.Nat.Bits.{bit_at_above, bit_at-trailing_zeros, bit_at_lowest, bit_at-suc, bit_at-zero, bit_at_and}
+use Rattle.std.proofs.lemmas.Nat.Bits.{bit_at-trailing_zeros, bit_at_lowest, bit_at-suc, bit_at-zero, bit_at_and}
 use Rattle.columns_core.specs.Bits.{word_bits}
 use Rattle.columns_core.proofs.Words.{zeros_word, ones_word}
 use Rattle.read_laws.specs.Step.{bit}
 use Rattle.read_state.specs.Reach.{chosen, places}
-use Rattle.read_state.proofs.Compared.{word-split, word-alike, word-join, length-word, bit-of, both-first}
-
-places-passed : (k place : ℕ) (ps gs : List Bool) → places place (replicate k false ++ ps) (replicate k true ++ gs) ≡ places (place + k) ps gs
-unfolding places
-places-passed zero place ps gs = let e : place + 0 ≡ place = omega arith in rw e refl
-places-passed (suc k) place ps gs = let e : place + 1 + k ≡ place + suc k = omega arith in places-passed k (place + 1) ps gs ∙ ap (λ (n : ℕ). places n ps gs) e
-
-chosen-passed : (k : ℕ) (ps vs ws : List Bool) → length vs ≡ k → chosen (replicate k false ++ ps) (vs ++ ws) ≡ chosen ps ws
-unfolding chosen
-chosen-passed zero ps [] ws e = refl
-chosen-passed zero ps (v ∷ vs) ws e = absurd (omega (arith, e))
-chosen-passed (suc k) ps [] ws e = absurd (omega (arith, e))
-chosen-passed (suc k) ps (v ∷ vs) ws e = chosen-passed k ps vs ws (omega (arith, e))
+use Rattle.read_state.proofs.Compared.{word-join, length-word, bit-of, both-first}
 
 places-none : (n place : ℕ) (gs : List Bool) → places place (replicate n false) gs ≡ []
 unfolding places
@@ -35,138 +24,75 @@ chosen-none zero vs = refl
 chosen-none (suc n) [] = refl
 chosen-none (suc n) (v ∷ vs) = chosen-none n vs
 
--- What is left of a block: the bits of its last n pairs. What was taken and what is left give all.
-pub record IsListing (first : ℕ) (all : List ℕ) (every : List Bool) (starts : List ℕ) (left more valid place word count len cap : ℕ) : Type 0 where
-  pub n : ℕ
-  pub starts_are : starts ++ places place (word_bits left n) (word_bits more n) ≡ all
-  pub bits_are : word_bits word count ++ chosen (word_bits left n) (word_bits valid n) ≡ every
-  pub covers : (i : ℕ) → i < n → (bit_at left i == 1) ≡ false → (bit_at more i == 1) ≡ true
-  pub below : word < 2 ^ count
-  pub few : count + n ≤ 64
-  pub reach : place + n ≤ first + 64
-  pub left_below : left < 2 ^ n
-  pub room : len + n ≤ cap
+-- ---- words without the low bits
+-- how many bits are set from a place on
+ones-behind : (k w : ℕ) → count_ones (w / 2 ^ k) ≤ count_ones w
+ones-behind zero w = let e : w / 2 ^ 0 ≡ w = omega arith in rw e (omega arith)
+ones-behind (suc k) w =
+    let place : suc k ≡ 1 + k = omega arith in
+    let e : w / 2 ^ suc k ≡ w / 2 / 2 ^ k = ap (λ (n : ℕ). w / 2 ^ n) place ∙ sym (shr-shr w 1 k) in
+    rw e (omega (arith, ones-behind k (w / 2), ones_step w))
 
-pub listing-init : (first : ℕ) (starts : List ℕ) (left more valid len cap : ℕ) → ((i : ℕ) → i < 64 → (bit_at left i == 1) ≡ false → (bit_at more i == 1) ≡ true) → left < 2 ^ 64 → len + 64 ≤ cap → IsListing first (starts ++ places first (word_bits left 64) (word_bits more 64)) (chosen (word_bits left 64) (word_bits valid 64)) starts left more valid first 0 0 len cap
-listing-init first starts left more valid len cap covers below room = record {
-  n = 64;
-  starts_are = refl;
-  bits_are = refl;
-  covers = covers;
-  below = omega arith;
-  few = omega arith;
-  reach = omega arith;
-  left_below = below;
-  room = room;
-}
+-- how many bits of so many can be set
+ones-few : (n w : ℕ) → w < 2 ^ n → count_ones w ≤ n
+ones-few zero w h = omega (arith, ones_le_self w, h)
+ones-few (suc n) w h = omega (arith, ones_step w, ones-few n (w / 2) (omega (arith, h)))
 
--- the bits behind a place
-bits-behind : (w k i : ℕ) → bit_at (w / 2 ^ k / 2) i ≡ bit_at w (k + 1 + i)
-bits-behind w k i = ap (λ (x : ℕ). x / 2 ^ i % 2) (shr-shr w k 1) ∙ ap (λ (x : ℕ). x % 2) (shr-shr w (k + 1) i)
+pub ones-of-word : (w : ℕ) → w < 2 ^ 64 → count_ones w ≤ 64
+ones-of-word w h = ones-few 64 w h
 
-halved : (w k n : ℕ) → w < 2 ^ (k + suc n) → w / 2 ^ k / 2 < 2 ^ n
-halved w k n h =
-    let e : k + suc n ≡ n + (k + 1) = omega arith in
-    rw (shr-shr w k 1) (shr_below w n (k + 1) (rw e at h))
+next-behind : (w i : ℕ) → w / 2 ^ i / 2 ≡ w / 2 ^ (i + 1)
+next-behind w i = shr-shr w i 1
 
-module _ (first : ℕ) (all : List ℕ) (every : List Bool) (starts : List ℕ) (left more valid place word count len cap gap : ℕ) (is : IsListing first all every starts left more valid place word count len cap) (set-here : bit_at left gap ≡ 1) (clear-before : (i : ℕ) → i < gap → bit_at left i ≡ 0) where
-  pub gap-inside : gap < is.n
-  gap-inside = elim (cases_lt gap is.n) [
-    | inl h ↦ h
-    | inr h ↦ absurd (omega (arith, set-here, bit_at_above left is.n gap is.left_below h))
-  ]
+places-passed : (k n place place' a g : ℕ) → ((j : ℕ) → j < k → bit_at a j ≡ 0) → place' + count_ones (g / 2 ^ k) ≡ place + count_ones g → places place (word_bits a (k + n)) (word_bits g (k + n)) ≡ places place' (word_bits (a / 2 ^ k) n) (word_bits (g / 2 ^ k) n)
+unfolding places
+places-passed zero n place place' a g clear e =
+    let b : a / 2 ^ 0 ≡ a = omega arith in
+    let c : g / 2 ^ 0 ≡ g = omega arith in
+    let count : 0 + n ≡ n = omega arith in
+    let same : place' ≡ place = omega (arith, rw c at e) in
+    rw (b, c, count, same) refl
+places-passed (suc k) n place place' a g clear e =
+    let count : suc k + n ≡ suc (k + n) = omega arith in
+    let step : suc k ≡ 1 + k = omega arith in
+    let b : a / 2 ^ suc k ≡ a / 2 / 2 ^ k = ap (λ (m : ℕ). a / 2 ^ m) step ∙ sym (shr-shr a 1 k) in
+    let c : g / 2 ^ suc k ≡ g / 2 / 2 ^ k = ap (λ (m : ℕ). g / 2 ^ m) step ∙ sym (shr-shr g 1 k) in
+    let low : a % 2 ≡ 0 = sym (bit_at_lowest a) ∙ clear 0 (omega arith) in
+    let is : bit (g % 2 == 1) ≡ g % 2 = bit-of (g % 2) (omega arith) in
+    let others : place' + count_ones (g / 2 / 2 ^ k) ≡ place + bit (g % 2 == 1) + count_ones (g / 2) = omega (arith, rw c at e, ones_step g, is) in
+    rw (count, b, c, low) (places-passed k n (place + bit (g % 2 == 1)) place' (a / 2) (g / 2) (λ j h. sym (bit_at-suc a j) ∙ clear (suc j) (omega (arith, h))) others)
 
-  split : is.n ≡ gap + suc (is.n - (gap + 1))
-  split = omega (arith, gap-inside)
+places-taken : (n place a g : ℕ) → a % 2 ≡ 1 → places place (word_bits a (suc n)) (word_bits g (suc n)) ≡ place ∷ places (place + g % 2) (word_bits (a / 2) n) (word_bits (g / 2) n)
+unfolding places
+places-taken n place a g e = rw (e, bit-of (g % 2) (omega arith)) refl
 
-  left-bits : word_bits left is.n ≡ replicate gap false ++ true ∷ word_bits (left / 2 ^ gap / 2) (is.n - (gap + 1))
-  left-bits =
-      let m : ℕ = is.n - (gap + 1) in
-      let one : (left / 2 ^ gap % 2 == 1) ≡ true = ap (λ (k : ℕ). k == 1) set-here in
-      let none : word_bits left gap ≡ replicate gap false = word-alike gap left false (λ i h. ap (λ (k : ℕ). k == 1) (clear-before i h)) in
-      ap (word_bits left) split ∙ (word-split gap (suc m) left ∙ (ap (λ (bs : List Bool). bs ++ word_bits (left / 2 ^ gap) (suc m)) none ∙ ap (λ (b : Bool). replicate gap false ++ b ∷ word_bits (left / 2 ^ gap / 2) m) one))
+chosen-passed : (k n a v : ℕ) → ((j : ℕ) → j < k → bit_at a j ≡ 0) → chosen (word_bits a (k + n)) (word_bits v (k + n)) ≡ chosen (word_bits (a / 2 ^ k) n) (word_bits (v / 2 ^ k) n)
+unfolding chosen
+chosen-passed zero n a v clear =
+    let b : a / 2 ^ 0 ≡ a = omega arith in
+    let c : v / 2 ^ 0 ≡ v = omega arith in
+    let count : 0 + n ≡ n = omega arith in
+    rw (b, c, count) refl
+chosen-passed (suc k) n a v clear =
+    let count : suc k + n ≡ suc (k + n) = omega arith in
+    let step : suc k ≡ 1 + k = omega arith in
+    let b : a / 2 ^ suc k ≡ a / 2 / 2 ^ k = ap (λ (m : ℕ). a / 2 ^ m) step ∙ sym (shr-shr a 1 k) in
+    let c : v / 2 ^ suc k ≡ v / 2 / 2 ^ k = ap (λ (m : ℕ). v / 2 ^ m) step ∙ sym (shr-shr v 1 k) in
+    let low : a % 2 ≡ 0 = sym (bit_at_lowest a) ∙ clear 0 (omega arith) in
+    rw (count, b, c, low) (chosen-passed k n (a / 2) (v / 2) (λ j h. sym (bit_at-suc a j) ∙ clear (suc j) (omega (arith, h))))
 
-  more-bits : word_bits more is.n ≡ replicate gap true ++ (more / 2 ^ gap % 2 == 1) ∷ word_bits (more / 2 ^ gap / 2) (is.n - (gap + 1))
-  more-bits =
-      let m : ℕ = is.n - (gap + 1) in
-      let full : word_bits more gap ≡ replicate gap true = word-alike gap more true (λ i h. is.covers i (omega (arith, h, gap-inside)) (ap (λ (k : ℕ). k == 1) (clear-before i h))) in
-      ap (word_bits more) split ∙ (word-split gap (suc m) more ∙ ap (λ (bs : List Bool). bs ++ word_bits (more / 2 ^ gap) (suc m)) full)
+chosen-taken : (n a v : ℕ) → a % 2 ≡ 1 → chosen (word_bits a (suc n)) (word_bits v (suc n)) ≡ (v % 2 == 1) ∷ chosen (word_bits (a / 2) n) (word_bits (v / 2) n)
+unfolding chosen
+chosen-taken n a v e = rw e refl
 
-  valid-bits : word_bits valid is.n ≡ word_bits valid gap ++ (valid / 2 ^ gap % 2 == 1) ∷ word_bits (valid / 2 ^ gap / 2) (is.n - (gap + 1))
-  valid-bits = ap (word_bits valid) split ∙ word-split gap (suc (is.n - (gap + 1))) valid
-
-  next-places : places place (word_bits left is.n) (word_bits more is.n) ≡ (place + gap) ∷ places (place + gap + more / 2 ^ gap % 2) (word_bits (left / 2 ^ gap / 2) (is.n - (gap + 1))) (word_bits (more / 2 ^ gap / 2) (is.n - (gap + 1)))
-  unfolding places
-  next-places =
-      let m : ℕ = is.n - (gap + 1) in
-      let ps = word_bits (left / 2 ^ gap / 2) m in
-      let gs = word_bits (more / 2 ^ gap / 2) m in
-      let b : Bool = more / 2 ^ gap % 2 == 1 in
-      ap (λ (bs : List Bool). places place bs (word_bits more is.n)) left-bits
-      ∙ (ap (places place (replicate gap false ++ true ∷ ps)) more-bits
-      ∙ (places-passed gap place (true ∷ ps) (b ∷ gs)
-      ∙ ap (λ (k : ℕ). (place + gap) ∷ places (place + gap + k) ps gs) (bit-of (more / 2 ^ gap % 2) (omega arith))))
-
-  next-chosen : chosen (word_bits left is.n) (word_bits valid is.n) ≡ (valid / 2 ^ gap % 2 == 1) ∷ chosen (word_bits (left / 2 ^ gap / 2) (is.n - (gap + 1))) (word_bits (valid / 2 ^ gap / 2) (is.n - (gap + 1)))
-  unfolding chosen
-  next-chosen =
-      let m : ℕ = is.n - (gap + 1) in
-      let ps = word_bits (left / 2 ^ gap / 2) m in
-      let vs = word_bits (valid / 2 ^ gap / 2) m in
-      let b : Bool = valid / 2 ^ gap % 2 == 1 in
-      ap (λ (bs : List Bool). chosen bs (word_bits valid is.n)) left-bits
-      ∙ (ap (chosen (replicate gap false ++ true ∷ ps)) valid-bits
-      ∙ chosen-passed gap (true ∷ ps) (word_bits valid gap) (b ∷ vs) (length-word valid gap))
-
-  pub listing-next : (starts' : List ℕ) (word' len' cap' : ℕ) → starts' ≡ starts ++ (place + gap) ∷ [] → word' ≡ word + valid / 2 ^ gap % 2 * 2 ^ count → len' ≤ len + 1 → cap ≤ cap' → IsListing first all every starts' (left / 2 ^ gap / 2) (more / 2 ^ gap / 2) (valid / 2 ^ gap / 2) (place + gap + more / 2 ^ gap % 2) word' (count + 1) len' cap'
-  listing-next starts' word' len' cap' s w l k =
-      let m : ℕ = is.n - (gap + 1) in
-      let ps = word_bits (left / 2 ^ gap / 2) m in
-      let low : ℕ = valid / 2 ^ gap % 2 in
-      let one : low < 2 = omega arith in
-      let behind : List ℕ = places (place + gap + more / 2 ^ gap % 2) ps (word_bits (more / 2 ^ gap / 2) m) in
-      let power : 2 ^ (count + 1) ≡ 2 ^ count * 2 = rw add-one (pow-suc 2 count) in
-      let most : low * 2 ^ count ≤ 1 * 2 ^ count = mul-le low (2 ^ count) 1 (2 ^ count) (omega (arith, one)) (omega arith) in
-      let joined : word_bits word' (count + 1) ≡ word_bits word count ++ (low == 1) ∷ [] = ap (λ (k : ℕ). word_bits k (count + 1)) w ∙ (word-join count 1 word low is.below ∙ ap (λ (k : ℕ). word_bits word count ++ (k == 1) ∷ []) (let e : low % 2 ≡ low = omega (arith, one) in e)) in
-      record {
-        n = m;
-        starts_are = ap (λ (xs : List ℕ). xs ++ behind) s ∙ (append_assoc starts ((place + gap) ∷ []) behind ∙ (ap (λ (xs : List ℕ). starts ++ xs) (sym next-places) ∙ is.starts_are));
-        bits_are = ap (λ (bs : List Bool). bs ++ chosen ps (word_bits (valid / 2 ^ gap / 2) m)) joined ∙ (append_assoc (word_bits word count) ((low == 1) ∷ []) (chosen ps (word_bits (valid / 2 ^ gap / 2) m)) ∙ (ap (λ (bs : List Bool). word_bits word count ++ bs) (sym next-chosen) ∙ is.bits_are));
-        covers = λ i h f. ap (λ (k : ℕ). k == 1) (bits-behind more gap i) ∙ is.covers (gap + 1 + i) (omega (arith, h, gap-inside)) (ap (λ (k : ℕ). k == 1) (sym (bits-behind left gap i)) ∙ f);
-        below = rw w (omega (arith, most, power, is.below));
-        few = omega (arith, is.few, gap-inside);
-        reach = omega (arith, is.reach, gap-inside);
-        left_below = halved left gap m (rw split at is.left_below);
-        room = omega (arith, is.room, gap-inside, l, k);
-      }
-
-pub listing-done : (first : ℕ) (all : List ℕ) (every : List Bool) (starts : List ℕ) (left more valid place word count len cap : ℕ) → left ≡ 0 → IsListing first all every starts left more valid place word count len cap → (starts ≡ all) × (word_bits word count ≡ every)
-listing-done first all every starts left more valid place word count len cap z is =
-    let none : word_bits left is.n ≡ replicate is.n false = ap (λ (k : ℕ). word_bits k is.n) z ∙ zeros_word is.n in (
-      sym (append-nil starts) ∙ (ap (λ (xs : List ℕ). starts ++ xs) (sym (ap (λ (bs : List Bool). places place bs (word_bits more is.n)) none ∙ places-none is.n place (word_bits more is.n))) ∙ is.starts_are),
-      sym (append-nil (word_bits word count)) ∙ (ap (λ (bs : List Bool). word_bits word count ++ bs) (sym (ap (λ (bs : List Bool). chosen bs (word_bits valid is.n)) none ∙ chosen-none is.n (word_bits valid is.n))) ∙ is.bits_are),
-    )
-
--- ---- where all are there
-full-word : (n : ℕ) → word_bits (2 ^ n - 1) n ≡ replicate n true
-full-word zero = refl
-full-word (suc n) =
-    let p : 2 ^ suc n ≡ 2 ^ n * 2 = omega arith in
-    let some : 0 < 2 ^ n = pow_pos n in
-    let low : (2 ^ suc n - 1) % 2 ≡ 1 = omega (arith, p, some) in
-    let high : (2 ^ suc n - 1) / 2 ≡ 2 ^ n - 1 = omega (arith, p, some) in
-    rw (low, high) (ap (λ (bs : List Bool). true ∷ bs) (full-word n))
-
-pub all-there : (count : ℕ) (every : List Bool) → count ≤ 64 → word_bits (2 ^ count - 1) count ≡ every → word_bits (2 ^ 64 - 1) count ≡ every
-all-there count every few e = ones_word count few ∙ (sym (full-word count) ∙ e)
-
--- a bit more that is set
-pub one-more : (left gap count : ℕ) → bit_at left gap ≡ 1 → 2 ^ (count + 1) - 1 ≡ 2 ^ count - 1 + left / 2 ^ gap % 2 * 2 ^ count
-one-more left gap count e =
-    let power : 2 ^ (count + 1) ≡ 2 ^ count * 2 = rw add-one (pow-suc 2 count) in
-    let some : 0 < 2 ^ count = pow_pos count in
-    let low : left / 2 ^ gap % 2 * 2 ^ count ≡ 1 * 2 ^ count = ap (λ (k : ℕ). k * 2 ^ count) e in
-    omega (arith, power, some, low)
+-- no bit is set before one, and how many are from it on
+ones-passed : (k a : ℕ) → ((j : ℕ) → j < k → bit_at a j ≡ 0) → count_ones (a / 2 ^ k) ≡ count_ones a
+ones-passed zero a clear = let b : a / 2 ^ 0 ≡ a = omega arith in rw b refl
+ones-passed (suc k) a clear =
+    let step : suc k ≡ 1 + k = omega arith in
+    let b : a / 2 ^ suc k ≡ a / 2 / 2 ^ k = ap (λ (m : ℕ). a / 2 ^ m) step ∙ sym (shr-shr a 1 k) in
+    let low : a % 2 ≡ 0 = sym (bit_at_lowest a) ∙ clear 0 (omega arith) in
+    ap count_ones b ∙ (ones-passed k (a / 2) (λ j h. sym (bit_at-suc a j) ∙ clear (suc j) (omega (arith, h))) ∙ omega (arith, ones_step a, low))
 
 chosen-step : (x y : Bool) (r s : List Bool) → x ≡ (x && y) → r ≡ s → cond x (y ∷ r) r ≡ cond x (x ∷ s) s
 chosen-step true true r s e f = ap (λ (bs : List Bool). true ∷ bs) f
@@ -219,33 +145,32 @@ lowest-cleared (suc t) n below one =
 zero-shifted : (i : ℕ) → 0 / 2 ^ i ≡ 0
 zero-shifted i = omega (arith, shr_below 0 0 i (pow_pos (0 + i)))
 
--- The set bits that are left, and what came before the pair i.
-pub record IsPlacing (first : ℕ) (all : List ℕ) (every : List Bool) (starts : List ℕ) (left grown less count len cap : ℕ) : Type 0 where
+-- The set bits of a word that are left: those from the place i on.
+pub record AreLeft (all left : ℕ) : Type 0 where
   pub i : ℕ
-  pub few : less ≤ i
-  pub is : IsListing first all every starts (left / 2 ^ i) (grown / 2 ^ i) (left / 2 ^ i) (first + i - less) (2 ^ count - 1) count len cap
+  pub few : i ≤ 64
+  pub same : left / 2 ^ i ≡ all / 2 ^ i
   pub clear : (j : ℕ) → j < i → bit_at left j ≡ 0
 
-pub placing-none : (first : ℕ) (all : List ℕ) (every : List Bool) (starts : List ℕ) (left grown len cap : ℕ) → IsListing first all every starts left grown left first 0 0 len cap → IsPlacing first all every starts left grown 0 0 len cap
-placing-none first all every starts left grown len cap is =
-    let a : left / 2 ^ 0 ≡ left = omega arith in
-    let b : grown / 2 ^ 0 ≡ grown = omega arith in
-    let c : first + 0 - 0 ≡ first = omega arith in
-    record {
-      i = 0;
-      few = omega arith;
-      is = rw (a, b, c) is;
-      clear = λ j h. absurd (omega (arith, h));
-    }
+all-left : (all : ℕ) → AreLeft all all
+all-left all = record {
+  i = 0;
+  few = omega arith;
+  same = refl;
+  clear = λ j h. absurd (omega (arith, h));
+}
 
-module _ (first : ℕ) (all : List ℕ) (every : List Bool) (starts : List ℕ) (left grown less count len cap t : ℕ) (some : 0 < left) (fits : left < 2 ^ 64) (at : t ≡ trailing_zeros w64 left) (p : IsPlacing first all every starts left grown less count len cap) where
+module _ (all left t : ℕ) (some : 0 < left) (fits : left < 2 ^ 64) (at : t ≡ trailing_zeros w64 left) (p : AreLeft all left) where
   lowest : bit_at left t ≡ 1
   lowest = rw at ((bit_at-trailing_zeros w64 left some fits).1)
+
+  pub inside : t < 64
+  inside = rw at ((bit_at-trailing_zeros w64 left some fits).0)
 
   below : (j : ℕ) → j < t → bit_at left j ≡ 0
   below j h = (bit_at-trailing_zeros w64 left some fits).2 j (rw at at h)
 
-  over : p.i ≤ t
+  pub over : p.i ≤ t
   over = elim (cases_lt t p.i) [
     | inl h ↦ absurd (omega (arith, lowest, p.clear t h))
     | inr h ↦ h
@@ -254,45 +179,186 @@ module _ (first : ℕ) (all : List ℕ) (every : List Bool) (starts : List ℕ) 
   here : p.i + (t - p.i) ≡ t
   here = omega (arith, over)
 
-  one : bit_at (left / 2 ^ p.i) (t - p.i) ≡ 1
-  one = bit-shifted left p.i (t - p.i) ∙ (ap (bit_at left) here ∙ lowest)
+  zeros : (j : ℕ) → j < t - p.i → bit_at (all / 2 ^ p.i) j ≡ 0
+  zeros j h = ap (λ (k : ℕ). bit_at k j) (sym p.same) ∙ (bit-shifted left p.i j ∙ below (p.i + j) (omega (arith, h, over)))
 
-  zeros : (j : ℕ) → j < t - p.i → bit_at (left / 2 ^ p.i) j ≡ 0
-  zeros j h = bit-shifted left p.i j ∙ below (p.i + j) (omega (arith, h, over))
+  odd : all / 2 ^ t % 2 ≡ 1
+  odd = ap (λ (k : ℕ). bit_at all k) (sym here) ∙ (sym (bit-shifted all p.i (t - p.i)) ∙ (ap (λ (k : ℕ). bit_at k (t - p.i)) (sym p.same) ∙ (bit-shifted left p.i (t - p.i) ∙ (ap (bit_at left) here ∙ lowest))))
 
-  pub place-within : less ≤ t
-  place-within = omega (arith, p.few, over)
+  behind : (w : ℕ) → w / 2 ^ p.i / 2 ^ (t - p.i) ≡ w / 2 ^ t
+  behind w = shr-shr w p.i (t - p.i) ∙ ap (λ (k : ℕ). w / 2 ^ k) here
 
-  place-inside : t - p.i < p.is.n
-  place-inside = gap-inside first all every starts (left / 2 ^ p.i) (grown / 2 ^ p.i) (left / 2 ^ p.i) (first + p.i - less) (2 ^ count - 1) count len cap (t - p.i) p.is one zeros
+  others : left / 2 ^ (t + 1) ≡ all / 2 ^ (t + 1)
+  others = sym (next-behind left t) ∙ (ap (λ (k : ℕ). k / 2) (sym (behind left) ∙ (ap (λ (k : ℕ). k / 2 ^ (t - p.i)) p.same ∙ behind all)) ∙ next-behind all t)
+
+  left-next : AreLeft all (bit_and left (left - 1))
+  left-next = record {
+    i = t + 1;
+    few = omega (arith, inside);
+    same = (lowest-cleared t left below lowest).0 ∙ others;
+    clear = (lowest-cleared t left below lowest).1;
+  }
+
+  places-on : (place place' grown : ℕ) → place' + count_ones (grown / 2 ^ t) ≡ place + count_ones (grown / 2 ^ p.i) → places place (word_bits (all / 2 ^ p.i) (64 - p.i)) (word_bits (grown / 2 ^ p.i) (64 - p.i)) ≡ place' ∷ places (place' + grown / 2 ^ t % 2) (word_bits (all / 2 ^ (t + 1)) (64 - (t + 1))) (word_bits (grown / 2 ^ (t + 1)) (64 - (t + 1)))
+  places-on place place' grown e =
+      let n : ℕ = 64 - (t + 1) in
+      let split : 64 - p.i ≡ (t - p.i) + suc n = omega (arith, over, inside) in
+      let sum : place' + count_ones (grown / 2 ^ p.i / 2 ^ (t - p.i)) ≡ place + count_ones (grown / 2 ^ p.i) = rw (behind grown) e in
+      ap (λ (k : ℕ). places place (word_bits (all / 2 ^ p.i) k) (word_bits (grown / 2 ^ p.i) k)) split
+      ∙ (places-passed (t - p.i) (suc n) place place' (all / 2 ^ p.i) (grown / 2 ^ p.i) zeros sum
+      ∙ rw (behind all, behind grown, ← next-behind all t, ← next-behind grown t) (places-taken n place' (all / 2 ^ t) (grown / 2 ^ t) odd))
+
+  chosen-on : (there : ℕ) → chosen (word_bits (all / 2 ^ p.i) (64 - p.i)) (word_bits (there / 2 ^ p.i) (64 - p.i)) ≡ (there / 2 ^ t % 2 == 1) ∷ chosen (word_bits (all / 2 ^ (t + 1)) (64 - (t + 1))) (word_bits (there / 2 ^ (t + 1)) (64 - (t + 1)))
+  chosen-on there =
+      let n : ℕ = 64 - (t + 1) in
+      let split : 64 - p.i ≡ (t - p.i) + suc n = omega (arith, over, inside) in
+      ap (λ (k : ℕ). chosen (word_bits (all / 2 ^ p.i) k) (word_bits (there / 2 ^ p.i) k)) split
+      ∙ (chosen-passed (t - p.i) (suc n) (all / 2 ^ p.i) (there / 2 ^ p.i) zeros
+      ∙ rw (behind all, behind there, ← next-behind all t, ← next-behind there t) (chosen-taken n (all / 2 ^ t) (there / 2 ^ t) odd))
+
+  ones-on : count_ones (all / 2 ^ p.i) ≡ 1 + count_ones (all / 2 ^ (t + 1))
+  ones-on =
+      let a : count_ones (all / 2 ^ t) ≡ count_ones (all / 2 ^ p.i) = ap count_ones (sym (behind all)) ∙ ones-passed (t - p.i) (all / 2 ^ p.i) zeros in
+      let b : count_ones (all / 2 ^ t / 2) ≡ count_ones (all / 2 ^ (t + 1)) = ap count_ones (next-behind all t) in
+      omega (arith, a, b, odd, ones_step (all / 2 ^ t))
+
+-- no set bit is left
+none-left : (all left : ℕ) → left ≡ 0 → (p : AreLeft all left) → all / 2 ^ p.i ≡ 0
+none-left all left z p = sym p.same ∙ (ap (λ (k : ℕ). k / 2 ^ p.i) z ∙ zero-shifted p.i)
+
+-- ---- the places of a list: those that were pushed, and those that are left
+pub record IsPlacing (end : ℕ) (all : List ℕ) (starts : List ℕ) (pushed grown left len cap : ℕ) : Type 0 where
+  pub at : AreLeft pushed left
+  pub place : ℕ
+  pub ends : place + count_ones (grown / 2 ^ at.i) ≡ end
+  pub starts_are : starts ++ places place (word_bits (pushed / 2 ^ at.i) (64 - at.i)) (word_bits (grown / 2 ^ at.i) (64 - at.i)) ≡ all
+  pub room : len + (64 - at.i) ≤ cap
+
+pub placing-none : (first end : ℕ) (starts : List ℕ) (pushed grown len cap : ℕ) → end ≡ first + count_ones grown → len + 64 ≤ cap → IsPlacing end (starts ++ places first (word_bits pushed 64) (word_bits grown 64)) starts pushed grown pushed len cap
+unfolding all-left
+placing-none first end starts pushed grown len cap e room =
+    let a : pushed / 2 ^ 0 ≡ pushed = omega arith in
+    let b : grown / 2 ^ 0 ≡ grown = omega arith in
+    record {
+      at = all-left pushed;
+      place = first;
+      ends = rw b (sym e);
+      starts_are = rw (a, b) refl;
+      room = room;
+    }
+
+module _ (end : ℕ) (all starts : List ℕ) (pushed grown left len cap t : ℕ) (some : 0 < left) (fits : left < 2 ^ 64) (at : t ≡ trailing_zeros w64 left) (p : IsPlacing end all starts pushed grown left len cap) where
+  -- what comes before a place is not behind it
+  pub place-within : count_ones (grown / 2 ^ t) ≤ end
+  place-within =
+      let e : count_ones (grown / 2 ^ p.at.i / 2 ^ (t - p.at.i)) ≡ count_ones (grown / 2 ^ t) = ap count_ones (behind pushed left t some fits at p.at grown) in
+      omega (arith, ones-behind (t - p.at.i) (grown / 2 ^ p.at.i), e, p.ends)
 
   pub place-room : len < cap
-  place-room = omega (arith, p.is.room, place-inside)
+  place-room = omega (arith, p.room, inside pushed left t some fits at p.at, over pushed left t some fits at p.at)
 
-  pub place-few : count < 64
-  place-few = omega (arith, p.is.few, place-inside)
-
-  pub place-next : (starts' : List ℕ) (len' cap' : ℕ) → starts' ≡ starts ++ (first + t - less) ∷ [] → len' ≤ len + 1 → cap ≤ cap' → IsPlacing first all every starts' (bit_and left (left - 1)) grown (less + 1 - grown / 2 ^ t % 2) (count + 1) len' cap'
+  pub place-next : (starts' : List ℕ) (len' cap' : ℕ) → starts' ≡ starts ++ (end - count_ones (grown / 2 ^ t)) ∷ [] → len' ≤ len + 1 → cap ≤ cap' → IsPlacing end all starts' pushed grown (bit_and left (left - 1)) len' cap'
+  unfolding left-next
   place-next starts' len' cap' s l k =
-      let L : ℕ = left / 2 ^ p.i in
-      let M : ℕ = grown / 2 ^ p.i in
-      let gap : ℕ = t - p.i in
-      let low : grown / 2 ^ t % 2 < 2 = omega arith in
-      let place : first + p.i - less + gap ≡ first + t - less = omega (arith, p.few, here) in
-      let grows : M / 2 ^ gap ≡ grown / 2 ^ t = shr-shr grown p.i gap ∙ ap (λ (k : ℕ). grown / 2 ^ k) here in
-      let lefts : L / 2 ^ gap ≡ left / 2 ^ t = shr-shr left p.i gap ∙ ap (λ (k : ℕ). left / 2 ^ k) here in
-      let word : L / 2 ^ gap / 2 ≡ bit_and left (left - 1) / 2 ^ (t + 1) = ap (λ (k : ℕ). k / 2) lefts ∙ (shr-shr left t 1 ∙ sym ((lowest-cleared t left below lowest).0)) in
-      let more : M / 2 ^ gap / 2 ≡ grown / 2 ^ (t + 1) = ap (λ (k : ℕ). k / 2) grows ∙ shr-shr grown t 1 in
-      let after : first + p.i - less + gap + M / 2 ^ gap % 2 ≡ first + (t + 1) - (less + 1 - grown / 2 ^ t % 2) = omega (arith, place, ap (λ (k : ℕ). k % 2) grows, low, place-within) in
-      let next = listing-next first all every starts L M L (first + p.i - less) (2 ^ count - 1) count len cap gap p.is one zeros starts' (2 ^ (count + 1) - 1) len' cap' (s ∙ ap (λ (k : ℕ). starts ++ k ∷ []) (sym place)) (one-more L gap count one) l k in
+      let here : ℕ = end - count_ones (grown / 2 ^ t) in
+      let is : here + count_ones (grown / 2 ^ t) ≡ end = omega (arith, place-within) in
+      let half : count_ones (grown / 2 ^ t / 2) ≡ count_ones (grown / 2 ^ (t + 1)) = ap count_ones (next-behind grown t) in
+      let rest : List ℕ = places (here + grown / 2 ^ t % 2) (word_bits (pushed / 2 ^ (t + 1)) (64 - (t + 1))) (word_bits (grown / 2 ^ (t + 1)) (64 - (t + 1))) in
       record {
-        i = t + 1;
-        few = omega (arith, place-within, low);
-        is = rw (word, more, after) at next;
-        clear = (lowest-cleared t left below lowest).1;
+        at = left-next pushed left t some fits at p.at;
+        place = here + grown / 2 ^ t % 2;
+        ends = omega (arith, is, half, ones_step (grown / 2 ^ t));
+        starts_are = ap (λ (xs : List ℕ). xs ++ rest) s ∙ (append_assoc starts (here ∷ []) rest ∙ (ap (λ (xs : List ℕ). starts ++ xs) (sym (places-on pushed left t some fits at p.at p.place here grown (is ∙ sym p.ends))) ∙ p.starts_are));
+        room = omega (arith, p.room, l, k, over pushed left t some fits at p.at, inside pushed left t some fits at p.at);
       }
 
-pub placing-done : (first : ℕ) (all : List ℕ) (every : List Bool) (starts : List ℕ) (left grown less count len cap : ℕ) → left ≡ 0 → IsPlacing first all every starts left grown less count len cap → (starts ≡ all) × (word_bits (2 ^ count - 1) count ≡ every)
-placing-done first all every starts left grown less count len cap z p =
-    let none : left / 2 ^ p.i ≡ 0 = ap (λ (k : ℕ). k / 2 ^ p.i) z ∙ zero-shifted p.i in
-    listing-done first all every starts (left / 2 ^ p.i) (grown / 2 ^ p.i) (left / 2 ^ p.i) (first + p.i - less) (2 ^ count - 1) count len cap none p.is
+pub placing-done : (end : ℕ) (all starts : List ℕ) (pushed grown left len cap : ℕ) → left ≡ 0 → IsPlacing end all starts pushed grown left len cap → starts ≡ all
+placing-done end all starts pushed grown left len cap z p =
+    let none : word_bits (pushed / 2 ^ p.at.i) (64 - p.at.i) ≡ replicate (64 - p.at.i) false = ap (λ (k : ℕ). word_bits k (64 - p.at.i)) (none-left pushed left z p.at) ∙ zeros_word (64 - p.at.i) in
+    sym (append-nil starts) ∙ (ap (λ (xs : List ℕ). starts ++ xs) (sym (ap (λ (bs : List Bool). places p.place bs (word_bits (grown / 2 ^ p.at.i) (64 - p.at.i))) none ∙ places-none (64 - p.at.i) p.place (word_bits (grown / 2 ^ p.at.i) (64 - p.at.i)))) ∙ p.starts_are)
+
+-- ---- bits beside set bits
+pub record IsPicking (every : List Bool) (pushed there left word count : ℕ) : Type 0 where
+  pub at : AreLeft pushed left
+  pub bits_are : word_bits word count ++ chosen (word_bits (pushed / 2 ^ at.i) (64 - at.i)) (word_bits (there / 2 ^ at.i) (64 - at.i)) ≡ every
+  pub below : word < 2 ^ count
+  pub few : count ≤ at.i
+  pub ones : count + count_ones (pushed / 2 ^ at.i) ≡ count_ones pushed
+
+pub picking-none : (pushed there : ℕ) → IsPicking (chosen (word_bits pushed 64) (word_bits there 64)) pushed there pushed 0 0
+unfolding all-left
+picking-none pushed there =
+    let a : pushed / 2 ^ 0 ≡ pushed = omega arith in
+    let b : there / 2 ^ 0 ≡ there = omega arith in
+    record {
+      at = all-left pushed;
+      bits_are = rw (a, b) refl;
+      below = omega arith;
+      few = omega arith;
+      ones = rw a (omega arith);
+    }
+
+module _ (every : List Bool) (pushed there left word count t : ℕ) (some : 0 < left) (fits : left < 2 ^ 64) (at : t ≡ trailing_zeros w64 left) (p : IsPicking every pushed there left word count) where
+  pub pick-few : count < 64
+  pick-few = omega (arith, p.few, inside pushed left t some fits at p.at, over pushed left t some fits at p.at)
+
+  pub pick-next : (word' : ℕ) → word' ≡ word + there / 2 ^ t % 2 * 2 ^ count → IsPicking every pushed there (bit_and left (left - 1)) word' (count + 1)
+  unfolding left-next
+  pick-next word' w =
+      let low : ℕ = there / 2 ^ t % 2 in
+      let one : low < 2 = omega arith in
+      let rest : List Bool = chosen (word_bits (pushed / 2 ^ (t + 1)) (64 - (t + 1))) (word_bits (there / 2 ^ (t + 1)) (64 - (t + 1))) in
+      let power : 2 ^ (count + 1) ≡ 2 ^ count * 2 = rw add-one (pow-suc 2 count) in
+      let most : low * 2 ^ count ≤ 1 * 2 ^ count = mul-le low (2 ^ count) 1 (2 ^ count) (omega (arith, one)) (omega arith) in
+      let joined : word_bits word' (count + 1) ≡ word_bits word count ++ (low == 1) ∷ [] = ap (λ (k : ℕ). word_bits k (count + 1)) w ∙ (word-join count 1 word low p.below ∙ ap (λ (k : ℕ). word_bits word count ++ (k == 1) ∷ []) (let e : low % 2 ≡ low = omega (arith, one) in e)) in
+      record {
+        at = left-next pushed left t some fits at p.at;
+        bits_are = ap (λ (bs : List Bool). bs ++ rest) joined ∙ (append_assoc (word_bits word count) ((low == 1) ∷ []) rest ∙ (ap (λ (bs : List Bool). word_bits word count ++ bs) (sym (chosen-on pushed left t some fits at p.at there)) ∙ p.bits_are));
+        below = rw w (omega (arith, most, power, p.below));
+        few = omega (arith, p.few, over pushed left t some fits at p.at);
+        ones = omega (arith, p.ones, ones-on pushed left t some fits at p.at);
+      }
+
+pub picking-done : (every : List Bool) (pushed there left word count : ℕ) → left ≡ 0 → IsPicking every pushed there left word count → word_bits word (count_ones pushed) ≡ every
+picking-done every pushed there left word count z p =
+    let gone : pushed / 2 ^ p.at.i ≡ 0 = none-left pushed left z p.at in
+    let whole : count_ones pushed ≡ count = omega (arith, p.ones, ap count_ones gone, ones_le_self 0) in
+    let none : word_bits (pushed / 2 ^ p.at.i) (64 - p.at.i) ≡ replicate (64 - p.at.i) false = ap (λ (k : ℕ). word_bits k (64 - p.at.i)) gone ∙ zeros_word (64 - p.at.i) in
+    ap (word_bits word) whole ∙ (sym (append-nil (word_bits word count)) ∙ (ap (λ (bs : List Bool). word_bits word count ++ bs) (sym (ap (λ (bs : List Bool). chosen bs (word_bits (there / 2 ^ p.at.i) (64 - p.at.i))) none ∙ chosen-none (64 - p.at.i) (word_bits (there / 2 ^ p.at.i) (64 - p.at.i)))) ∙ p.bits_are))
+
+-- ---- where all are there, or all push
+chosen-full : (n a : ℕ) → a < 2 ^ n → chosen (word_bits a n) (word_bits a n) ≡ replicate (count_ones a) true
+unfolding chosen
+chosen-full zero a h = let z : count_ones a ≡ 0 = omega (arith, ones_le_self a, h) in rw z refl
+chosen-full (suc n) a h = by (a % 2) refl (omega arith) (chosen-full n (a / 2) (omega (arith, h)))
+  where
+    by : (low : ℕ) → a % 2 ≡ low → low < 2 → chosen (word_bits (a / 2) n) (word_bits (a / 2) n) ≡ replicate (count_ones (a / 2)) true → cond (a % 2 == 1) ((a % 2 == 1) ∷ chosen (word_bits (a / 2) n) (word_bits (a / 2) n)) (chosen (word_bits (a / 2) n) (word_bits (a / 2) n)) ≡ replicate (count_ones a) true
+    by zero e l rest = let same : count_ones a ≡ count_ones (a / 2) = omega (arith, ones_step a, e) in rw (e, same) rest
+    by (suc zero) e l rest = let more : count_ones a ≡ suc (count_ones (a / 2)) = omega (arith, ones_step a, e) in rw (e, more) (ap (λ (bs : List Bool). true ∷ bs) rest)
+    by (suc (suc low)) e l rest = absurd (omega (arith, l))
+
+pub picked-full : (pushed there : ℕ) → pushed < 2 ^ 64 → bit_and pushed there ≡ pushed → word_bits (2 ^ 64 - 1) (count_ones pushed) ≡ chosen (word_bits pushed 64) (word_bits there 64)
+picked-full pushed there h e = ones_word (count_ones pushed) (ones-of-word pushed h) ∙ (sym (chosen-full 64 pushed h) ∙ sym (chosen-within 64 pushed there e))
+
+chosen-all : (n : ℕ) (vs : List Bool) → length vs ≡ n → chosen (replicate n true) vs ≡ vs
+unfolding chosen
+chosen-all zero [] e = refl
+chosen-all zero (v ∷ vs) e = absurd (omega (arith, e))
+chosen-all (suc n) [] e = absurd (omega (arith, e))
+chosen-all (suc n) (v ∷ vs) e = ap (λ (bs : List Bool). v ∷ bs) (chosen-all n vs (omega (arith, e)))
+
+-- a word of 64 set bits has 64
+ones-full : (n : ℕ) → count_ones (2 ^ n - 1) ≡ n
+ones-full zero = omega (arith, ones_le_self (2 ^ 0 - 1))
+ones-full (suc n) =
+    let p : 2 ^ suc n ≡ 2 ^ n * 2 = pow-suc 2 n in
+    let some : 0 < 2 ^ n = pow_pos n in
+    let low : (2 ^ suc n - 1) % 2 ≡ 1 = omega (arith, p, some) in
+    let high : (2 ^ suc n - 1) / 2 ≡ 2 ^ n - 1 = omega (arith, p, some) in
+    omega (arith, ones_step (2 ^ suc n - 1), low, ap count_ones high, ones-full n)
+
+pub picked-all : (pushed there : ℕ) → pushed ≡ 2 ^ 64 - 1 → word_bits there (count_ones pushed) ≡ chosen (word_bits pushed 64) (word_bits there 64)
+picked-all pushed there e =
+    let size : count_ones pushed ≡ 64 = ap count_ones e ∙ ones-full 64 in
+    let all : word_bits pushed 64 ≡ replicate 64 true = ap (λ (k : ℕ). word_bits k 64) e ∙ ones_word 64 (omega arith) in
+    ap (word_bits there) size ∙ sym (ap (λ (bs : List Bool). chosen bs (word_bits there 64)) all ∙ chosen-all 64 (word_bits there 64) (length-word there 64))

@@ -1,5 +1,5 @@
 //! A block of pairs, part by part.
-ghost use Rattle.std.specs.Prelude.{◌≡◌, ℕ, ◌+◌, ◌*◌, ◌<◌, ◌≤◌, ◌^◌, ◌++◌, ◌∷◌, [], IfErr, OnOk, IsTrue, Bool, replicate, slice_index, Some, None, slice_index_or, false, true, List, length};
+ghost use Rattle.std.specs.Prelude.{◌≡◌, ℕ, ◌+◌, ◌*◌, ◌<◌, ◌≤◌, ◌^◌, ◌∷◌, IfErr, OnOk, IsTrue, Bool, replicate, slice_index, Some, None, slice_index_or, false, true, length};
 ghost use Rattle.columns_base.specs.declared.error.Error.{Error};
 ghost use Rattle.columns_core.specs.Bits.{word_bits};
 ghost use Rattle.read_laws.specs.State.{kept_leaf, kept_list, kept_struct};
@@ -12,7 +12,7 @@ ghost use Rattle.read_state.specs.Ticks.{TicksAtMost};
 use crate::boxes::NestedBox;
 use crate::kinds::Nested;
 use crate::parts::{bit, both, first_len, pushes};
-use crate::plain::{count_words, optional_words, valid_words, words_to};
+use crate::plain::words_to;
 use crate::pushes::{more, push_length};
 use crate::steps::Steps;
 use crate::stretch::push_to;
@@ -68,17 +68,6 @@ fn hidden_beneath(
     [false; 64]
 }
 
-// Whether no pair lies beneath a null.
-fn none_hidden(hidden: &[bool]) -> bool
-    ensures { IsTrue result → (k : ℕ) → k < length hidden.now → slice_index_or hidden.now k false ≡ false }
-{
-    let mut any = false;
-    for one in hidden {
-        any = any | *one;
-    }
-    !any
-}
-
 // 1 for true, 0 for false.
 fn one_if(b: bool) -> u32
     ensures { result ≡ bit b }
@@ -86,7 +75,7 @@ fn one_if(b: bool) -> u32
     if b { 1 } else { 0 }
 }
 
-// How many of the pairs push to a part that only counts them, one by one.
+// How many of the pairs push to a part that only counts them.
 fn count_each(reps: &[u32], defs: &[u32], hidden: &[bool], depth: usize, def: usize) -> usize
     requires defs { length defs.now ≡ length reps.now }
     requires hidden { length reps.now ≤ length hidden.now }
@@ -100,22 +89,7 @@ fn count_each(reps: &[u32], defs: &[u32], hidden: &[bool], depth: usize, def: us
     count
 }
 
-// How many of the pairs push to a part that only counts them.
-fn count_block(reps: &[u32], defs: &[u32], hidden: &[bool], depth: usize, def: usize) -> usize
-    requires few { length reps.now ≤ 64 }
-    requires defs { length defs.now ≡ length reps.now }
-    requires hidden { length reps.now ≤ length hidden.now }
-    ensures leaf { (n : Bool) → (c place : ℕ) → pushed_all (kept_leaf n c) place depth def (marks_of reps.now defs.now hidden.now) ≡ kept_leaf n (c + result) }
-    ensures required { (c place : ℕ) → pushed_all (kept_struct None c) place depth def (marks_of reps.now defs.now hidden.now) ≡ kept_struct None (c + result) }
-{
-    if is_plain(reps, hidden, depth, def) {
-        let pushed = reached_word(reps, defs, depth as u32, def as u32);
-        return count_words(reps, defs, pushed, depth, def);
-    }
-    count_each(reps, defs, hidden, depth, def)
-}
-
-// Pushes the pairs to a nullable list, one by one.
+// Pushes the pairs to a nullable list.
 fn optional_each(
     lengths: &mut Vec<i64>,
     validity: &mut MutableBitmap,
@@ -147,7 +121,7 @@ fn optional_each(
     Ok(())
 }
 
-// Pushes the pairs to a required list, one by one.
+// Pushes the pairs to a required list.
 fn valid_each(
     lengths: &mut Vec<i64>,
     reps: &[u32],
@@ -175,81 +149,6 @@ fn valid_each(
         place += bit(pushes(rep, level, false, depth + 1, def + 1));
     }
     Ok(())
-}
-
-// Whether these are 64 pairs, none beneath a null, and the levels above the part are told by 32 bits.
-fn is_plain(reps: &[u32], hidden: &[bool], depth: usize, def: usize) -> bool
-    ensures size { IsTrue result → length reps.now ≡ 64 }
-    ensures deep { IsTrue result → depth + 1 < 2 ^ 32 }
-    ensures few { IsTrue result → def + 2 < 2 ^ 32 }
-    ensures none { IsTrue result → (k : ℕ) → k < length hidden.now → slice_index_or hidden.now k false ≡ false }
-{
-    if reps.len() != 64 {
-        return false;
-    }
-    if depth.max(def) >= 0xffff_0000 {
-        return false;
-    }
-    none_hidden(hidden)
-}
-
-// Pushes the pairs to a nullable list.
-fn push_optional(
-    lengths: &mut Vec<i64>,
-    validity: &mut MutableBitmap,
-    reps: &[u32],
-    defs: &[u32],
-    hidden: &[bool],
-    depth: usize,
-    def: usize,
-    first: usize,
-) -> Result<()>
-    requires defs { length defs.now ≡ length reps.now }
-    requires hidden { length reps.now ≤ length hidden.now }
-    requires places { first + length reps.now < 2 ^ 64 }
-    requires few { def + 2 < 2 ^ 64 }
-    requires deep { depth + 1 < 2 ^ 64 }
-    ensures ok { OnOk result (kept_list (Some validity.new.0) (starts_of lengths.new.items) ≡ pushed_all (kept_list (Some validity.old.0) (starts_of lengths.old.items)) first depth def (marks_of reps.now defs.now hidden.now)) }
-    ensures err { IfErr result (λ e. e ≡ Error.Memory) }
-{
-    if is_plain(reps, hidden, depth, def) {
-        let pushed = reached_word(reps, defs, depth as u32, def as u32);
-        let grown = reached_word(reps, defs, (depth + 1) as u32, (def + 2) as u32);
-        if pushed | grown == u64::MAX {
-            return optional_words(
-                lengths, validity, reps, defs, pushed, grown, depth, def, first,
-            );
-        }
-    }
-    optional_each(lengths, validity, reps, defs, hidden, depth, def, first)
-}
-
-// Pushes the pairs to a required list.
-fn push_valid(
-    lengths: &mut Vec<i64>,
-    reps: &[u32],
-    defs: &[u32],
-    hidden: &[bool],
-    depth: usize,
-    def: usize,
-    first: usize,
-) -> Result<()>
-    requires defs { length defs.now ≡ length reps.now }
-    requires hidden { length reps.now ≤ length hidden.now }
-    requires places { first + length reps.now < 2 ^ 64 }
-    requires few { def + 2 < 2 ^ 64 }
-    requires deep { depth + 1 < 2 ^ 64 }
-    ensures ok { OnOk result (kept_list None (starts_of lengths.new.items) ≡ pushed_all (kept_list None (starts_of lengths.old.items)) first depth def (marks_of reps.now defs.now hidden.now)) }
-    ensures err { IfErr result (λ e. e ≡ Error.Memory) }
-{
-    if is_plain(reps, hidden, depth, def) {
-        let pushed = reached_word(reps, defs, depth as u32, def as u32);
-        let grown = reached_word(reps, defs, (depth + 1) as u32, (def + 1) as u32);
-        if pushed | grown == u64::MAX {
-            return valid_words(lengths, reps, defs, pushed, grown, depth, def, first);
-        }
-    }
-    valid_each(lengths, reps, defs, hidden, depth, def, first)
 }
 
 // A word of bits and their number, with one more in front.
@@ -310,12 +209,8 @@ fn push_struct(
     validity.extend_from_word(word, count)
 }
 
-/// Pushes the pairs to one part, where the part beneath it has `first` slots before them.
-///
-/// # Errors
-///
-/// `Memory`; the part may then have some of the pushes.
-pub fn push_part(
+// Pushes the pairs to one part, where the part beneath it has `first` slots before them.
+fn push_part(
     part: &mut NestedBox,
     reps: &[u32],
     defs: &[u32],
@@ -335,10 +230,10 @@ pub fn push_part(
 {
     match part {
         NestedBox::Primitive(leaf) => {
-            leaf.pushes = more(leaf.pushes, count_block(reps, defs, hidden, depth, def))?;
+            leaf.pushes = more(leaf.pushes, count_each(reps, defs, hidden, depth, def))?;
             Ok(())
         }
-        NestedBox::Optional(list) => push_optional(
+        NestedBox::Optional(list) => optional_each(
             &mut list.lengths,
             &mut list.validity,
             reps,
@@ -349,22 +244,18 @@ pub fn push_part(
             first,
         ),
         NestedBox::Valid(list) => {
-            push_valid(&mut list.lengths, reps, defs, hidden, depth, def, first)
+            valid_each(&mut list.lengths, reps, defs, hidden, depth, def, first)
         }
         NestedBox::Struct(part) => push_struct(&mut part.validity, reps, defs, hidden, depth, def),
         NestedBox::StructValid(part) => {
-            part.pushes = more(part.pushes, count_block(reps, defs, hidden, depth, def))?;
+            part.pushes = more(part.pushes, count_each(reps, defs, hidden, depth, def))?;
             Ok(())
         }
     }
 }
 
-/// Pushes a block of pairs to the parts, which lie beneath `depth` lists and `def` definition levels.
-///
-/// # Errors
-///
-/// `Memory`; some parts may then have the pushes.
-pub fn block_to<L: Ledger>(
+// Pushes a block of pairs to the parts, which lie beneath `depth` lists and `def` definition levels.
+fn block_to<L: Ledger>(
     parts: &mut [NestedBox],
     reps: &[u32],
     defs: &[u32],
@@ -451,7 +342,7 @@ pub fn push_all<L: Ledger>(
             steps,
         );
     }
-    if reps.len() == 64 {
+    if reps.len() == 64 && parts.len() < 0x1000_0000 {
         let pushed = reached_word(reps, defs, 0, 0);
         return words_to(parts, reps, defs, pushed, 0, 0, steps);
     }

@@ -1,6 +1,8 @@
-use Rattle.std.proofs.Common.{length, arith, refl}
+use Rattle.std.proofs.Common.{length, replicate, false, arith, refl, ◌∙◌}
 use Rattle.std.proofs.lemmas.Result.{on_ok_weaker}
 use Rattle.read_state.specs.Kinds.{all_kept}
+use Rattle.read_state.specs.Marks.{marks_of}
+use Rattle.read_state.proofs.Marked.{marked-first}
 use Rattle.read_state.proofs.Long.{stretch-is-block, none-is-block}
 use Rattle.read_state.proofs.block.push_all.Goals as goal
 
@@ -11,3 +13,9 @@ pub returns-then-are_alike-clause-ok : goal.returns-then-are_alike-clause-ok
 returns-then-are_alike-clause-ok g c =
     let same = c.if-are_alike.ensures refl in
     on_ok_weaker c.push_to.result (λ e. stretch-is-block (length c.args.reps.now) _ _ c.args.reps.now c.args.defs.now (all_kept c.args.parts.now) (all_kept c.push_to.new.parts) c.requires.reps same.0 same.1 c.requires.fits e) c.push_to.ensures.ok
+
+pub returns-then-parts-lt268435456-clause-ok : goal.returns-then-parts-lt268435456-clause-ok
+returns-then-parts-lt268435456-clause-ok g c =
+    let reps = c.args.reps.now in
+    let defs = c.args.defs.now in
+    c.words_to.ensures.ok (marks_of reps defs (replicate 64 false)) (λ some. marked-first c.reached_word-pushed.result 0 0 reps defs c.if-reps-eq64.true (c.requires.defs ∙ c.if-reps-eq64.true) c.reached_word-pushed.ensures)
