@@ -1,16 +1,17 @@
 -- A list's places and validities, taken from one set bit of a word to the next.
-use Rattle.std.proofs.Common.{◌≡◌, ℕ, zero, suc, ◌+◌, ◌-◌, ◌*◌, ◌/◌, ◌%◌, ◌^◌, ◌<◌, ◌≤◌, ◌==◌, ◌&&◌, Bool, true, false, true≢false, cond, bit_and, count_ones, inl, inr, List, [], ◌∷◌, ◌++◌, length, replicate, refl, arith, ap, sym, ◌∙◌, append_assoc, append-nil, add-one, pow-suc}
+use Rattle.std.proofs.Common.{◌≡◌, ℕ, zero, suc, ◌+◌, ◌-◌, ◌*◌, ◌/◌, ◌%◌, ◌^◌, ◌<◌, ◌≤◌, ◌==◌, Bool, true, false, true≢false, cond, bit_and, count_ones, min, inl, inr, List, [], ◌∷◌, ◌++◌, length, replicate, refl, arith, ap, sym, ◌∙◌, append_assoc, append-nil, length-append, pow-suc}
 use Rattle.std.specs.Int.{bit_at, w64, trailing_zeros}
 use Rattle.std.proofs.lemmas.Bool.{cases_lt}
-use Rattle.std.proofs.lemmas.Nat.{shr-shr, shr_below, mul-le, and_shr, pow_pos, ones_le_self}
+use Rattle.std.proofs.lemmas.List.{length-replicate}
+use Rattle.std.proofs.lemmas.Nat.{shr-shr, shr_below, and_shr, and_le_l, pow_pos, ones_le_self}
 use lib.Count.{ones_step}
 use Rattle.std.specs.Int.Bits.{and_self}
-use Rattle.std.proofs.lemmas.Nat.Bits.{bit_at-trailing_zeros, bit_at_lowest, bit_at-suc, bit_at-zero, bit_at_and}
+use Rattle.std.proofs.lemmas.Nat.Bits.{bit_at-trailing_zeros, bit_at_lowest, bit_at-suc, bit_at-zero, bit_at_and, bit_at-lt}
 use Rattle.columns_core.specs.Bits.{word_bits}
 use Rattle.columns_core.proofs.Words.{zeros_word, ones_word}
 use Rattle.read_laws.specs.Step.{bit}
 use Rattle.read_state.specs.Reach.{chosen, places}
-use Rattle.read_state.proofs.Compared.{word-join, length-word, bit-of, both-first}
+use Rattle.read_state.proofs.Compared.{length-word, bit-of, heads, tails}
 
 places-none : (n place : ℕ) (gs : List Bool) → places place (replicate n false) gs ≡ []
 unfolding places
@@ -66,46 +67,9 @@ places-taken : (n place a g : ℕ) → a % 2 ≡ 1 → places place (word_bits a
 unfolding places
 places-taken n place a g e = rw (e, bit-of (g % 2) (omega arith)) refl
 
-chosen-passed : (k n a v : ℕ) → ((j : ℕ) → j < k → bit_at a j ≡ 0) → chosen (word_bits a (k + n)) (word_bits v (k + n)) ≡ chosen (word_bits (a / 2 ^ k) n) (word_bits (v / 2 ^ k) n)
-unfolding chosen
-chosen-passed zero n a v clear =
-    let b : a / 2 ^ 0 ≡ a = omega arith in
-    let c : v / 2 ^ 0 ≡ v = omega arith in
-    let count : 0 + n ≡ n = omega arith in
-    rw (b, c, count) refl
-chosen-passed (suc k) n a v clear =
-    let count : suc k + n ≡ suc (k + n) = omega arith in
-    let step : suc k ≡ 1 + k = omega arith in
-    let b : a / 2 ^ suc k ≡ a / 2 / 2 ^ k = ap (λ (m : ℕ). a / 2 ^ m) step ∙ sym (shr-shr a 1 k) in
-    let c : v / 2 ^ suc k ≡ v / 2 / 2 ^ k = ap (λ (m : ℕ). v / 2 ^ m) step ∙ sym (shr-shr v 1 k) in
-    let low : a % 2 ≡ 0 = sym (bit_at_lowest a) ∙ clear 0 (omega arith) in
-    rw (count, b, c, low) (chosen-passed k n (a / 2) (v / 2) (λ j h. sym (bit_at-suc a j) ∙ clear (suc j) (omega (arith, h))))
-
 chosen-taken : (n a v : ℕ) → a % 2 ≡ 1 → chosen (word_bits a (suc n)) (word_bits v (suc n)) ≡ (v % 2 == 1) ∷ chosen (word_bits (a / 2) n) (word_bits (v / 2) n)
 unfolding chosen
 chosen-taken n a v e = rw e refl
-
--- no bit is set before one, and how many are from it on
-ones-passed : (k a : ℕ) → ((j : ℕ) → j < k → bit_at a j ≡ 0) → count_ones (a / 2 ^ k) ≡ count_ones a
-ones-passed zero a clear = let b : a / 2 ^ 0 ≡ a = omega arith in rw b refl
-ones-passed (suc k) a clear =
-    let step : suc k ≡ 1 + k = omega arith in
-    let b : a / 2 ^ suc k ≡ a / 2 / 2 ^ k = ap (λ (m : ℕ). a / 2 ^ m) step ∙ sym (shr-shr a 1 k) in
-    let low : a % 2 ≡ 0 = sym (bit_at_lowest a) ∙ clear 0 (omega arith) in
-    ap count_ones b ∙ (ones-passed k (a / 2) (λ j h. sym (bit_at-suc a j) ∙ clear (suc j) (omega (arith, h))) ∙ omega (arith, ones_step a, low))
-
-chosen-step : (x y : Bool) (r s : List Bool) → x ≡ (x && y) → r ≡ s → cond x (y ∷ r) r ≡ cond x (x ∷ s) s
-chosen-step true true r s e f = ap (λ (bs : List Bool). true ∷ bs) f
-chosen-step true false r s e f = absurd (true≢false e)
-chosen-step false y r s e f = f
-
-pub chosen-within : (n a b : ℕ) → bit_and a b ≡ a → chosen (word_bits a n) (word_bits b n) ≡ chosen (word_bits a n) (word_bits a n)
-unfolding chosen
-chosen-within zero a b e = refl
-chosen-within (suc n) a b e =
-    let here : (a % 2 == 1) ≡ ((a % 2 == 1) && (b % 2 == 1)) = ap (λ (k : ℕ). k % 2 == 1) (sym e) ∙ both-first a b in
-    let half : bit_and (a / 2) (b / 2) ≡ a / 2 = sym (and_shr a b 1) ∙ ap (λ (k : ℕ). k / 2) e in
-    chosen-step (a % 2 == 1) (b % 2 == 1) _ _ here (chosen-within n (a / 2) (b / 2) half)
 
 -- ---- set bits that stand at their places
 -- a word's bits from a place on
@@ -208,20 +172,6 @@ module _ (all left t : ℕ) (some : 0 < left) (fits : left < 2 ^ 64) (at : t ≡
       ∙ (places-passed (t - p.i) (suc n) place place' (all / 2 ^ p.i) (grown / 2 ^ p.i) zeros sum
       ∙ rw (behind all, behind grown, ← next-behind all t, ← next-behind grown t) (places-taken n place' (all / 2 ^ t) (grown / 2 ^ t) odd))
 
-  chosen-on : (there : ℕ) → chosen (word_bits (all / 2 ^ p.i) (64 - p.i)) (word_bits (there / 2 ^ p.i) (64 - p.i)) ≡ (there / 2 ^ t % 2 == 1) ∷ chosen (word_bits (all / 2 ^ (t + 1)) (64 - (t + 1))) (word_bits (there / 2 ^ (t + 1)) (64 - (t + 1)))
-  chosen-on there =
-      let n : ℕ = 64 - (t + 1) in
-      let split : 64 - p.i ≡ (t - p.i) + suc n = omega (arith, over, inside) in
-      ap (λ (k : ℕ). chosen (word_bits (all / 2 ^ p.i) k) (word_bits (there / 2 ^ p.i) k)) split
-      ∙ (chosen-passed (t - p.i) (suc n) (all / 2 ^ p.i) (there / 2 ^ p.i) zeros
-      ∙ rw (behind all, behind there, ← next-behind all t, ← next-behind there t) (chosen-taken n (all / 2 ^ t) (there / 2 ^ t) odd))
-
-  ones-on : count_ones (all / 2 ^ p.i) ≡ 1 + count_ones (all / 2 ^ (t + 1))
-  ones-on =
-      let a : count_ones (all / 2 ^ t) ≡ count_ones (all / 2 ^ p.i) = ap count_ones (sym (behind all)) ∙ ones-passed (t - p.i) (all / 2 ^ p.i) zeros in
-      let b : count_ones (all / 2 ^ t / 2) ≡ count_ones (all / 2 ^ (t + 1)) = ap count_ones (next-behind all t) in
-      omega (arith, a, b, odd, ones_step (all / 2 ^ t))
-
 -- no set bit is left
 none-left : (all left : ℕ) → left ≡ 0 → (p : AreLeft all left) → all / 2 ^ p.i ≡ 0
 none-left all left z p = sym p.same ∙ (ap (λ (k : ℕ). k / 2 ^ p.i) z ∙ zero-shifted p.i)
@@ -277,69 +227,193 @@ placing-done end all starts pushed grown left len cap z p =
     let none : word_bits (pushed / 2 ^ p.at.i) (64 - p.at.i) ≡ replicate (64 - p.at.i) false = ap (λ (k : ℕ). word_bits k (64 - p.at.i)) (none-left pushed left z p.at) ∙ zeros_word (64 - p.at.i) in
     sym (append-nil starts) ∙ (ap (λ (xs : List ℕ). starts ++ xs) (sym (ap (λ (bs : List Bool). places p.place bs (word_bits (grown / 2 ^ p.at.i) (64 - p.at.i))) none ∙ places-none (64 - p.at.i) p.place (word_bits (grown / 2 ^ p.at.i) (64 - p.at.i)))) ∙ p.starts_are)
 
--- ---- bits beside set bits
-pub record IsPicking (every : List Bool) (pushed there left word count : ℕ) : Type 0 where
-  pub at : AreLeft pushed left
-  pub bits_are : word_bits word count ++ chosen (word_bits (pushed / 2 ^ at.i) (64 - at.i)) (word_bits (there / 2 ^ at.i) (64 - at.i)) ≡ every
-  pub below : word < 2 ^ count
-  pub few : count ≤ at.i
-  pub ones : count + count_ones (pushed / 2 ^ at.i) ≡ count_ones pushed
+-- ---- bits beside set bits, most of which are set: what a word has that another one lacks
+missing-bit : (i a b : ℕ) → bit_at (a - bit_and a b) i + min (bit_at a i) (bit_at b i) ≡ bit_at a i
+missing-bit zero a b =
+    let low : bit_and a b % 2 ≡ min (a % 2) (b % 2) = sym (bit_at_lowest (bit_and a b)) ∙ (bit_at_and a b 0 ∙ (ap (λ (k : ℕ). min k (bit_at b 0)) (bit_at_lowest a) ∙ ap (λ (k : ℕ). min (a % 2) k) (bit_at_lowest b))) in
+    let first : (a - bit_and a b) % 2 + min (a % 2) (b % 2) ≡ a % 2 = omega (arith, and_le_l a b, and_le_l (a / 2) (b / 2), and_shr a b 1, low) in
+    rw (bit_at_lowest (a - bit_and a b), bit_at_lowest a, bit_at_lowest b) first
+missing-bit (suc i) a b =
+    let low : bit_and a b % 2 ≡ min (a % 2) (b % 2) = sym (bit_at_lowest (bit_and a b)) ∙ (bit_at_and a b 0 ∙ (ap (λ (k : ℕ). min k (bit_at b 0)) (bit_at_lowest a) ∙ ap (λ (k : ℕ). min (a % 2) k) (bit_at_lowest b))) in
+    let next : (a - bit_and a b) / 2 ≡ a / 2 - bit_and (a / 2) (b / 2) = omega (arith, and_le_l a b, and_le_l (a / 2) (b / 2), and_shr a b 1, low) in
+    rw (bit_at-suc (a - bit_and a b) i, bit_at-suc a i, bit_at-suc b i, next) (missing-bit i (a / 2) (b / 2))
 
-pub picking-none : (pushed there : ℕ) → IsPicking (chosen (word_bits pushed 64) (word_bits there 64)) pushed there pushed 0 0
+pub not-missing : (a b i : ℕ) → bit_at (a - bit_and a b) i ≡ 0 → bit_at a i ≡ 1 → bit_at b i ≡ 1
+not-missing a b i e f = omega (arith, missing-bit i a b, e, f, bit_at-lt b i)
+
+pub is-missing : (a b i : ℕ) → bit_at (a - bit_and a b) i ≡ 1 → (bit_at a i ≡ 1) × (bit_at b i ≡ 0)
+is-missing a b i e = (omega (arith, missing-bit i a b, e, bit_at-lt a i, bit_at-lt b i), omega (arith, missing-bit i a b, e, bit_at-lt a i, bit_at-lt b i))
+
+present-passed : (k n r a v : ℕ) → ((j : ℕ) → j < k → bit_at a j ≡ 1 → bit_at v j ≡ 1) → r + count_ones (a / 2 ^ k) ≡ count_ones a → chosen (word_bits a (k + n)) (word_bits v (k + n)) ≡ replicate r true ++ chosen (word_bits (a / 2 ^ k) n) (word_bits (v / 2 ^ k) n)
+unfolding chosen
+present-passed zero n r a v full e =
+    let b : a / 2 ^ 0 ≡ a = omega arith in
+    let c : v / 2 ^ 0 ≡ v = omega arith in
+    let count : 0 + n ≡ n = omega arith in
+    let none : r ≡ 0 = omega (arith, rw b at e) in
+    rw (b, c, count, none) refl
+present-passed (suc k) n r a v full e =
+    let count : suc k + n ≡ suc (k + n) = omega arith in
+    let step : suc k ≡ 1 + k = omega arith in
+    let b : a / 2 ^ suc k ≡ a / 2 / 2 ^ k = ap (λ (m : ℕ). a / 2 ^ m) step ∙ sym (shr-shr a 1 k) in
+    let c : v / 2 ^ suc k ≡ v / 2 / 2 ^ k = ap (λ (m : ℕ). v / 2 ^ m) step ∙ sym (shr-shr v 1 k) in
+    let others = λ (s : ℕ) (f : s + count_ones (a / 2 / 2 ^ k) ≡ count_ones (a / 2)). present-passed k n s (a / 2) (v / 2) (λ j h p. sym (bit_at-suc v j) ∙ full (suc j) (omega (arith, h)) (bit_at-suc a j ∙ p)) f in
+    let most : count_ones (a / 2 / 2 ^ k) ≤ count_ones (a / 2) = ones-behind k (a / 2) in
+    rw (count, b, c) (by (a % 2) refl (omega arith) r (rw b at e) most others)
+  where
+    by : (low : ℕ) → a % 2 ≡ low → low < 2 → (r : ℕ) → r + count_ones (a / 2 / 2 ^ k) ≡ count_ones a → count_ones (a / 2 / 2 ^ k) ≤ count_ones (a / 2) → ((s : ℕ) → s + count_ones (a / 2 / 2 ^ k) ≡ count_ones (a / 2) → chosen (word_bits (a / 2) (k + n)) (word_bits (v / 2) (k + n)) ≡ replicate s true ++ chosen (word_bits (a / 2 / 2 ^ k) n) (word_bits (v / 2 / 2 ^ k) n)) → cond (a % 2 == 1) ((v % 2 == 1) ∷ chosen (word_bits (a / 2) (k + n)) (word_bits (v / 2) (k + n))) (chosen (word_bits (a / 2) (k + n)) (word_bits (v / 2) (k + n))) ≡ replicate r true ++ chosen (word_bits (a / 2 / 2 ^ k) n) (word_bits (v / 2 / 2 ^ k) n)
+    by zero l h r e most others = rw l (others r (omega (arith, e, l, ones_step a)))
+    by (suc zero) l h zero e most others = absurd (omega (arith, e, l, ones_step a, most))
+    by (suc zero) l h (suc r) e most others =
+        let there : v % 2 ≡ 1 = sym (bit_at_lowest v) ∙ full 0 (omega arith) (bit_at_lowest a ∙ l) in
+        rw (l, there) (ap (λ (bs : List Bool). true ∷ bs) (others r (omega (arith, e, l, ones_step a))))
+    by (suc (suc low)) l h r e most others = absurd (omega (arith, h))
+
+-- a set bit taken away
+pub bit-within : (w n : ℕ) (front bs : List Bool) → word_bits w n ≡ front ++ true ∷ bs → 2 ^ length front ≤ w
+bit-within w zero [] bs e = absurd (omega (arith, ap length e))
+bit-within w zero (a ∷ front) bs e = absurd (omega (arith, ap length e))
+bit-within w (suc n) [] bs e = by (w % 2) refl (heads _ _ _ _ e)
+  where
+    by : (low : ℕ) → w % 2 ≡ low → (low == 1) ≡ true → 2 ^ length {A = Bool} [] ≤ w
+    by zero l f = absurd (true≢false (sym f))
+    by (suc low) l f = omega (arith, l)
+bit-within w (suc n) (a ∷ front) bs e =
+    let half : 2 ^ length front ≤ w / 2 = bit-within (w / 2) n front bs (tails _ _ _ _ e) in
+    let p : 2 ^ suc (length front) ≡ 2 ^ length front * 2 = pow-suc 2 (length front) in
+    omega (arith, half, p)
+
+pub bit-cleared : (w n : ℕ) (front bs : List Bool) → word_bits w n ≡ front ++ true ∷ bs → word_bits (w - 2 ^ length front) n ≡ front ++ false ∷ bs
+bit-cleared w zero [] bs e = absurd (omega (arith, ap length e))
+bit-cleared w zero (a ∷ front) bs e = absurd (omega (arith, ap length e))
+bit-cleared w (suc n) [] bs e = by (w % 2) refl (omega arith) (heads _ _ _ _ e) (tails _ _ _ _ e)
+  where
+    by : (low : ℕ) → w % 2 ≡ low → low < 2 → (low == 1) ≡ true → word_bits (w / 2) n ≡ bs → word_bits (w - 1) (suc n) ≡ false ∷ bs
+    by zero l h f rest = absurd (true≢false (sym f))
+    by (suc low) l h f rest =
+        let even : (w - 1) % 2 ≡ 0 = omega (arith, l, h) in
+        let half : (w - 1) / 2 ≡ w / 2 = omega (arith, l, h) in
+        rw (even, half) (ap (λ (cs : List Bool). false ∷ cs) rest)
+bit-cleared w (suc n) (a ∷ front) bs e =
+    let within : 2 ^ length front ≤ w / 2 = bit-within (w / 2) n front bs (tails _ _ _ _ e) in
+    let p : 2 ^ suc (length front) ≡ 2 ^ length front * 2 = pow-suc 2 (length front) in
+    let low : (w - 2 ^ suc (length front)) % 2 ≡ w % 2 = omega (arith, within, p) in
+    let half : (w - 2 ^ suc (length front)) / 2 ≡ w / 2 - 2 ^ length front = omega (arith, within, p) in
+    rw (low, half) (cons-bits (heads _ _ _ _ e) (bit-cleared (w / 2) n front bs (tails _ _ _ _ e)))
+  where
+    cons-bits : {b c : Bool} → {xs ys : List Bool} → b ≡ c → xs ≡ ys → b ∷ xs ≡ c ∷ ys
+    cons-bits f g = rw (f, g) refl
+
+more-copies : (r n : ℕ) → replicate (r + suc n) true ≡ replicate r true ++ true ∷ replicate n true
+more-copies zero n = let e : 0 + suc n ≡ suc n = omega arith in rw e refl
+more-copies (suc r) n = let e : suc r + suc n ≡ suc (r + suc n) = omega arith in rw e (ap (λ (bs : List Bool). true ∷ bs) (more-copies r n))
+
+-- what was picked, and what is left of which all may be there
+pub record IsPicking (every : List Bool) (pushed there left word : ℕ) : Type 0 where
+  pub at : AreLeft (pushed - bit_and pushed there) left
+  pub taken : List Bool
+  pub word_is : word_bits word (count_ones pushed) ≡ taken ++ replicate (count_ones (pushed / 2 ^ at.i)) true
+  pub bits_are : taken ++ chosen (word_bits (pushed / 2 ^ at.i) (64 - at.i)) (word_bits (there / 2 ^ at.i) (64 - at.i)) ≡ every
+  pub size : length taken + count_ones (pushed / 2 ^ at.i) ≡ count_ones pushed
+
+pub picking-none : (pushed there : ℕ) → pushed < 2 ^ 64 → IsPicking (chosen (word_bits pushed 64) (word_bits there 64)) pushed there (pushed - bit_and pushed there) (2 ^ 64 - 1)
 unfolding all-left
-picking-none pushed there =
+picking-none pushed there h =
     let a : pushed / 2 ^ 0 ≡ pushed = omega arith in
     let b : there / 2 ^ 0 ≡ there = omega arith in
     record {
-      at = all-left pushed;
+      at = all-left (pushed - bit_and pushed there);
+      taken = [];
+      word_is = rw a (ones_word (count_ones pushed) (ones-of-word pushed h));
       bits_are = rw (a, b) refl;
-      below = omega arith;
-      few = omega arith;
-      ones = rw a (omega arith);
+      size = rw a (omega arith);
     }
 
-module _ (every : List Bool) (pushed there left word count t : ℕ) (some : 0 < left) (fits : left < 2 ^ 64) (at : t ≡ trailing_zeros w64 left) (p : IsPicking every pushed there left word count) where
-  pub pick-few : count < 64
-  pick-few = omega (arith, p.few, inside pushed left t some fits at p.at, over pushed left t some fits at p.at)
+module _ (every : List Bool) (pushed there left word t : ℕ) (some : 0 < left) (fits : left < 2 ^ 64) (at : t ≡ trailing_zeros w64 left) (p : IsPicking every pushed there left word) where
+  all : ℕ
+  all = pushed - bit_and pushed there
 
-  pub pick-next : (word' : ℕ) → word' ≡ word + there / 2 ^ t % 2 * 2 ^ count → IsPicking every pushed there (bit_and left (left - 1)) word' (count + 1)
-  unfolding left-next
+  gap : ℕ
+  gap = t - p.at.i
+
+  from : (w : ℕ) → w / 2 ^ p.at.i / 2 ^ gap ≡ w / 2 ^ t
+  unfolding gap all
+  from w = behind all left t some fits at p.at w
+
+  lacks : (bit_at pushed t ≡ 1) × (bit_at there t ≡ 0)
+  unfolding all
+  lacks = is-missing pushed there t (odd all left t some fits at p.at)
+
+  full : (j : ℕ) → j < gap → bit_at (pushed / 2 ^ p.at.i) j ≡ 1 → bit_at (there / 2 ^ p.at.i) j ≡ 1
+  unfolding all gap
+  full j h e = bit-shifted there p.at.i j ∙ not-missing pushed there (p.at.i + j) (sym (bit-shifted all p.at.i j) ∙ zeros all left t some fits at p.at j h) (sym (bit-shifted pushed p.at.i j) ∙ e)
+
+  -- how many are there before the next that is not
+  before : ℕ
+  before = count_ones (pushed / 2 ^ p.at.i) - count_ones (pushed / 2 ^ t)
+
+  before-is : before + count_ones (pushed / 2 ^ t) ≡ count_ones (pushed / 2 ^ p.at.i)
+  unfolding before
+  before-is = omega (arith, ap count_ones (from pushed), ones-behind gap (pushed / 2 ^ p.at.i))
+
+  one-fewer : count_ones (pushed / 2 ^ t) ≡ suc (count_ones (pushed / 2 ^ (t + 1)))
+  one-fewer = omega (arith, ones_step (pushed / 2 ^ t), lacks.0, ap count_ones (next-behind pushed t))
+
+  word-here : word_bits word (count_ones pushed) ≡ (p.taken ++ replicate before true) ++ true ∷ replicate (count_ones (pushed / 2 ^ (t + 1))) true
+  word-here =
+      let e : count_ones (pushed / 2 ^ p.at.i) ≡ before + suc (count_ones (pushed / 2 ^ (t + 1))) = omega (arith, before-is, one-fewer) in
+      p.word_is ∙ (ap (λ (k : ℕ). p.taken ++ replicate k true) e ∙ (ap (λ (bs : List Bool). p.taken ++ bs) (more-copies before (count_ones (pushed / 2 ^ (t + 1)))) ∙ sym (append_assoc p.taken (replicate before true) (true ∷ replicate (count_ones (pushed / 2 ^ (t + 1))) true))))
+
+  chosen-here : chosen (word_bits (pushed / 2 ^ p.at.i) (64 - p.at.i)) (word_bits (there / 2 ^ p.at.i) (64 - p.at.i)) ≡ replicate before true ++ false ∷ chosen (word_bits (pushed / 2 ^ (t + 1)) (64 - (t + 1))) (word_bits (there / 2 ^ (t + 1)) (64 - (t + 1)))
+  unfolding gap all
+  chosen-here =
+      let n : ℕ = 64 - (t + 1) in
+      let split : 64 - p.at.i ≡ gap + suc n = omega (arith, over all left t some fits at p.at, inside all left t some fits at p.at) in
+      let sum : before + count_ones (pushed / 2 ^ p.at.i / 2 ^ gap) ≡ count_ones (pushed / 2 ^ p.at.i) = rw (from pushed) before-is in
+      let none : (there / 2 ^ t % 2 == 1) ≡ false = rw lacks.1 refl in
+      ap (λ (k : ℕ). chosen (word_bits (pushed / 2 ^ p.at.i) k) (word_bits (there / 2 ^ p.at.i) k)) split
+      ∙ (present-passed gap (suc n) before (pushed / 2 ^ p.at.i) (there / 2 ^ p.at.i) full sum
+      ∙ ap (λ (bs : List Bool). replicate before true ++ bs) (rw (from pushed, from there, ← next-behind pushed t, ← next-behind there t, ← none) (chosen-taken n (pushed / 2 ^ t) (there / 2 ^ t) lacks.0)))
+
+  rank-is : length (p.taken ++ replicate before true) ≡ count_ones pushed - count_ones (pushed / 2 ^ t)
+  rank-is = omega (arith, length-append p.taken (replicate before true), length-replicate before true, p.size, before-is)
+
+  pub pick-within : count_ones (pushed / 2 ^ t) ≤ count_ones pushed
+  pick-within = ones-behind t pushed
+
+  pub pick-some : 0 < count_ones (pushed / 2 ^ t)
+  pick-some = omega (arith, one-fewer)
+
+  pub pick-set : 2 ^ (count_ones pushed - count_ones (pushed / 2 ^ t)) ≤ word
+  pick-set = rw (← rank-is) (bit-within word (count_ones pushed) (p.taken ++ replicate before true) (replicate (count_ones (pushed / 2 ^ (t + 1))) true) word-here)
+
+  pub pick-next : (word' : ℕ) → word' ≡ word - 2 ^ (count_ones pushed - count_ones (pushed / 2 ^ t)) → IsPicking every pushed there (bit_and left (left - 1)) word'
+  unfolding left-next all
   pick-next word' w =
-      let low : ℕ = there / 2 ^ t % 2 in
-      let one : low < 2 = omega arith in
+      let front : List Bool = p.taken ++ replicate before true in
+      let left-ones : ℕ = count_ones (pushed / 2 ^ (t + 1)) in
       let rest : List Bool = chosen (word_bits (pushed / 2 ^ (t + 1)) (64 - (t + 1))) (word_bits (there / 2 ^ (t + 1)) (64 - (t + 1))) in
-      let power : 2 ^ (count + 1) ≡ 2 ^ count * 2 = rw add-one (pow-suc 2 count) in
-      let most : low * 2 ^ count ≤ 1 * 2 ^ count = mul-le low (2 ^ count) 1 (2 ^ count) (omega (arith, one)) (omega arith) in
-      let joined : word_bits word' (count + 1) ≡ word_bits word count ++ (low == 1) ∷ [] = ap (λ (k : ℕ). word_bits k (count + 1)) w ∙ (word-join count 1 word low p.below ∙ ap (λ (k : ℕ). word_bits word count ++ (k == 1) ∷ []) (let e : low % 2 ≡ low = omega (arith, one) in e)) in
+      let is : word' ≡ word - 2 ^ length front = w ∙ ap (λ (k : ℕ). word - 2 ^ k) (sym rank-is) in
       record {
-        at = left-next pushed left t some fits at p.at;
-        bits_are = ap (λ (bs : List Bool). bs ++ rest) joined ∙ (append_assoc (word_bits word count) ((low == 1) ∷ []) rest ∙ (ap (λ (bs : List Bool). word_bits word count ++ bs) (sym (chosen-on pushed left t some fits at p.at there)) ∙ p.bits_are));
-        below = rw w (omega (arith, most, power, p.below));
-        few = omega (arith, p.few, over pushed left t some fits at p.at);
-        ones = omega (arith, p.ones, ones-on pushed left t some fits at p.at);
+        at = left-next all left t some fits at p.at;
+        taken = front ++ false ∷ [];
+        word_is = ap (λ (k : ℕ). word_bits k (count_ones pushed)) is ∙ (bit-cleared word (count_ones pushed) front (replicate left-ones true) word-here ∙ sym (append_assoc front (false ∷ []) (replicate left-ones true)));
+        bits_are = append_assoc front (false ∷ []) rest ∙ (append_assoc p.taken (replicate before true) (false ∷ rest) ∙ (ap (λ (bs : List Bool). p.taken ++ bs) (sym chosen-here) ∙ p.bits_are));
+        size = omega (arith, length-append front (false ∷ []), rank-is, one-fewer, pick-within);
       }
 
-pub picking-done : (every : List Bool) (pushed there left word count : ℕ) → left ≡ 0 → IsPicking every pushed there left word count → word_bits word (count_ones pushed) ≡ every
-picking-done every pushed there left word count z p =
-    let gone : pushed / 2 ^ p.at.i ≡ 0 = none-left pushed left z p.at in
-    let whole : count_ones pushed ≡ count = omega (arith, p.ones, ap count_ones gone, ones_le_self 0) in
-    let none : word_bits (pushed / 2 ^ p.at.i) (64 - p.at.i) ≡ replicate (64 - p.at.i) false = ap (λ (k : ℕ). word_bits k (64 - p.at.i)) gone ∙ zeros_word (64 - p.at.i) in
-    ap (word_bits word) whole ∙ (sym (append-nil (word_bits word count)) ∙ (ap (λ (bs : List Bool). word_bits word count ++ bs) (sym (ap (λ (bs : List Bool). chosen bs (word_bits (there / 2 ^ p.at.i) (64 - p.at.i))) none ∙ chosen-none (64 - p.at.i) (word_bits (there / 2 ^ p.at.i) (64 - p.at.i)))) ∙ p.bits_are))
-
--- ---- where all are there, or all push
-chosen-full : (n a : ℕ) → a < 2 ^ n → chosen (word_bits a n) (word_bits a n) ≡ replicate (count_ones a) true
+pub picking-done : (every : List Bool) (pushed there left word : ℕ) → pushed < 2 ^ 64 → left ≡ 0 → IsPicking every pushed there left word → word_bits word (count_ones pushed) ≡ every
 unfolding chosen
-chosen-full zero a h = let z : count_ones a ≡ 0 = omega (arith, ones_le_self a, h) in rw z refl
-chosen-full (suc n) a h = by (a % 2) refl (omega arith) (chosen-full n (a / 2) (omega (arith, h)))
-  where
-    by : (low : ℕ) → a % 2 ≡ low → low < 2 → chosen (word_bits (a / 2) n) (word_bits (a / 2) n) ≡ replicate (count_ones (a / 2)) true → cond (a % 2 == 1) ((a % 2 == 1) ∷ chosen (word_bits (a / 2) n) (word_bits (a / 2) n)) (chosen (word_bits (a / 2) n) (word_bits (a / 2) n)) ≡ replicate (count_ones a) true
-    by zero e l rest = let same : count_ones a ≡ count_ones (a / 2) = omega (arith, ones_step a, e) in rw (e, same) rest
-    by (suc zero) e l rest = let more : count_ones a ≡ suc (count_ones (a / 2)) = omega (arith, ones_step a, e) in rw (e, more) (ap (λ (bs : List Bool). true ∷ bs) rest)
-    by (suc (suc low)) e l rest = absurd (omega (arith, l))
+picking-done every pushed there left word h z p =
+    let gone : (pushed - bit_and pushed there) / 2 ^ p.at.i ≡ 0 = none-left (pushed - bit_and pushed there) left z p.at in
+    let size : 64 - p.at.i ≡ 64 - p.at.i + 0 = omega arith in
+    let top : pushed / 2 ^ p.at.i / 2 ^ (64 - p.at.i) ≡ 0 = shr-shr pushed p.at.i (64 - p.at.i) ∙ (ap (λ (k : ℕ). pushed / 2 ^ k) (let s : p.at.i + (64 - p.at.i) ≡ 64 = omega (arith, p.at.few) in s) ∙ omega (arith, h)) in
+    let sum : count_ones (pushed / 2 ^ p.at.i) + count_ones (pushed / 2 ^ p.at.i / 2 ^ (64 - p.at.i)) ≡ count_ones (pushed / 2 ^ p.at.i) = omega (arith, ap count_ones top, ones_le_self 0) in
+    let whole = present-passed (64 - p.at.i) 0 (count_ones (pushed / 2 ^ p.at.i)) (pushed / 2 ^ p.at.i) (there / 2 ^ p.at.i) (λ j l e. bit-shifted there p.at.i j ∙ not-missing pushed there (p.at.i + j) (sym (bit-shifted (pushed - bit_and pushed there) p.at.i j) ∙ (ap (λ (k : ℕ). bit_at k j) gone ∙ bit_at-zero j)) (sym (bit-shifted pushed p.at.i j) ∙ e)) sum in
+    let all : chosen (word_bits (pushed / 2 ^ p.at.i) (64 - p.at.i)) (word_bits (there / 2 ^ p.at.i) (64 - p.at.i)) ≡ replicate (count_ones (pushed / 2 ^ p.at.i)) true = ap (λ (k : ℕ). chosen (word_bits (pushed / 2 ^ p.at.i) k) (word_bits (there / 2 ^ p.at.i) k)) size ∙ (whole ∙ append-nil (replicate (count_ones (pushed / 2 ^ p.at.i)) true)) in
+    p.word_is ∙ (ap (λ (bs : List Bool). p.taken ++ bs) (sym all) ∙ p.bits_are)
 
-pub picked-full : (pushed there : ℕ) → pushed < 2 ^ 64 → bit_and pushed there ≡ pushed → word_bits (2 ^ 64 - 1) (count_ones pushed) ≡ chosen (word_bits pushed 64) (word_bits there 64)
-picked-full pushed there h e = ones_word (count_ones pushed) (ones-of-word pushed h) ∙ (sym (chosen-full 64 pushed h) ∙ sym (chosen-within 64 pushed there e))
-
+-- ---- where all push
 chosen-all : (n : ℕ) (vs : List Bool) → length vs ≡ n → chosen (replicate n true) vs ≡ vs
 unfolding chosen
 chosen-all zero [] e = refl

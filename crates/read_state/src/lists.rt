@@ -1,20 +1,10 @@
 //! A block of pairs, pushed to a list from one set bit of a word to the next.
-ghost use Rattle.std.specs.Prelude.{◌≡◌, ◌+◌, ◌*◌, ◌-◌, ◌<◌, ◌≤◌, ◌^◌, ◌/◌, ◌%◌, ◌++◌, count_ones, vec_len, vec_capacity};
+ghost use Rattle.std.specs.Prelude.{◌≡◌, ◌+◌, ◌-◌, ◌<◌, ◌≤◌, ◌^◌, ◌/◌, ◌++◌, count_ones, vec_len, vec_capacity};
 ghost use Rattle.columns_core.specs.Bits.{word_bits};
 ghost use Rattle.read_state.specs.Kinds.{starts_of};
 ghost use Rattle.read_state.specs.Reach.{chosen, places};
 
 use crate::pushes::length_of;
-
-// A word of so many bits with one more behind them.
-fn with_bit(word: u64, count: usize, bit: u64) -> u64
-    requires below { word < 2 ^ count }
-    requires few { count < 64 }
-    requires one { bit < 2 }
-    ensures { result ≡ word + bit * 2 ^ count }
-{
-    (bit << count) | word
-}
 
 /// How many set bits a word has.
 pub fn ones_of(word: u64) -> usize
@@ -40,29 +30,25 @@ pub fn push_starts(lengths: &mut Vec<i64>, pushed: u64, grown: u64, first: usize
     }
 }
 
-// The bits of a word beside the bits that are set in another one, one by one.
+// The bits of the word `there` beside the set bits of the word `pushed`, from one that is not set to the next.
 fn pick_each(pushed: u64, there: u64) -> u64
     ensures { word_bits result (count_ones pushed) ≡ chosen (word_bits pushed 64) (word_bits there 64) }
 {
-    let mut left = pushed;
-    let mut word = 0;
-    let mut count = 0;
+    let end = ones_of(pushed);
+    let mut left = pushed - (pushed & there);
+    let mut word = u64::MAX;
     while left != 0 {
         let at = left.trailing_zeros() as usize;
-        word = with_bit(word, count, (there >> at) % 2);
-        count += 1;
+        word = word - (1 << (end - ones_of(pushed >> at)));
         left = left & (left - 1);
     }
     word
 }
 
-/// The bits of the word `there` beside the set bits of the word `pushed`, of which all, or those that are set, may be there.
+/// The bits of the word `there` beside the set bits of the word `pushed`.
 pub fn pick_bits(pushed: u64, there: u64) -> u64
     ensures { word_bits result (count_ones pushed) ≡ chosen (word_bits pushed 64) (word_bits there 64) }
 {
-    if pushed & there == pushed {
-        return u64::MAX;
-    }
     if pushed == u64::MAX {
         return there;
     }
