@@ -1,5 +1,5 @@
--- Eight packed numbers from a bit of the first byte on.
-use Rattle.std.proofs.Common.{◌≡◌, ℕ, ◌+◌, ◌-◌, ◌*◌, ◌/◌, ◌^◌, ◌<◌, ◌≤◌, List, [], ◌∷◌, ◌++◌, set, length, take, drop, refl, sym, ap, ◌∙◌, arith}
+-- Packed numbers from a bit of the first byte on.
+use Rattle.std.proofs.Common.{◌≡◌, ℕ, zero, suc, ◌+◌, ◌-◌, ◌*◌, ◌/◌, ◌^◌, ◌<◌, ◌≤◌, List, [], ◌∷◌, ◌++◌, set, length, take, drop, refl, sym, ap, ◌∙◌, arith, append_assoc, ◌%◌}
 use Rattle.std.proofs.Math.Nat.{add-mul-div_left, mul_assoc}
 use Rattle.std.proofs.lemmas.Nat.{pow-add, pow_pos, shr-shr}
 use Rattle.std.proofs.lemmas.List.{length-take, take-append-drop, take-append-le, take_all, length-drop}
@@ -8,9 +8,10 @@ use Rattle.pq_numbers.specs.Bits.{digits_of}
 use Rattle.pq_numbers.specs.Texts.{number_of}
 use Rattle.pq_numbers.proofs.Bytes.{AreBytes, number-drop}
 use Rattle.pq_numbers.proofs.Digits.{length-digits, digits-high, number_of-append}
-use Rattle.pq_runs.specs.Hybrid.{given}
+use Rattle.pq_runs.specs.Hybrid.{given, runs_items}
 use Rattle.pq_runs.specs.State.{items_of}
 use Rattle.pq_runs.proofs.Fields.{digits-parts}
+use Rattle.read_walk.proofs.Filling.{given-append}
 
 -- what lies above does not matter
 high : (a c s e : ℕ) → (a + 2 ^ (s + e) * c) / 2 ^ s ≡ a / 2 ^ s + 2 ^ e * c
@@ -18,28 +19,52 @@ high a c s e =
     let split : 2 ^ (s + e) * c ≡ 2 ^ s * (2 ^ e * c) = ap (λ (x : ℕ). x * c) (pow-add 2 s e) ∙ mul_assoc (2 ^ s) (2 ^ e) c in
     ap (λ (x : ℕ). (a + x) / 2 ^ s) split ∙ add-mul-div_left a (2 ^ e * c) (pow_pos s)
 
-pub eight-are : (w s : ℕ) (xs : List ℕ) → s + w * 8 ≤ 8 * length (take 8 xs) → digits_of (2 ^ w) 8 (number_of (take 8 xs) / 2 ^ s) ≡ digits_of (2 ^ w) 8 (number_of xs / 2 ^ s)
-eight-are w s xs enough =
+-- the first eight bytes hold the first numbers
+pub few-are : (w s n : ℕ) (xs : List ℕ) → s + w * n ≤ 8 * length (take 8 xs) → digits_of (2 ^ w) n (number_of (take 8 xs) / 2 ^ s) ≡ digits_of (2 ^ w) n (number_of xs / 2 ^ s)
+few-are w s n xs enough =
     let a = number_of (take 8 xs) in
     let c = number_of (drop 8 xs) in
-    let r : ℕ = 8 * length (take 8 xs) - (s + w * 8) in
-    let e : s + (w * 8 + r) ≡ 8 * length (take 8 xs) = omega (arith, enough) in
-    let whole : number_of xs ≡ a + 2 ^ (s + (w * 8 + r)) * c = ap number_of (sym (take-append-drop 8 xs)) ∙ (number_of-append (take 8 xs) (drop 8 xs) ∙ ap (λ (j : ℕ). a + 2 ^ j * c) (sym e)) in
-    sym (ap (λ (x : ℕ). digits_of (2 ^ w) 8 (x / 2 ^ s)) whole ∙ (ap (digits_of (2 ^ w) 8) (high a c s (w * 8 + r)) ∙ digits-high w 8 (a / 2 ^ s) r c))
+    let r : ℕ = 8 * length (take 8 xs) - (s + w * n) in
+    let e : s + (w * n + r) ≡ 8 * length (take 8 xs) = omega (arith, enough) in
+    let whole : number_of xs ≡ a + 2 ^ (s + (w * n + r)) * c = ap number_of (sym (take-append-drop 8 xs)) ∙ (number_of-append (take 8 xs) (drop 8 xs) ∙ ap (λ (j : ℕ). a + 2 ^ j * c) (sym e)) in
+    sym (ap (λ (x : ℕ). digits_of (2 ^ w) n (x / 2 ^ s)) whole ∙ (ap (digits_of (2 ^ w) n) (high a c s (w * n + r)) ∙ digits-high w n (a / 2 ^ s) r c))
 
--- the bits behind eight numbers
-behind : (w s : ℕ) (xs : List ℕ) → AreBytes xs → number_of xs / 2 ^ s / 2 ^ (w * 8) ≡ number_of (drop w xs) / 2 ^ s
-behind w s xs are =
-    let e : s + w * 8 ≡ 8 * w + s = omega arith in
-    shr-shr (number_of xs) s (w * 8) ∙ (ap (λ (k : ℕ). number_of xs / 2 ^ k) e ∙ (sym (shr-shr (number_of xs) (8 * w) s) ∙ ap (λ (x : ℕ). x / 2 ^ s) (number-drop w xs are)))
+-- the bits behind so many numbers
+pub behind : (w s n : ℕ) (xs : List ℕ) → AreBytes xs → number_of xs / 2 ^ s / 2 ^ (w * n) ≡ number_of (drop ((s + w * n) / 8) xs) / 2 ^ ((s + w * n) % 8)
+behind w s n xs are =
+    let t : ℕ = s + w * n in
+    let e : t ≡ 8 * (t / 8) + t % 8 = omega arith in
+    shr-shr (number_of xs) s (w * n) ∙ (ap (λ (k : ℕ). number_of xs / 2 ^ k) e ∙ (sym (shr-shr (number_of xs) (8 * (t / 8)) (t % 8)) ∙ ap (λ (x : ℕ). x / 2 ^ (t % 8)) (number-drop (t / 8) xs are)))
 
-pub eight_taken : (w left number standing s : ℕ) (packed bytes : List ℕ) → 8 ≤ standing → standing ≤ left → AreBytes packed → items_of w left 0 number standing (number_of packed / 2 ^ s) bytes ≡ given (digits_of (2 ^ w) 8 (number_of packed / 2 ^ s)) ++ items_of w (left - 8) 0 number (standing - 8) (number_of (drop w packed) / 2 ^ s) bytes
-eight_taken w left number standing s packed bytes some within are =
-    let n : standing ≡ 8 + (standing - 8) = omega (arith, some) in
-    let c : left - (0 + standing) ≡ left - 8 - (0 + (standing - 8)) = omega (arith, some, within) in
+-- so many of the standing numbers are taken
+pub packed_taken : (w left number standing s n : ℕ) (packed bytes : List ℕ) → n ≤ standing → standing ≤ left → AreBytes packed
+    → items_of w left 0 number standing (number_of packed / 2 ^ s) bytes
+    ≡ given (digits_of (2 ^ w) n (number_of packed / 2 ^ s)) ++ items_of w (left - n) 0 number (standing - n) (number_of (drop ((s + w * n) / 8) packed) / 2 ^ ((s + w * n) % 8)) bytes
+packed_taken w left number standing s n packed bytes some within are =
+    let k : standing ≡ n + (standing - n) = omega (arith, some) in
+    let c : left - (0 + standing) ≡ left - n - (0 + (standing - n)) = omega (arith, some, within) in
     let m : ℕ = number_of packed / 2 ^ s in
-    let parts : digits_of (2 ^ w) standing m ≡ digits_of (2 ^ w) 8 m ++ digits_of (2 ^ w) (standing - 8) (number_of (drop w packed) / 2 ^ s) = ap (λ (k : ℕ). digits_of (2 ^ w) k m) n ∙ (digits-parts w 8 (standing - 8) m ∙ ap (λ (x : ℕ). digits_of (2 ^ w) 8 m ++ digits_of (2 ^ w) (standing - 8) x) (behind w s packed are)) in
-    rw (parts, c) refl
+    let first : List ℕ = digits_of (2 ^ w) n m in
+    let rest : List ℕ = digits_of (2 ^ w) (standing - n) (number_of (drop ((s + w * n) / 8) packed) / 2 ^ ((s + w * n) % 8)) in
+    let parts : digits_of (2 ^ w) standing m ≡ first ++ rest = ap (λ (j : ℕ). digits_of (2 ^ w) j m) k ∙ (digits-parts w n (standing - n) m ∙ ap (λ (x : ℕ). first ++ digits_of (2 ^ w) (standing - n) x) (behind w s n packed are)) in
+    let runs = runs_items (length bytes) w (left - n - (0 + (standing - n))) bytes in
+    rw (parts, c) (ap (λ is. is ++ runs) (given-append first rest) ∙ append_assoc (given first) (given rest) runs)
+
+-- where so many numbers stand, there are enough bytes for some of them, and behind them for the others
+pub enough-bytes : (w s n standing : ℕ) (xs : List ℕ) → n ≤ standing → s + w * standing ≤ 8 * length xs → ((s + w * n) / 8 ≤ length xs) × ((s + w * n) % 8 + w * (standing - n) ≤ 8 * length (drop ((s + w * n) / 8) xs))
+enough-bytes w s n standing xs some h =
+    let k : standing ≡ n + (standing - n) = omega (arith, some) in
+    let m : w * standing ≡ w * n + w * (standing - n) = ap (λ (j : ℕ). w * j) k ∙ omega arith in
+    (omega (arith, m, h), omega (arith, m, h, length-drop ((s + w * n) / 8) xs))
+
+-- the first eight of them are enough for at most eight narrow numbers
+pub enough-few : (w s n standing : ℕ) (xs : List ℕ) → w ≤ 7 → s < 8 → n ≤ 8 → n ≤ standing → s + w * standing ≤ 8 * length xs → s + w * n ≤ 8 * length (take 8 xs)
+enough-few w s n standing xs narrow small few some h =
+    let k : standing ≡ n + (standing - n) = omega (arith, some) in
+    let m : w * standing ≡ w * n + w * (standing - n) = ap (λ (j : ℕ). w * j) k ∙ omega arith in
+    let e : 8 ≡ n + (8 - n) = omega (arith, few) in
+    let o : w * 8 ≡ w * n + w * (8 - n) = ap (λ (j : ℕ). w * j) e ∙ omega arith in
+    omega (arith, length-take 8 xs, m, o, h, narrow, small)
 
 pub front_eight : (w m : ℕ) (front rest : List ℕ) → front ≡ digits_of (2 ^ w) 8 m → take 8 (front ++ rest) ≡ digits_of (2 ^ w) 8 m
 front_eight w m front rest e =
@@ -71,9 +96,29 @@ lanes_put a b c d e f g h (x0 ∷ x1 ∷ x2 ∷ x3 ∷ x4 ∷ []) l = absurd (om
 lanes_put a b c d e f g h (x0 ∷ x1 ∷ x2 ∷ x3 ∷ x4 ∷ x5 ∷ []) l = absurd (omega (arith, l))
 lanes_put a b c d e f g h (x0 ∷ x1 ∷ x2 ∷ x3 ∷ x4 ∷ x5 ∷ x6 ∷ []) l = absurd (omega (arith, l))
 
--- there are enough bytes, of the first eight too, and behind eight numbers
-pub enough-eight : (w s standing : ℕ) (xs : List ℕ) → w ≤ 7 → s < 8 → 8 ≤ standing → s + w * standing ≤ 8 * length xs → (s + w * 8 ≤ 8 * length (take 8 xs)) × (w ≤ length xs) × (s + w * (standing - 8) ≤ 8 * length (drop w xs))
-enough-eight w s standing xs narrow small some h =
-    let n : standing ≡ 8 + (standing - 8) = omega (arith, some) in
-    let m : w * standing ≡ 8 * w + w * (standing - 8) = ap (λ (k : ℕ). w * k) n ∙ omega arith in
-    (omega (arith, length-take 8 xs, m, h, narrow, small), omega (arith, m, h), omega (arith, m, h, length-drop w xs))
+-- one number written behind others
+pub put_next : (i x : ℕ) (xs : List ℕ) → i < length xs → take (suc i) (set xs i x) ≡ take i xs ++ x ∷ []
+put_next i x [] h = absurd (omega (arith, h))
+put_next zero x (y ∷ ys) h = refl
+put_next (suc i) x (y ∷ ys) h = ap (λ (l : List ℕ). y ∷ l) (put_next i x ys (omega (arith, h)))
+
+-- one number more of a word
+pub next_digit : (w i word left : ℕ) → left ≡ word / 2 ^ (w * i) → (digits_of (2 ^ w) (i + 1) word ≡ digits_of (2 ^ w) i word ++ left % 2 ^ w ∷ []) × (left / 2 ^ w ≡ word / 2 ^ (w * (i + 1)))
+next_digit w i word left e =
+    let m : w * i + w ≡ w * (i + 1) = omega arith in
+    rw e (digits-parts w i 1 word, shr-shr word (w * i) w ∙ ap (λ (k : ℕ). word / 2 ^ k) m)
+
+-- eight numbers more of packed ones
+pub next_eight : (w s i : ℕ) (xs : List ℕ) → w ≤ 7 → s < 8 → s + w * (8 * (i + 1)) ≤ 8 * length xs → AreBytes xs
+    → digits_of (2 ^ w) (8 * (i + 1)) (number_of xs / 2 ^ s) ≡ digits_of (2 ^ w) (8 * i) (number_of xs / 2 ^ s) ++ digits_of (2 ^ w) 8 (number_of (take 8 (drop (w * i) xs)) / 2 ^ s)
+next_eight w s i xs narrow small enough are =
+    let m : ℕ = number_of xs / 2 ^ s in
+    let a : w * (8 * (i + 1)) ≡ 8 * (w * i) + w * 8 = omega arith in
+    let b : w * (8 * i) ≡ 8 * (w * i) = omega arith in
+    let c : 8 * (i + 1) ≡ 8 * i + 8 = omega arith in
+    let q : (s + w * (8 * i)) / 8 ≡ w * i = omega (arith, b, small) in
+    let r : (s + w * (8 * i)) % 8 ≡ s = omega (arith, b, small) in
+    let there : s + w * 8 ≤ 8 * length (take 8 (drop (w * i) xs)) = omega (arith, length-take 8 (drop (w * i) xs), length-drop (w * i) xs, a, enough, narrow, small) in
+    ap (λ (j : ℕ). digits_of (2 ^ w) j m) c
+    ∙ (digits-parts w (8 * i) 8 m ∙ ap (λ (x : ℕ). digits_of (2 ^ w) (8 * i) m ++ digits_of (2 ^ w) 8 x) (rw (q, r) at (behind w s (8 * i) xs are))
+    ∙ ap (λ (l : List ℕ). digits_of (2 ^ w) (8 * i) m ++ l) (sym (few-are w s 8 (drop (w * i) xs) there)))

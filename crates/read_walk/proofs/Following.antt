@@ -1,18 +1,18 @@
 -- Pairs that may follow one another.
-use Rattle.std.proofs.Common.{◌≡◌, ◌⊎◌, inl, inr, ℕ, zero, suc, ◌+◌, ◌-◌, ◌*◌, ◌/◌, ◌%◌, ◌^◌, ◌<◌, ◌≤◌, ◌==◌, Bool, true, false, true≢false, nat_eq, nat_le, bit_and, bit_or, Option, Some, None, List, [], ◌∷◌, map, length, replicate, drop, get_or, refl, arith, ap, sym, subst, ◌∙◌, add-one}
+use Rattle.std.proofs.Common.{◌≡◌, ◌⊎◌, inl, inr, ℕ, zero, suc, ◌+◌, ◌*◌, ◌/◌, ◌%◌, ◌^◌, ◌<◌, ◌≤◌, ◌==◌, Bool, true, false, true≢false, nat_eq, nat_le, bit_and, bit_or, max, Option, Some, None, List, [], ◌∷◌, map, length, replicate, drop, get_or, refl, arith, ap, sym, subst, ◌∙◌, add-one}
 use Rattle.std.specs.Int.{bit_at, from_bool}
 use Rattle.std.proofs.lemmas.Bool.Decides.{leb_tells, eqb_tells}
-use Rattle.std.proofs.lemmas.Nat.Bits.{bit_at_lowest, bit_at-suc}
+use Rattle.std.proofs.lemmas.Nat.Bits.{bit_at_lowest, bit_at-suc, bit_at_or, bit_at-lt}
 use Rattle.columns_core.specs.Bits.{word_bits}
 use Rattle.columns_core.proofs.Words.{low_bit}
-use Rattle.read_state.proofs.Compared.{word-tells, both-bits, either-bit}
+use Rattle.read_state.proofs.Compared.{word-tells, both-bits}
 use Rattle.std.proofs.Math.Seq.{drop-cons}
 use Rattle.columns_base.specs.declared.error.Error.{Error}
 use Rattle.shredding.specs.Shape.{Way, at_leaf, in_list, in_struct}
 use Rattle.shredding.specs.Shred.{max_repetition, max_definition}
 use Rattle.shredding.specs.Local.{inside}
 use Rattle.read_laws.proofs.Stretches.{up-bit}
-use Rattle.read_walk.specs.Order.{zipped, MayCome, Follows, WhyNot, OneMayNot, level_before, IsInside, PlainlyFollow}
+use Rattle.read_walk.specs.Order.{zipped, MayCome, Follows, WhyNot, OneMayNot, level_before, IsInside, PlainlyFollow, MayComeAt}
 use Rattle.read_walk.specs.Pairs.{Pair}
 
 -- a list deeper down lies inside more
@@ -85,25 +85,8 @@ behind-bit x c (suc j) l h e =
 from-tells : (least d : ℕ) → nat_le least d ≡ true → least ≤ d
 from-tells least d e = elim (leb_tells least d) [ inl h ↦ h.1 | inr h ↦ absurd (true≢false (sym e ∙ h.0)) ]
 
--- a pair by the words: whether it begins a row, whether it lies inside, and whether the one before it does
-word-pair : (reps defs : List ℕ) (floor rows inner c k : ℕ) → length reps ≡ 64 → length defs ≡ 64 → c < 2 → word_bits rows 64 ≡ map (λ d. nat_le d 0) reps → word_bits inner 64 ≡ map (λ d. nat_le floor d) defs → bit_or rows (bit_and inner (inner % 2 ^ 63 * 2 + c)) ≡ 2 ^ 64 - 1 → k < 64 →
-    (get_or reps k 0 ≡ 0) ⊎ ((floor ≤ get_or defs k 0) × (((k ≡ 0) × (c ≡ 1)) ⊎ ((j : ℕ) × (k ≡ j + 1) × (floor ≤ get_or defs j 0))))
-word-pair reps defs floor rows inner c k m n l r i all h = by (bit_at rows k == 1) refl
-  where
-    by : (b : Bool) → (bit_at rows k == 1) ≡ b → (get_or reps k 0 ≡ 0) ⊎ ((floor ≤ get_or defs k 0) × (((k ≡ 0) × (c ≡ 1)) ⊎ ((j : ℕ) × (k ≡ j + 1) × (floor ≤ get_or defs j 0))))
-    by true e =
-        let row : get_or reps k 0 ≤ 0 = from-tells (get_or reps k 0) 0 (sym (word-tells (λ d. nat_le d 0) reps 64 rows k m h r) ∙ e) in
-        inl (omega (arith, row))
-    by false e =
-        let two = both-bits inner (inner % 2 ^ 63 * 2 + c) k (either-bit rows (bit_and inner (inner % 2 ^ 63 * 2 + c)) k all h e) in
-        let here : floor ≤ get_or defs k 0 = from-tells floor (get_or defs k 0) (sym (word-tells (λ d. nat_le floor d) defs 64 inner k n h i) ∙ two.0) in
-        inr (
-          here,
-          elim (behind-bit inner c k l h two.1) [
-            | inl first ↦ inl first
-            | inr later ↦ inr (later.0, later.1, from-tells floor (get_or defs later.0 0) (sym (word-tells (λ d. nat_le floor d) defs 64 inner later.0 n (omega (arith, later.1, h)) i) ∙ later.2))
-          ],
-        )
+at-tells : (d level : ℕ) → nat_eq d level ≡ true → d ≡ level
+at-tells d level e = elim (eqb_tells d level) [ inl h ↦ h.1 | inr h ↦ absurd (true≢false (sym e ∙ h.0)) ]
 
 carried-few : (b : Bool) → from_bool b < 2
 carried-few true = omega arith
@@ -113,26 +96,67 @@ carried-one : (b : Bool) → from_bool b ≡ 1 → b ≡ true
 carried-one true e = refl
 carried-one false e = absurd (omega (arith, e))
 
--- only 0 is at most 0
-row-zero : (d : ℕ) → nat_eq d 0 ≡ nat_le d 0
-row-zero d = elim (eqb_tells d 0) [
-  | inl x ↦ elim (leb_tells d 0) [ inl h ↦ x.0 ∙ sym h.0 | inr h ↦ absurd (omega (arith, h.1, x.1)) ]
-  | inr x ↦ elim (leb_tells d 0) [ inl h ↦ absurd (x.1 (omega (arith, h.1))) | inr h ↦ x.0 ∙ sym h.0 ]
-]
+-- a bit of two words
+max-one : (x y : ℕ) → x < 2 → y < 2 → (max x y == 1) ≡ true → ((x == 1) ≡ true) ⊎ ((y == 1) ≡ true)
+max-one zero zero p q e = absurd (true≢false (sym e))
+max-one zero (suc zero) p q e = inr refl
+max-one zero (suc (suc y)) p q e = absurd (omega (arith, q))
+max-one (suc zero) y p q e = inl refl
+max-one (suc (suc x)) y p q e = absurd (omega (arith, p))
 
-pub rows-zero : (xs : List ℕ) → map (λ d. nat_eq d 0) xs ≡ map (λ d. nat_le d 0) xs
-rows-zero [] = refl
-rows-zero (x ∷ xs) = ap (λ (b : Bool). b ∷ map (λ d. nat_eq d 0) xs) (row-zero x) ∙ ap (λ (bs : List Bool). nat_le x 0 ∷ bs) (rows-zero xs)
+pub of-either : (a b k : ℕ) → (bit_at (bit_or a b) k == 1) ≡ true → ((bit_at a k == 1) ≡ true) ⊎ ((bit_at b k == 1) ≡ true)
+of-either a b k e = max-one (bit_at a k) (bit_at b k) (bit_at-lt a k) (bit_at-lt b k) (ap (λ (j : ℕ). j == 1) (sym (bit_at_or a b k)) ∙ e)
 
-pub chain-pair : (reps defs : List ℕ) (floor rows inner c k : ℕ) (carried : Bool) → length reps ≡ 64 → length defs ≡ 64 → c ≡ from_bool carried → word_bits rows 64 ≡ map (λ d. nat_le d 0) reps → word_bits inner 64 ≡ map (λ d. nat_le floor d) defs → nat_eq (bit_or rows (bit_and inner (inner % 2 ^ 63 * 2 + c))) (2 ^ 64 - 1) ≡ true → k < 64 →
-    (get_or reps k 0 ≡ 0) ⊎ ((floor ≤ get_or defs k 0) × (((k ≡ 0) × (carried ≡ true)) ⊎ ((j : ℕ) × (k ≡ j + 1) × (floor ≤ get_or defs j 0))))
-chain-pair reps defs floor rows inner c k carried m n f r i e h =
-    let all : bit_or rows (bit_and inner (inner % 2 ^ 63 * 2 + c)) ≡ 2 ^ 64 - 1 = elim (eqb_tells (bit_or rows (bit_and inner (inner % 2 ^ 63 * 2 + c))) (2 ^ 64 - 1)) [ inl x ↦ x.1 | inr x ↦ absurd (true≢false (sym e ∙ x.0)) ] in
+-- a pair by words: whether it lies inside, and whether the one before it does
+pub inner-pair : (before : Option ℕ) (defs : List ℕ) (floor inner c k : ℕ) (carried : Bool) → length defs ≡ 64 → c ≡ from_bool carried → (carried ≡ true → (b : ℕ) × (before ≡ Some b) × (floor ≤ b)) → word_bits inner 64 ≡ map (λ d. nat_le floor d) defs → (bit_at (bit_and inner (inner % 2 ^ 63 * 2 + c)) k == 1) ≡ true → k < 64
+    → (floor ≤ get_or defs k 0) × IsInside floor (level_before before defs k)
+inner-pair before defs floor inner c k carried n f r i e h =
     let few : c < 2 = rw f (carried-few carried) in
-    elim (word-pair reps defs floor rows inner c k m n few r i all h) [
-      | inl z ↦ inl z
-      | inr q ↦ inr (q.0, elim q.1 [ inl z ↦ inl (z.0, carried-one carried (sym f ∙ z.1)) | inr later ↦ inr later ])
+    let two = both-bits inner (inner % 2 ^ 63 * 2 + c) k e in
+    let there : (j : ℕ) → j < 64 → (bit_at inner j == 1) ≡ true → floor ≤ get_or defs j 0 = λ j l b. from-tells floor (get_or defs j 0) (sym (word-tells (λ d. nat_le floor d) defs 64 inner j n l i) ∙ b) in (
+      there k h two.0,
+      elim (behind-bit inner c k few h two.1) [
+        | inl first ↦ let t = r (carried-one carried (sym f ∙ first.1)) in rw (first.0, t.1) t.2
+        | inr later ↦ let e : k ≡ suc later.0 = omega (arith, later.1) in rw e (there later.0 (omega (arith, later.1, h)) later.2)
+      ],
+    )
+
+-- such a pair may come where it repeats in that list
+pub inner-comes : (w : Way) (before : Option ℕ) (r d floor : ℕ) → floor ≡ inside w r → (floor ≤ d) × IsInside floor before → MayCome w before (r, d)
+inner-comes w None r d floor f i = absurd i.1
+inner-comes w (Some b) r d floor f i = (omega (arith, f, i.1), omega (arith, f, i.0))
+
+pub list-comes : (w : Way) (before : Option ℕ) (reps defs : List ℕ) (list floor at inner k : ℕ) → length reps ≡ 64 → floor ≡ inside w list → word_bits at 64 ≡ map (λ d. nat_eq d list) reps → k < 64
+    → ((bit_at inner k == 1) ≡ true → (floor ≤ get_or defs k 0) × IsInside floor (level_before before defs k)) → (bit_at (bit_and at inner) k == 1) ≡ true → MayCome w (level_before before defs k) (get_or reps k 0, get_or defs k 0)
+list-comes w before reps defs list floor at inner k l f a h i e =
+    let two = both-bits at inner k e in
+    let is : get_or reps k 0 ≡ list = at-tells (get_or reps k 0) list (sym (word-tells (λ d. nat_eq d list) reps 64 at k l h a) ∙ two.0) in
+    inner-comes w (level_before before defs k) (get_or reps k 0) (get_or defs k 0) floor (f ∙ ap (inside w) (sym is)) (i two.1)
+
+-- a pair that begins a row may come, and one inside the innermost list
+pub plain-comes : (w : Way) (before : Option ℕ) (reps defs : List ℕ) (lists floor at inner k : ℕ) → length reps ≡ 64 → lists ≡ max_repetition w → floor ≡ inside w lists → get_or reps k 0 ≤ lists → word_bits at 64 ≡ map (λ d. nat_eq d 0) reps → k < 64
+    → ((bit_at inner k == 1) ≡ true → (floor ≤ get_or defs k 0) × IsInside floor (level_before before defs k)) → (bit_at (bit_or at inner) k == 1) ≡ true → MayCome w (level_before before defs k) (get_or reps k 0, get_or defs k 0)
+plain-comes w before reps defs lists floor at inner k l m f r a h i e =
+    let deep : floor ≡ inside w (max_repetition w) = f ∙ ap (inside w) m in
+    let few : get_or reps k 0 ≤ max_repetition w = omega (arith, r, m) in
+    elim (of-either at inner k e) [
+      | inl row ↦ comes w (level_before before defs k) (get_or reps k 0) (get_or defs k 0) floor deep few (inl (at-tells (get_or reps k 0) 0 (sym (word-tells (λ d. nat_eq d 0) reps 64 at k l h a) ∙ row)))
+      | inr both ↦ comes w (level_before before defs k) (get_or reps k 0) (get_or defs k 0) floor deep few (inr (i both))
     ]
+
+-- where each may come, one follows another
+pub each-follows : (w : Way) (before : Option ℕ) (reps defs : List ℕ) → length defs ≡ length reps → ((k : ℕ) → k < length reps → (get_or reps k 0 ≤ max_repetition w) × (get_or defs k 0 ≤ max_definition w) × MayComeAt w before reps defs k) → Follows w before (zipped reps defs)
+each-follows w before [] defs e p = tt
+each-follows w before (r ∷ reps) [] e p = absurd (omega (arith, e))
+each-follows w before (r ∷ reps) (d ∷ defs) e p =
+    let here = p 0 (omega arith) in (
+      here.0,
+      here.1,
+      here.2,
+      each-follows w (Some d) reps defs (omega (arith, e)) (λ k h.
+          let q = p (suc k) (omega (arith, h)) in
+          (q.0, q.1, subst (λ (b : Option ℕ). MayCome w b (get_or reps k 0, get_or defs k 0)) (one-later before d defs k) q.2)),
+    )
 
 -- ---- equal pairs
 copies-follow : (w : Way) (n r d : ℕ) → r ≤ max_repetition w → d ≤ max_definition w → MayCome w (Some d) (r, d) → Follows w (Some d) (zipped (replicate n r) (replicate n d))

@@ -2,6 +2,7 @@ pub mod BlocksTaken
 pub mod Decoding
 pub mod Eights
 pub mod Filling
+pub mod Folding
 pub mod Following
 pub mod Grammar
 pub mod Maxima

@@ -67,6 +67,10 @@ abbrev pub IsInside : ℕ → Option ℕ → Type 0
 IsInside floor None = ⊥
 IsInside floor (Some level) = floor ≤ level
 
+-- the pair at a place may come behind that before it
+abbrev pub MayComeAt : Way → Option ℕ → List ℕ → List ℕ → ℕ → Type 0
+MayComeAt w before reps defs k = MayCome w (level_before before defs k) (slice_index reps k, slice_index defs k)
+
 -- no level is above its greatest, and each pair begins a row, or it and the one before it lie inside the innermost list
 abbrev pub PlainlyFollow : Option ℕ → List ℕ → List ℕ → ℕ → ℕ → ℕ → Type 0
 PlainlyFollow before reps defs lists top floor =

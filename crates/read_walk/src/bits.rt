@@ -43,15 +43,15 @@ pub fn number_at(bytes: &[u8], shift: u32, width: u32) -> u32
     ((low_bytes(bytes) >> shift) % (1 << width)) as u32
 }
 
-// Eight numbers of one bit in the front of the memory, the lowest first. Each is moved to the same place of its lane.
+// Eight numbers of one bit in the front of the memory, the lowest first. Each is moved to the top of its lane, where what stands above it is lost.
 fn put_bits(out: &mut [u32], word: u64)
     requires { 8 ≤ length out.old }
     ensures { out.new ≡ digits_of 2 8 word ++ drop 8 out.old }
 {
-    let all = Simd::<u32, 8>::splat((word % 256) as u32);
-    let moved = all * Simd::<u32, 8>::from_array([128, 64, 32, 16, 8, 4, 2, 1]);
-    let numbers = (moved >> Simd::<u32, 8>::splat(7)) & Simd::<u32, 8>::splat(1);
-    numbers.copy_to_slice(out);
+    let all = Simd::<u16, 8>::splat((word % 256 * 2) as u16);
+    let moved = all * Simd::<u16, 8>::from_array([16384, 8192, 4096, 2048, 1024, 512, 256, 128]);
+    let numbers = moved >> Simd::<u16, 8>::splat(15);
+    numbers.cast::<u32>().copy_to_slice(out);
 }
 
 // The same of two bits.
@@ -59,10 +59,36 @@ fn put_pairs(out: &mut [u32], word: u64)
     requires { 8 ≤ length out.old }
     ensures { out.new ≡ digits_of 4 8 word ++ drop 8 out.old }
 {
-    let all = Simd::<u32, 8>::splat((word % 65536) as u32);
-    let moved = all * Simd::<u32, 8>::from_array([16384, 4096, 1024, 256, 64, 16, 4, 1]);
-    let numbers = (moved >> Simd::<u32, 8>::splat(14)) & Simd::<u32, 8>::splat(3);
-    numbers.copy_to_slice(out);
+    let all = Simd::<u16, 8>::splat((word % 65536) as u16);
+    let moved = all * Simd::<u16, 8>::from_array([16384, 4096, 1024, 256, 64, 16, 4, 1]);
+    let numbers = moved >> Simd::<u16, 8>::splat(14);
+    numbers.cast::<u32>().copy_to_slice(out);
+}
+
+// The same of three bits, four in each half of the lanes.
+fn put_triples(out: &mut [u32], word: u64)
+    requires { 8 ≤ length out.old }
+    ensures { out.new ≡ digits_of 8 8 word ++ drop 8 out.old }
+{
+    let low = (word % 65536) as u16;
+    let high = (word / 4096 % 65536) as u16;
+    let all = Simd::<u16, 8>::from_array([low, low, low, low, high, high, high, high]);
+    let moved = all * Simd::<u16, 8>::from_array([8192, 1024, 128, 16, 8192, 1024, 128, 16]);
+    let numbers = moved >> Simd::<u16, 8>::splat(13);
+    numbers.cast::<u32>().copy_to_slice(out);
+}
+
+// The same of four bits.
+fn put_nibbles(out: &mut [u32], word: u64)
+    requires { 8 ≤ length out.old }
+    ensures { out.new ≡ digits_of 16 8 word ++ drop 8 out.old }
+{
+    let low = (word % 65536) as u16;
+    let high = (word / 65536 % 65536) as u16;
+    let all = Simd::<u16, 8>::from_array([low, low, low, low, high, high, high, high]);
+    let moved = all * Simd::<u16, 8>::from_array([4096, 256, 16, 1, 4096, 256, 16, 1]);
+    let numbers = moved >> Simd::<u16, 8>::splat(12);
+    numbers.cast::<u32>().copy_to_slice(out);
 }
 
 // Eight numbers of at most seven bits in the front of the memory, the lowest first.
@@ -89,8 +115,8 @@ fn put_numbers(out: &mut [u32], word: u64, width: u32)
     out[7] = (eighth % base) as u32;
 }
 
-/// Eight numbers of at most seven bits in the front of the memory, the lowest first.
-pub fn put_eight(out: &mut [u32], word: u64, width: u32)
+// Eight numbers of at most seven bits in the front of the memory, the lowest first.
+fn put_eight(out: &mut [u32], word: u64, width: u32)
     requires room { 8 ≤ length out.old }
     requires narrow { width ≤ 7 }
     ensures { out.new ≡ digits_of (2 ^ width) 8 word ++ drop 8 out.old }
@@ -98,7 +124,55 @@ pub fn put_eight(out: &mut [u32], word: u64, width: u32)
     match width {
         1 => put_bits(out, word),
         2 => put_pairs(out, word),
+        3 => put_triples(out, word),
+        4 => put_nibbles(out, word),
         _ => put_numbers(out, word, width),
+    }
+}
+
+// So many groups of eight packed numbers, from a bit of the first byte on, in the front of the memory.
+#[inline(always)]
+fn put_groups(out: &mut [u32], packed: &[u8], shift: u32, width: u32, groups: usize)
+    requires room { 8 * groups ≤ length out.old }
+    requires narrow { width ≤ 7 }
+    requires small { shift < 8 }
+    requires enough { shift + width * (8 * groups) ≤ 8 * length packed.now }
+    ensures { take (8 * groups) out.new ≡ digits_of (2 ^ width) (8 * groups) (number_of packed.now / 2 ^ shift) }
+{
+    for i in 0..groups {
+        let word = low_bytes(skip(packed, width as usize * i)) >> shift;
+        let part = &mut out[8 * i..];
+        put_eight(part, word, width);
+    }
+}
+
+/// The same, by a loop of its own for each width that most levels have.
+pub fn put_eights(out: &mut [u32], packed: &[u8], shift: u32, width: u32, groups: usize)
+    requires room { 8 * groups ≤ length out.old }
+    requires narrow { width ≤ 7 }
+    requires small { shift < 8 }
+    requires enough { shift + width * (8 * groups) ≤ 8 * length packed.now }
+    ensures { take (8 * groups) out.new ≡ digits_of (2 ^ width) (8 * groups) (number_of packed.now / 2 ^ shift) }
+{
+    match width {
+        1 => put_groups(out, packed, shift, 1, groups),
+        2 => put_groups(out, packed, shift, 2, groups),
+        3 => put_groups(out, packed, shift, 3, groups),
+        4 => put_groups(out, packed, shift, 4, groups),
+        _ => put_groups(out, packed, shift, width, groups),
+    }
+}
+
+/// The lowest numbers of a word, in the front of the memory.
+pub fn put_few(out: &mut [u32], word: u64, width: u32, count: usize)
+    requires room { count ≤ length out.old }
+    requires narrow { width ≤ 7 }
+    ensures { take count out.new ≡ digits_of (2 ^ width) count word }
+{
+    let mut left = word;
+    for i in 0..count {
+        out[i] = (left % (1 << width)) as u32;
+        left = left >> width;
     }
 }
 

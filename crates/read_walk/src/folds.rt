@@ -2,12 +2,32 @@
 ghost use Rattle.std.specs.Prelude.{◌≡◌, ℕ, ◌<◌, ◌≤◌, IsTrue, length, slice_index};
 ghost use Rattle.read_walk.specs.Pairs.{rows_in};
 
-use read_state::levels_at;
+use read_state::{levels_at, levels_to};
+use std::simd::prelude::*;
+
+// The bits that any of 64 levels has, all at once.
+fn block_bits(levels: &[u32]) -> u32
+    requires { length levels.now ≡ 64 }
+    ensures { (k : ℕ) → k < length levels.now → slice_index levels.now k ≤ result }
+{
+    Simd::<u32, 64>::from_slice(levels).reduce_or()
+}
+
+// Whether none of 64 levels is above this one.
+fn is_block_within(levels: &[u32], max: u32) -> bool
+    requires { length levels.now ≡ 64 }
+    ensures { IsTrue result → (k : ℕ) → k < length levels.now → slice_index levels.now k ≤ max }
+{
+    levels_to(levels, max) == u64::MAX
+}
 
 /// The bits that any of the levels has.
 pub fn all_bits(levels: &[u32]) -> u32
     ensures { (k : ℕ) → k < length levels.now → slice_index levels.now k ≤ result }
 {
+    if levels.len() == 64 {
+        return block_bits(levels);
+    }
     let mut bits = 0;
     for level in levels {
         bits = bits | *level;
@@ -43,6 +63,9 @@ pub fn are_within(levels: &[u32], max: usize) -> bool
 {
     if all_bits(levels) as usize <= max {
         return true;
+    }
+    if levels.len() == 64 && max < 0x1_0000_0000 {
+        return is_block_within(levels, max as u32);
     }
     greatest(levels) as usize <= max
 }

@@ -1,9 +1,10 @@
 //! Whether pairs may follow one another.
-ghost use Rattle.std.specs.Prelude.{◌≡◌, ◌⊎◌, ℕ, ◌+◌, ◌<◌, ◌≤◌, OnOk, IfErr, IsTrue, IfSome, Some, Option, length, replicate, slice_index};
+ghost use Rattle.std.specs.Prelude.{◌≡◌, ◌==◌, true, ℕ, ◌<◌, ◌≤◌, ◌^◌, OnOk, IfErr, IsTrue, IfSome, Some, Option, length, replicate, slice_index};
+ghost use Rattle.std.specs.Int.{bit_at};
 ghost use Rattle.shredding.specs.Shred.{max_definition, max_repetition};
 ghost use Rattle.shredding.specs.Local.{inside};
 ghost use Rattle.read_laws.specs.State.{kept_way};
-ghost use Rattle.read_walk.specs.Order.{zipped, Follows, MayCome, WhyNot, OneMayNot, PlainlyFollow};
+ghost use Rattle.read_walk.specs.Order.{zipped, Follows, MayCome, WhyNot, OneMayNot, PlainlyFollow, IsInside, level_before, MayComeAt};
 
 use crate::folds::{all_bits, are_from, are_within};
 use columns_base::{Error, Result, S};
@@ -128,16 +129,106 @@ fn reaches(before: Option<usize>, level: usize) -> bool
     }
 }
 
-// Whether each of 64 pairs begins a row, or lies inside the innermost list behind one that does; `carried` tells of the pair before them.
-fn is_chain(reps: &[u32], defs: &[u32], floor: u32, carried: bool) -> bool
+// A bit for each of 64 pairs of this definition level or a greater one behind one that is, too.
+fn inner_word(before: Option<usize>, defs: &[u32], floor: usize) -> u64
+    requires { length defs.now ≡ 64 }
+    ensures { (k : ℕ) → k < 64 → (bit_at result k == 1) ≡ true → (floor ≤ slice_index defs.now k) × IsInside floor (level_before before defs.now k) }
+{
+    if floor >= 0x1_0000_0000 {
+        return 0;
+    }
+    let inner = levels_from(defs, floor as u32);
+    let behind = inner % 0x8000_0000_0000_0000 * 2 + u64::from(reaches(before, floor));
+    inner & behind
+}
+
+// A bit for each of 64 pairs that begins a row, or lies inside the innermost list behind one that does.
+fn plain_word(
+    nested: &NestedState,
+    before: Option<usize>,
+    reps: &[u32],
+    defs: &[u32],
+    lists: usize,
+    floor: usize,
+) -> u64
     requires reps { length reps.now ≡ 64 }
     requires defs { length defs.now ≡ 64 }
-    ensures { IsTrue result → (k : ℕ) → k < 64 → (slice_index reps.now k ≡ 0) ⊎ ((floor ≤ slice_index defs.now k) × (((k ≡ 0) × IsTrue carried) ⊎ ((j : ℕ) × (k ≡ j + 1) × (floor ≤ slice_index defs.now j)))) }
+    requires lists { lists ≡ max_repetition (kept_way nested.now) }
+    requires floor { floor ≡ inside (kept_way nested.now) lists }
+    requires within { (k : ℕ) → k < 64 → slice_index reps.now k ≤ lists }
+    ensures { (k : ℕ) → k < 64 → (bit_at result k == 1) ≡ true → MayComeAt (kept_way nested.now) before reps.now defs.now k }
 {
-    let rows = levels_at(reps, 0);
-    let inner = levels_from(defs, floor);
-    let behind = inner % 0x8000_0000_0000_0000 * 2 + u64::from(carried);
-    rows | (inner & behind) == u64::MAX
+    levels_at(reps, 0) | inner_word(before, defs, floor)
+}
+
+// A bit for each of 64 pairs that repeats in the list of this number and lies inside it, behind one that does.
+fn list_word(
+    nested: &NestedState,
+    before: Option<usize>,
+    reps: &[u32],
+    defs: &[u32],
+    list: usize,
+) -> u64
+    requires reps { length reps.now ≡ 64 }
+    requires defs { length defs.now ≡ 64 }
+    requires few { list < 2 ^ 32 }
+    ensures { (k : ℕ) → k < 64 → (bit_at result k == 1) ≡ true → MayComeAt (kept_way nested.now) before reps.now defs.now k }
+{
+    let floor = nested.inside(list);
+    levels_at(reps, list as u32) & inner_word(before, defs, floor)
+}
+
+// Whether each of 64 pairs may come: the plain ones first, and then those of one list after another, the outermost last.
+fn all_may_come(
+    nested: &NestedState,
+    before: Option<usize>,
+    reps: &[u32],
+    defs: &[u32],
+    lists: usize,
+    floor: usize,
+) -> bool
+    requires reps { length reps.now ≡ 64 }
+    requires defs { length defs.now ≡ 64 }
+    requires lists { lists ≡ max_repetition (kept_way nested.now) }
+    requires floor { floor ≡ inside (kept_way nested.now) lists }
+    requires within { (k : ℕ) → k < 64 → slice_index reps.now k ≤ lists }
+    requires few { lists < 2 ^ 32 }
+    ensures { IsTrue result → (k : ℕ) → k < 64 → MayComeAt (kept_way nested.now) before reps.now defs.now k }
+{
+    let mut known = plain_word(nested, before, reps, defs, lists, floor);
+    let mut list = lists;
+    while known != u64::MAX && list > 1 {
+        list -= 1;
+        known = known | list_word(nested, before, reps, defs, list);
+    }
+    known == u64::MAX
+}
+
+// Whether 64 pairs may come, told by words of bits.
+fn may_follow(
+    nested: &NestedState,
+    before: Option<usize>,
+    reps: &[u32],
+    defs: &[u32],
+    lists: usize,
+    top: usize,
+    floor: usize,
+) -> bool
+    requires reps { length reps.now ≡ 64 }
+    requires defs { length defs.now ≡ 64 }
+    requires lists { lists ≡ max_repetition (kept_way nested.now) }
+    requires top { top ≡ max_definition (kept_way nested.now) }
+    requires floor { floor ≡ inside (kept_way nested.now) lists }
+    requires few { lists < 2 ^ 32 }
+    ensures { IsTrue result → Follows (kept_way nested.now) before (zipped reps.now defs.now) }
+{
+    if !are_within(reps, lists) {
+        return false;
+    }
+    if !are_within(defs, top) {
+        return false;
+    }
+    all_may_come(nested, before, reps, defs, lists, floor)
 }
 
 // Whether the pairs plainly may come: each begins a row, or lies inside the innermost list behind one that does.
@@ -157,9 +248,6 @@ fn plainly_follow(
     }
     if !are_within(defs, top) {
         return false;
-    }
-    if reps.len() == 64 && floor < 0x1_0000_0000 {
-        return is_chain(reps, defs, floor as u32, reaches(before, floor));
     }
     if all_bits(reps) == 0 {
         return true;
@@ -186,7 +274,11 @@ pub fn check_order(
     let lists = nested.max_repetition();
     let top = nested.max_definition();
     let floor = nested.inside(lists);
-    if plainly_follow(before, reps, defs, lists, top, floor) {
+    if reps.len() == 64 && lists < 0x1_0000_0000 {
+        if may_follow(nested, before, reps, defs, lists, top, floor) {
+            return Ok(());
+        }
+    } else if plainly_follow(before, reps, defs, lists, top, floor) {
         return Ok(());
     }
     check_each(nested, before, reps, defs, lists, top, floor)

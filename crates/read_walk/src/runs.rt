@@ -1,10 +1,12 @@
 //! The levels of one section, a block at a time (Parquet format, Encodings, "Run Length Encoding / Bit-Packing Hybrid").
 ghost use Rattle.std.specs.Prelude.{◌≡◌, ◌<◌, ◌≤◌, ◌+◌, ◌*◌, ◌/◌, ◌^◌, ◌∷◌, ◌++◌, [], length, take, replicate, min, Ok, Err, OnOk, OnSome, IfErr, MatchOption, ℕ, List};
+ghost use Rattle.pq_numbers.specs.Bits.{digits_of};
+ghost use Rattle.pq_numbers.specs.Texts.{number_of};
 ghost use Rattle.pq_runs.specs.Hybrid.{fault, given, hybrid};
 ghost use Rattle.pq_runs.specs.Taking.{IsRun, IsRepeatedRun, IsPackedRun, NoRun};
 ghost use Rattle.read_walk.specs.LevelRuns.{runs_left, IsReading, IsFilled};
 
-use crate::bits::{low_bytes, number_at, put_eight, skip, whole_number};
+use crate::bits::{low_bytes, number_at, put_eights, put_few, skip, whole_number};
 use columns_base::{Error, Result, S};
 use pq_runs::hybrid_rle::{Decoder, Run};
 
@@ -168,27 +170,24 @@ pub fn drop_copies<'a>(levels: &mut LevelRuns<'a>, count: usize)
     levels.left -= count;
 }
 
-// Eight packed numbers.
-fn take_eight<'a>(levels: &mut LevelRuns<'a>, out: &mut [u32])
+// Passes over so many of the packed numbers.
+fn drop_packed<'a>(levels: &mut LevelRuns<'a>, count: usize)
     requires is { IsReading levels.old }
     requires none { levels.old.copies ≡ 0 }
-    requires some { 8 ≤ levels.old.standing }
-    requires narrow { levels.old.runs.num_bits ≤ 7 }
-    requires room { 8 ≤ length out.old }
+    requires within { count ≤ levels.old.standing }
+    requires short { count ≤ 64 }
     ensures is { IsReading levels.new }
-    ensures none { levels.new.copies ≡ 0 }
-    ensures bits { levels.new.runs.num_bits ≡ levels.old.runs.num_bits }
-    ensures left { runs_left levels.old ≡ given (take 8 out.new) ++ runs_left levels.new }
+    ensures left { runs_left levels.old ≡ given (digits_of (2 ^ levels.old.runs.num_bits) count (number_of levels.old.packed.now / 2 ^ levels.old.shift)) ++ runs_left levels.new }
 {
     let width = levels.runs.num_bits;
-    put_eight(out, low_bytes(levels.packed) >> levels.shift, width);
-    levels.packed = skip(levels.packed, width as usize);
-    levels.standing -= 8;
-    levels.left -= 8;
+    let next = levels.shift as usize + width as usize * count;
+    levels.packed = skip(levels.packed, next / 8);
+    levels.shift = (next % 8) as u32;
+    levels.standing -= count;
+    levels.left -= count;
 }
 
-// Packed numbers, eight at a time, as long as so many stand there and there is room. What is being read is a value of its own meanwhile, which the
-// loop keeps in registers.
+// Packed numbers, as many groups of eight as stand there and as there is room for, but no more than eight.
 fn take_eights<'a>(levels: &mut LevelRuns<'a>, out: &mut [u32]) -> usize
     requires is { IsReading levels.old }
     requires none { levels.old.copies ≡ 0 }
@@ -200,26 +199,39 @@ fn take_eights<'a>(levels: &mut LevelRuns<'a>, out: &mut [u32]) -> usize
     ensures is { IsReading levels.new }
     ensures left { runs_left levels.old ≡ given (take result out.new) ++ runs_left levels.new }
 {
-    let mut reading = LevelRuns {
-        runs: Decoder {
-            values: levels.runs.values,
-            num_bits: levels.runs.num_bits,
-        },
-        left: levels.left,
-        packed: levels.packed,
-        shift: levels.shift,
-        standing: levels.standing,
-        number: levels.number,
-        copies: levels.copies,
-    };
-    let mut done = 0;
-    while reading.standing >= 8 && out.len() - done >= 8 {
-        let part = &mut out[done..];
-        take_eight(&mut reading, part);
-        done += 8;
-    }
-    *levels = reading;
-    done
+    let groups = levels.standing.min(out.len()).min(64) / 8;
+    put_eights(
+        out,
+        levels.packed,
+        levels.shift,
+        levels.runs.num_bits,
+        groups,
+    );
+    drop_packed(levels, 8 * groups);
+    8 * groups
+}
+
+// Packed numbers, fewer than eight, where no more stand there or there is no more room.
+fn take_few<'a>(levels: &mut LevelRuns<'a>, out: &mut [u32]) -> usize
+    requires is { IsReading levels.old }
+    requires none { levels.old.copies ≡ 0 }
+    requires some { 0 < levels.old.standing }
+    requires narrow { levels.old.runs.num_bits ≤ 7 }
+    requires room { 0 < length out.old }
+    ensures within { result ≤ length out.old }
+    ensures some { 0 < result }
+    ensures is { IsReading levels.new }
+    ensures left { runs_left levels.old ≡ given (take result out.new) ++ runs_left levels.new }
+{
+    let count = levels.standing.min(out.len()).min(7);
+    put_few(
+        out,
+        low_bytes(levels.packed) >> levels.shift,
+        levels.runs.num_bits,
+        count,
+    );
+    drop_packed(levels, count);
+    count
 }
 
 // One packed number.
@@ -230,13 +242,8 @@ fn take_one<'a>(levels: &mut LevelRuns<'a>) -> u32
     ensures is { IsReading levels.new }
     ensures first { runs_left levels.old ≡ Ok result ∷ runs_left levels.new }
 {
-    let width = levels.runs.num_bits;
-    let number = number_at(levels.packed, levels.shift, width);
-    let next = levels.shift + width;
-    levels.packed = skip(levels.packed, (next / 8) as usize);
-    levels.shift = next % 8;
-    levels.standing -= 1;
-    levels.left -= 1;
+    let number = number_at(levels.packed, levels.shift, levels.runs.num_bits);
+    drop_packed(levels, 1);
     number
 }
 
@@ -253,11 +260,14 @@ fn take_some<'a>(levels: &mut LevelRuns<'a>, out: &mut [u32]) -> usize
     if levels.copies > 0 {
         return take_copies(levels, out);
     }
-    if levels.runs.num_bits <= 7 && levels.standing >= 8 && out.len() >= 8 {
+    if levels.runs.num_bits > 7 {
+        out[0] = take_one(levels);
+        return 1;
+    }
+    if levels.standing.min(out.len()) >= 8 {
         return take_eights(levels, out);
     }
-    out[0] = take_one(levels);
-    1
+    take_few(levels, out)
 }
 
 /// Fills the memory from the front, and says how far, and whether it ended at a level that is not there.
