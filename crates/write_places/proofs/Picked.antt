@@ -71,7 +71,7 @@ small zero h = refl
 small (suc zero) h = refl
 small (suc (suc b)) h = absurd (omega (arith, h))
 
-cleared_bit : (word t i : ℕ) → t < 64 → i ≢ t → bit_at (bit_xor word (1 * 2 ^ t % 2 ^ 64)) i ≡ bit_at word i
+pub cleared_bit : (word t i : ℕ) → t < 64 → i ≢ t → bit_at (bit_xor word (1 * 2 ^ t % 2 ^ 64)) i ≡ bit_at word i
 cleared_bit word t i h n =
     rw (one_shl t 64 h) (bit_at_xor word (2 ^ t) i ∙ (ap (λ (k : ℕ). (bit_at word i + k) % 2) (bit_at-pow_other t i n) ∙ small (bit_at word i) (bit_at-lt word i)))
 
@@ -123,3 +123,6 @@ next_picked word from count some few low =
       places = from_bit word from count t first z.2
           ∙ (ap (λ (b : ℕ). cond (b == 1) ((from + t) ∷ []) [] ++ gather (chosen word from) (from + t + 1) (count - t - 1)) z.1 ∙ ap (λ (xs : List ℕ). (from + t) ∷ xs) (sym rest));
     }
+
+pub one_less : (word left from count t : ℕ) → IsNext word left from count t → length (picked word from count) ≡ suc (length (picked left from count))
+one_less word left from count t n = ap length n.places

@@ -10,10 +10,10 @@ use Rattle.levels.specs.Ranges.{leaf_count_or}
 use Rattle.levels.proofs.Rising.{rising}
 use Rattle.write_places.specs.declared.reach.Reach.TheVariants.{Nothing, Leaves, Picked, Below}
 use Rattle.write_places.specs.Places.{gather, slot_places}
-use Rattle.write_places.specs.Reach.{IsReach, IsListFoot, IsRun, IsRange}
+use Rattle.write_places.specs.Reach.{AreClosed, IsReach, IsListFoot, IsRun, IsRange}
 use Rattle.write_places.specs.There.{is_there, there_places}
 use Rattle.write_places.proofs.Bits.{from_word, full_more, zero_bits}
-use Rattle.write_places.proofs.Gather.{gather-alike, gather-nothing, gather-ranges, gather-split}
+use Rattle.write_places.proofs.Gather.{gather-alike, gather-none, gather-nothing, gather-ranges, gather-split}
 use Rattle.write_places.proofs.Slots.{slot_is, slot_there, slot_absent}
 
 -- ---- of a leaf beneath structs
@@ -63,20 +63,27 @@ range_first parts rest n few offsets place to start end first behind rises foot 
       places = gather-split (slot_places parts) place start end r.before r.ordered ∙ (ap (λ (xs : List ℕ). xs ++ gather (slot_places parts) start (end - start)) nothing ∙ rw (f, b) (rw e at all.1));
     }
 
--- one more range behind the first
-pub range_more : (parts rest : List Part) (span place to first behind end next last later : ℕ) → IsRange parts rest span place to first behind end → IsRange parts rest span end to next last later → next ≡ behind → IsRange parts rest span place to first last later
-range_more parts rest span place to first behind end next last later h g e =
-    let up : behind ≤ last = omega (arith, e, g.ordered) in
+-- lists that are there or have no items
+pub range_closed : (parts rest : List Part) (n few : ℕ) (offsets : List ℕ) (place to end first behind : ℕ) → IsRising offsets → IsListFoot parts n offsets rest few → to ≤ slot_count parts → AreClosed parts offsets place end → place < end → end ≤ to → first ≡ item_start offsets place → behind ≡ item_start offsets end → behind ≤ item_span offsets → IsRange parts rest (item_span offsets) place to first behind end
+range_closed parts rest n few offsets place to end first behind rises foot whole closed some within f b high =
+    let e : place + (end - place) ≡ end = omega (arith, some) in
+    let each : (i : ℕ) → place ≤ i → i < place + (end - place) → (item_start offsets i ≤ item_start offsets (i + 1)) × (slot_places parts i ≡ gather (slot_places rest) (item_start offsets i) (item_start offsets (i + 1) - item_start offsets i)) =
+    λ i low top. (starts_rise offsets i rises (omega (arith, top, some, within, whole, foot.1)), by_slot i low (omega (arith, top, some)) (is_there parts i) refl) in
+    let all = gather-ranges (slot_places parts) (slot_places rest) (item_start offsets) place (end - place) each in
+    let low : item_start offsets place ≤ item_start offsets end = rw e at all.0 in
     record {
-      after = omega (arith, h.after, g.after);
-      within = g.within;
-      ordered = omega (arith, h.ordered, up);
-      spanned = g.spanned;
-      places = gather-split (slot_places parts) place end later (omega (arith, h.after)) (omega (arith, g.after))
-          ∙ (ap (λ (xs : List ℕ). xs ++ gather (slot_places parts) end (later - end)) h.places
-          ∙ (ap (λ (xs : List ℕ). gather (slot_places rest) first (behind - first) ++ xs) (g.places ∙ ap (λ (k : ℕ). gather (slot_places rest) k (last - k)) e)
-          ∙ sym (gather-split (slot_places rest) first behind last h.ordered up)));
+      after = some;
+      within = within;
+      ordered = omega (arith, f, b, low);
+      spanned = high;
+      places = rw (f, b) (rw e at all.1);
     }
+  where
+    by_slot : (i : ℕ) → place ≤ i → i < end → (there : Bool) → is_there parts i ≡ there → slot_places parts i ≡ gather (slot_places rest) (item_start offsets i) (item_start offsets (i + 1) - item_start offsets i)
+    by_slot i low top true h = slot_there parts i h ∙ foot.0 i
+    by_slot i low top false h =
+        let none : item_start offsets (i + 1) - item_start offsets i ≡ 0 = omega (arith, closed i low top h) in
+        slot_absent parts i h ∙ sym (gather-none (slot_places rest) (item_start offsets i) _ none)
 
 pub all_lists : (parts : List Part) (rest : Bor (List Nested)) (n : ℕ) (offsets : List ℕ) (place to first behind end : ℕ) → IsListFoot parts n offsets (parts_of rest.now) (length rest.now) → IsRange parts (parts_of rest.now) (item_span offsets) place to first behind end → IsReach parts n place to (Below rest first behind end)
 all_lists parts rest n offsets place to first behind end foot r =
@@ -86,13 +93,3 @@ all_lists parts rest n offsets place to first behind end foot r =
       fits = (r.ordered, omega (arith, r.spanned, foot.2), foot.3, foot.4, foot.5);
       places = r.places;
     }
-
-pub full_run : (at : ℕ → Bool) (place to : ℕ) → ((i : ℕ) → at i ≡ true) → place < to → IsRun at place to place to
-full_run at place to all some = record {
-  before = omega arith;
-  ordered = omega (arith, some);
-  after = some;
-  within = omega arith;
-  gap = λ i l h. absurd (omega (arith, l, h));
-  run = λ i l h. all i;
-}

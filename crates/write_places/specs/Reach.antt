@@ -8,7 +8,7 @@ use Rattle.write_places.specs.declared.reach.Foot.TheVariants.{Leaf, ListOf, Lar
 use Rattle.write_places.specs.declared.reach.Reach.{Reach}
 use Rattle.write_places.specs.declared.reach.Reach.TheVariants.{Nothing, Leaves, Picked, Below}
 use Rattle.write_places.specs.Places.{gather, range, picked, slot_places}
-use Rattle.write_places.specs.There.{there_places}
+use Rattle.write_places.specs.There.{is_there, there_places}
 
 -- ---- the leaf or list behind the structs in front of a path
 
@@ -67,6 +67,10 @@ pub record IsRun (at : ℕ → Bool) (place last start end : ℕ) : Type 0 where
   pub within : end ≤ last
   pub gap : (i : ℕ) → place ≤ i → i < start → at i ≡ false
   pub run : (i : ℕ) → start ≤ i → i < end → at i ≡ true
+
+-- the lists from a place on to another are there or have no items
+abbrev pub AreClosed : List Part → List ℕ → ℕ → ℕ → Type 0
+AreClosed parts offsets place end = (i : ℕ) → place ≤ i → i < end → is_there parts i ≡ false → item_start offsets i ≡ item_start offsets (i + 1)
 
 -- the items of lists from a place on to a later one, which is at most the last one, lie side by side
 pub record IsRange (parts rest : List Part) (span place last first behind end : ℕ) : Type 0 where

@@ -10,4 +10,5 @@ mod walk;
 
 pub use laws::{columns_are_stored, values_are_at_places};
 pub use taker::Taker;
+pub use there::full_word;
 pub use walk::take_places;

@@ -1,13 +1,14 @@
 //! What slots of a path side by side reach.
-ghost use Rattle.std.specs.Prelude.{◌≡◌, ℕ, ◌+◌, ◌-◌, ◌<◌, ◌≤◌, cond, List, ◌∷◌, [], length};
+ghost use Rattle.std.specs.Prelude.{◌≡◌, ℕ, ◌+◌, ◌-◌, ◌^◌, ◌<◌, ◌≤◌, cond, List, ◌∷◌, [], length};
+ghost use Rattle.std.specs.Int.{bit_at};
 ghost use Rattle.shredding.specs.Parts.{IsPath, item_start, item_span, slot_count};
 ghost use Rattle.columns_core.specs.Rising.{IsRising};
 ghost use Rattle.levels.specs.Nested.{parts_of};
-ghost use Rattle.write_places.specs.Reach.{IsFoot, IsListFoot, IsReach, IsRange};
-ghost use Rattle.write_places.specs.There.{there_places};
+ghost use Rattle.write_places.specs.Reach.{AreClosed, IsFoot, IsListFoot, IsReach, IsRange};
+ghost use Rattle.write_places.specs.There.{there_places, TellThere};
 ghost use Rattle.levels.specs.Ranges.{leaf_count_or};
 
-use crate::there::{full_end, full_word, is_full, next_run, there_word, word_size};
+use crate::there::{Masks, full_end, full_word, masked_word, next_run, word_size};
 use columns_core::{Offset, OffsetsBuffer};
 use levels::{ListNested, Nested};
 
@@ -35,8 +36,8 @@ pub enum Reach<'a> {
     Below(&'a [Nested], usize, usize, usize),
 }
 
-// The leaf or list behind the structs in front.
-fn foot_of(parts: &[Nested]) -> Foot<'_>
+/// The leaf or list behind the structs in front.
+pub fn foot_of(parts: &[Nested]) -> Foot<'_>
     requires { IsPath (parts_of parts.now) }
     ensures { IsFoot (parts_of parts.now) (length parts.now) result }
 {
@@ -52,23 +53,25 @@ fn foot_of(parts: &[Nested]) -> Foot<'_>
 }
 
 // What slots of a leaf beneath structs reach. Where all are there, they are one stretch.
-fn reach_leaves(parts: &[Nested], place: usize, to: usize) -> Reach<'_>
+#[inline(always)]
+fn reach_leaves<'a>(masks: Masks<'_>, parts: &'a [Nested], place: usize, to: usize) -> Reach<'a>
     requires well { IsPath (parts_of parts.now) }
+    requires tell { TellThere (parts_of parts.now) masks }
     requires leaf { (i : ℕ) → there_places (parts_of parts.now) i ≡ i ∷ [] }
     requires room { slot_count (parts_of parts.now) ≤ leaf_count_or 0 (parts_of parts.now) }
     requires some { place < to }
     requires within { to ≤ slot_count (parts_of parts.now) }
     ensures { IsReach (parts_of parts.now) (length parts.now) place to result }
 {
-    if is_full(parts) {
+    if let Masks::Nowhere = masks {
         return Reach::Leaves(to);
     }
     let count = word_size(place, to);
-    let word = there_word(parts, place, count);
+    let word = masked_word(masks, parts, place, count);
     if word == 0 {
         Reach::Nothing(place + count)
     } else if word == full_word(count) {
-        Reach::Leaves(full_end(parts, place + count, to))
+        Reach::Leaves(full_end(masks, parts, place + count, to))
     } else {
         Reach::Picked(word, place + count)
     }
@@ -87,8 +90,66 @@ fn item_place<O: Offset>(offsets: &OffsetsBuffer<O>, i: usize) -> usize
     offsets.place(i) - offsets.place(0)
 }
 
+// How many lists from a place on are there or have no items, up to the first that is neither. Those that are there have their bits set.
+fn closed_lists<O: Offset>(
+    offsets: &OffsetsBuffer<O>,
+    place: usize,
+    word: u64,
+    count: usize,
+) -> usize
+    requires some { 0 < count }
+    requires few { count ≤ 64 }
+    requires low { word < 2 ^ count }
+    requires within { place + count < length offsets.now }
+    ensures few { result ≤ count }
+    ensures closed { (i : ℕ) → i < result → bit_at word i ≡ 0 → item_start offsets.now (place + i) ≡ item_start offsets.now (place + i + 1) }
+{
+    let _lists = offsets.len_proxy();
+    let mut absent = word ^ full_word(count);
+    while absent != 0 {
+        let i = absent.trailing_zeros() as usize;
+        if offsets.place(place + i) != offsets.place(place + i + 1) {
+            return i;
+        }
+        absent ^= 1 << i;
+    }
+    count
+}
+
+// Where lists from a place on end that are there or have no items.
+fn closed_end<O: Offset>(
+    masks: Masks<'_>,
+    parts: &[Nested],
+    offsets: &OffsetsBuffer<O>,
+    place: usize,
+    to: usize,
+) -> usize
+    requires well { IsPath (parts_of parts.now) }
+    requires tell { TellThere (parts_of parts.now) masks }
+    requires lists { slot_count (parts_of parts.now) ≡ length offsets.now - 1 }
+    requires ordered { place ≤ to }
+    requires within { to ≤ slot_count (parts_of parts.now) }
+    ensures after { place ≤ result }
+    ensures within { result ≤ to }
+    ensures closed { AreClosed (parts_of parts.now) offsets.now place result }
+{
+    let _lists = offsets.len_proxy();
+    let mut end = place;
+    while end < to {
+        let count = word_size(end, to);
+        let word = masked_word(masks, parts, end, count);
+        let closed = closed_lists(offsets, end, word, count);
+        end += closed;
+        if closed < count {
+            return end;
+        }
+    }
+    end
+}
+
 // The items of lists from a place on that lie side by side, and the place behind the lists.
 fn next_range<O: Offset>(
+    masks: Masks<'_>,
     parts: &[Nested],
     list: &ListNested<O>,
     rest: &[Nested],
@@ -96,27 +157,26 @@ fn next_range<O: Offset>(
     to: usize,
 ) -> (usize, usize, usize)
     requires well { IsPath (parts_of parts.now) }
+    requires tell { TellThere (parts_of parts.now) masks }
     requires foot { IsListFoot (parts_of parts.now) (length parts.now) list.now.offsets (parts_of rest.now) (length rest.now) }
     requires some { place < to }
     requires within { to ≤ slot_count (parts_of parts.now) }
     ensures { IsRange (parts_of parts.now) (parts_of rest.now) (item_span list.now.offsets) place to result.0 result.1 result.2 }
 {
-    let (start, mut end) = next_run(parts, place, to);
-    let first = item_place(&list.offsets, start);
-    let mut behind = item_place(&list.offsets, end);
-    while end < to {
-        let (next, last) = next_run(parts, end, to);
-        if item_place(&list.offsets, next) != behind {
-            return (first, behind, end);
-        }
-        behind = item_place(&list.offsets, last);
-        end = last;
+    let end = closed_end(masks, parts, &list.offsets, place, to);
+    if end == place {
+        let (start, end) = next_run(masks, parts, place, to);
+        let first = item_place(&list.offsets, start);
+        return (first, item_place(&list.offsets, end), end);
     }
-    (first, behind, end)
+    let first = item_place(&list.offsets, place);
+    (first, item_place(&list.offsets, end), end)
 }
 
 // What slots of a list beneath structs reach. The items of lists side by side lie side by side, be some of them empty.
+#[inline(always)]
 fn reach_lists<'a, O: Offset>(
+    masks: Masks<'_>,
     parts: &[Nested],
     list: &ListNested<O>,
     rest: &'a [Nested],
@@ -124,30 +184,35 @@ fn reach_lists<'a, O: Offset>(
     to: usize,
 ) -> Reach<'a>
     requires well { IsPath (parts_of parts.now) }
+    requires tell { TellThere (parts_of parts.now) masks }
     requires foot { IsListFoot (parts_of parts.now) (length parts.now) list.now.offsets (parts_of rest.now) (length rest.now) }
     requires some { place < to }
     requires within { to ≤ slot_count (parts_of parts.now) }
     ensures { IsReach (parts_of parts.now) (length parts.now) place to result }
 {
-    if is_full(parts) {
-        let first = item_place(&list.offsets, place);
-        let behind = item_place(&list.offsets, to);
-        return Reach::Below(rest, first, behind, to);
-    }
-    let (first, behind, end) = next_range(parts, list, rest, place, to);
+    let (first, behind, end) = next_range(masks, parts, list, rest, place, to);
     Reach::Below(rest, first, behind, end)
 }
 
 /// What the slots of a path from a place on reach, to a place not behind `to`.
-pub fn reach_at(parts: &[Nested], place: usize, to: usize) -> Reach<'_>
+#[inline(always)]
+pub fn reach_at<'a>(
+    foot: Foot<'a>,
+    masks: Masks<'_>,
+    parts: &'a [Nested],
+    place: usize,
+    to: usize,
+) -> Reach<'a>
     requires well { IsPath (parts_of parts.now) }
+    requires foot { IsFoot (parts_of parts.now) (length parts.now) foot }
+    requires tell { TellThere (parts_of parts.now) masks }
     requires some { place < to }
     requires within { to ≤ slot_count (parts_of parts.now) }
     ensures { IsReach (parts_of parts.now) (length parts.now) place to result }
 {
-    match foot_of(parts) {
-        Foot::Leaf => reach_leaves(parts, place, to),
-        Foot::ListOf(list, rest) => reach_lists(parts, list, rest, place, to),
-        Foot::LargeListOf(list, rest) => reach_lists(parts, list, rest, place, to),
+    match foot {
+        Foot::Leaf => reach_leaves(masks, parts, place, to),
+        Foot::ListOf(list, rest) => reach_lists(masks, parts, list, rest, place, to),
+        Foot::LargeListOf(list, rest) => reach_lists(masks, parts, list, rest, place, to),
     }
 }

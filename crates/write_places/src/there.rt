@@ -4,12 +4,23 @@ ghost use Rattle.std.specs.Int.{bit_at};
 ghost use Rattle.shredding.specs.Parts.{IsPath, MaskFits, is_present, slot_count};
 ghost use Rattle.levels.specs.Nested.{parts_of};
 ghost use Rattle.write_places.specs.Reach.{IsRun};
-ghost use Rattle.write_places.specs.There.{is_there};
+ghost use Rattle.write_places.specs.There.{is_there, TellThere};
 
 use columns_core::Bitmap;
-use levels::Nested;
+use levels::{ListNested, Nested};
 
-// A word whose low bits are set.
+/// The masks that tell which slots of a path are there.
+#[derive(Clone, Copy, Drop)]
+pub enum Masks<'a> {
+    /// None: all are there.
+    Nowhere,
+    /// One.
+    Sole(&'a Bitmap),
+    /// Those of the parts in front.
+    InFront,
+}
+
+/// A word whose low bits are set.
 pub fn full_word(count: usize) -> u64
     requires some { 0 < count }
     requires few { count ≤ 64 }
@@ -100,6 +111,52 @@ pub fn is_full(parts: &[Nested]) -> bool
     }
 }
 
+/// The masks that tell which slots of a path are there.
+pub fn masks_of(parts: &[Nested]) -> Masks<'_>
+    requires { IsPath (parts_of parts.now) }
+    ensures { TellThere (parts_of parts.now) result }
+{
+    if is_full(parts) {
+        return Masks::Nowhere;
+    }
+    match &parts[0] {
+        Nested::Primitive(Some(mask), true, _) => Masks::Sole(mask),
+        Nested::List(
+            ListNested {
+                is_optional: true,
+                offsets: _,
+                validity: Some(mask),
+            },
+        ) => Masks::Sole(mask),
+        Nested::LargeList(
+            ListNested {
+                is_optional: true,
+                offsets: _,
+                validity: Some(mask),
+            },
+        ) => Masks::Sole(mask),
+        _ => Masks::InFront,
+    }
+}
+
+/// Which slots of a path are there from a place on by its masks, as the low bits of a word.
+#[inline(always)]
+pub fn masked_word(masks: Masks<'_>, parts: &[Nested], from: usize, count: usize) -> u64
+    requires well { IsPath (parts_of parts.now) }
+    requires tell { TellThere (parts_of parts.now) masks }
+    requires some { 0 < count }
+    requires few { count ≤ 64 }
+    requires within { from + count ≤ slot_count (parts_of parts.now) }
+    ensures bits { (i : ℕ) → i < count → (bit_at result i == 1) ≡ is_there (parts_of parts.now) (from + i) }
+    ensures low { result < 2 ^ count }
+{
+    match masks {
+        Masks::Nowhere => full_word(count),
+        Masks::Sole(mask) => mask.word_at(from, count),
+        Masks::InFront => there_word(parts, from, count),
+    }
+}
+
 // How many places there are from one on, at most 64.
 pub fn word_size(place: usize, to: usize) -> usize
     requires { place < to }
@@ -111,8 +168,9 @@ pub fn word_size(place: usize, to: usize) -> usize
 }
 
 // Where slots end that are all there from a place on, as far as whole words tell.
-pub fn full_end(parts: &[Nested], from: usize, to: usize) -> usize
+pub fn full_end(masks: Masks<'_>, parts: &[Nested], from: usize, to: usize) -> usize
     requires well { IsPath (parts_of parts.now) }
+    requires tell { TellThere (parts_of parts.now) masks }
     requires ordered { from ≤ to }
     requires within { to ≤ slot_count (parts_of parts.now) }
     ensures after { from ≤ result }
@@ -122,7 +180,7 @@ pub fn full_end(parts: &[Nested], from: usize, to: usize) -> usize
     let mut end = from;
     while end < to {
         let count = word_size(end, to);
-        if there_word(parts, end, count) != full_word(count) {
+        if masked_word(masks, parts, end, count) != full_word(count) {
             return end;
         }
         end += count;
@@ -131,14 +189,15 @@ pub fn full_end(parts: &[Nested], from: usize, to: usize) -> usize
 }
 
 // The next slots from a place on that are there, side by side, as far as 64 tell.
-pub fn next_run(parts: &[Nested], place: usize, to: usize) -> (usize, usize)
+pub fn next_run(masks: Masks<'_>, parts: &[Nested], place: usize, to: usize) -> (usize, usize)
     requires well { IsPath (parts_of parts.now) }
+    requires tell { TellThere (parts_of parts.now) masks }
     requires some { place < to }
     requires within { to ≤ slot_count (parts_of parts.now) }
     ensures { IsRun (is_there (parts_of parts.now)) place to result.0 result.1 }
 {
     let count = word_size(place, to);
-    let word = there_word(parts, place, count);
+    let word = masked_word(masks, parts, place, count);
     if word == 0 {
         return (place + count, place + count);
     }

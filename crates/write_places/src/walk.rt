@@ -5,29 +5,51 @@ ghost use Rattle.columns_base.specs.declared.error.Error.{Error};
 ghost use Rattle.levels.specs.Nested.{parts_of};
 ghost use Rattle.levels.specs.Ranges.{leaf_count_or};
 ghost use Rattle.write_places.specs.Places.{gather, slot_places, path_places};
-ghost use Rattle.write_places.specs.Reach.{IsReach, reached};
+ghost use Rattle.write_places.specs.Reach.{IsFoot, IsReach, reached};
+ghost use Rattle.write_places.specs.There.{TellThere};
 
-use crate::reach::{Reach, reach_at};
+use crate::reach::{Foot, Reach, foot_of, reach_at};
 use crate::taker::Taker;
+use crate::there::{Masks, masks_of};
 use columns_core::Result;
 use levels::{Nested, slot_count};
 
 // What the slots at a place reach, which the taker can take.
-fn reach_for<'a, T: Taker>(taker: &T, parts: &'a [Nested], place: usize, to: usize) -> Reach<'a>
+#[inline(always)]
+fn reach_for<'a, T: Taker>(
+    taker: &T,
+    foot: Foot<'a>,
+    masks: Masks<'_>,
+    parts: &'a [Nested],
+    place: usize,
+    to: usize,
+) -> Reach<'a>
     requires well { IsPath (parts_of parts.now) }
+    requires foot { IsFoot (parts_of parts.now) (length parts.now) foot }
+    requires tell { TellThere (parts_of parts.now) masks }
     requires some { place < to }
     requires within { to ≤ slot_count (parts_of parts.now) }
     requires accepted { T.accepts taker.now (gather (slot_places (parts_of parts.now)) place (to - place)) }
     ensures is { IsReach (parts_of parts.entry.now) (length parts.entry.now) place to result }
     ensures accepted { T.accepts taker.now (reached place result) }
 {
-    reach_at(parts, place, to)
+    reach_at(foot, masks, parts, place, to)
 }
 
 // Takes what the slots at a place reach, and gives the place behind them.
 #[cycle(walk)]
-fn step<T: Taker>(taker: &mut T, parts: &[Nested], place: usize, to: usize) -> Result<usize>
+#[inline(always)]
+fn step<T: Taker>(
+    taker: &mut T,
+    foot: Foot<'_>,
+    masks: Masks<'_>,
+    parts: &[Nested],
+    place: usize,
+    to: usize,
+) -> Result<usize>
     requires well { IsPath (parts_of parts.now) }
+    requires foot { IsFoot (parts_of parts.now) (length parts.now) foot }
+    requires tell { TellThere (parts_of parts.now) masks }
     requires some { place < to }
     requires within { to ≤ slot_count (parts_of parts.now) }
     requires leaf { leaf_count_or 0 (parts_of parts.now) ≤ T.limit taker.old }
@@ -41,7 +63,7 @@ fn step<T: Taker>(taker: &mut T, parts: &[Nested], place: usize, to: usize) -> R
     ensures refused { IfErr result (T.refuses taker.old) }
     ensures same { (e : Error) → T.refuses taker.new e → T.refuses taker.old e }
 {
-    match reach_for(&*taker, parts, place, to) {
+    match reach_for(&*taker, foot, masks, parts, place, to) {
         Reach::Nothing(end) => Ok(end),
         Reach::Leaves(end) => {
             taker.take(place, end)?;
@@ -74,9 +96,11 @@ fn walk<T: Taker>(taker: &mut T, parts: &[Nested], from: usize, to: usize) -> Re
     ensures refused { IfErr result (T.refuses taker.old) }
     ensures same { (e : Error) → T.refuses taker.new e → T.refuses taker.old e }
 {
+    let foot = foot_of(parts);
+    let masks = masks_of(parts);
     let mut place = from;
     'places: while place < to {
-        place = step(taker, parts, place, to)?;
+        place = step(taker, foot, masks, parts, place, to)?;
     }
     Ok(())
 }

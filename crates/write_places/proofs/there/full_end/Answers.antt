@@ -11,5 +11,5 @@ loop-end-preserved c =
     record {
       after = omega (arith, i.after);
       within = n.within;
-      there = full_further (is_there (parts_of c.args.parts.now)) c.args.from c.loop-end.end c.word_size-count.result c.there_word.result (c.if-there_word-full_word.false ∙ c.full_word.ensures) c.there_word.ensures.bits i.there;
+      there = full_further (is_there (parts_of c.args.parts.now)) c.args.from c.loop-end.end c.word_size-count.result c.masked_word.result (c.if-masked_word-full_word.false ∙ c.full_word.ensures) c.masked_word.ensures.bits i.there;
     }

@@ -9,17 +9,17 @@ use Rattle.write_places.proofs.there.next_run.Goals as goal
 pub returns-then-word-eq0 : goal.returns-then-word-eq0
 returns-then-word-eq0 c =
     let n = c.word_size-count.ensures in
-    no_run (is_there (parts_of c.args.parts.now)) c.args.place c.args.to c.word_size-count.result c.there_word-word.result n.some n.within c.there_word-word.ensures.bits c.if-word-eq0.true
+    no_run (is_there (parts_of c.args.parts.now)) c.args.place c.args.to c.word_size-count.result c.masked_word-word.result n.some n.within c.masked_word-word.ensures.bits c.if-word-eq0.true
 
 pub returns-then-word : goal.returns-then-word
 returns-then-word c =
     let n = c.word_size-count.ensures in
-    whole_run (is_there (parts_of c.args.parts.now)) c.args.place c.args.to c.word_size-count.result c.there_word-word.result n.some n.few n.within c.there_word-word.ensures.bits c.if-word.true
+    whole_run (is_there (parts_of c.args.parts.now)) c.args.place c.args.to c.word_size-count.result c.masked_word-word.result n.some n.few n.within c.masked_word-word.ensures.bits c.if-word.true
 
-here : (c : goal.After-trailing_ones-run) → IsRun (is_there (parts_of c.args.parts.now)) c.args.place c.args.to (c.args.place + trailing_zeros w64 c.there_word-word.result) (c.args.place + trailing_zeros w64 c.there_word-word.result + c.trailing_ones-run.result)
+here : (c : goal.After-trailing_ones-run) → IsRun (is_there (parts_of c.args.parts.now)) c.args.place c.args.to (c.args.place + trailing_zeros w64 c.masked_word-word.result) (c.args.place + trailing_zeros w64 c.masked_word-word.result + c.trailing_ones-run.result)
 here c =
     let n = c.word_size-count.ensures in
-    let w = c.there_word-word in
+    let w = c.masked_word-word in
     let most : w.result < 18446744073709551615 = omega (arith, w.type_inv, c.if-word.false) in
     let some : 0 < w.result = omega (arith, c.if-word-eq0.false) in
     rw c.trailing_ones-run.ensures (run_is (is_there (parts_of c.args.parts.now)) c.args.place c.args.to c.word_size-count.result w.result n.few n.within w.ensures.low w.ensures.bits some most)
