@@ -4,7 +4,7 @@ use Rattle.std.proofs.lemmas.List.{length-append, length-replicate, take_more}
 use Rattle.std.proofs.lemmas.Nat.{mul-le}
 use Rattle.pq_runs.specs.Stretches.{one_if_any, stretch_bits, filled_up, Takes}
 use Rattle.pq_runs.specs.Writing.{Wrote, Waiting, Keeps, AppendsRuns, IsTight}
-use Rattle.pq_runs.proofs.Steps.{replicate-append, none_waits, wrote_more, Ends}
+use Rattle.pq_runs.proofs.Steps.{replicate-append, none_waits, Ends}
 use Rattle.pq_runs.proofs.Tight.{Tighter}
 use Rattle.pq_runs.proofs.Short.{nothing_spent, spent_copies, spent_others, spent_done}
 
@@ -50,7 +50,7 @@ keeps_settled start out out' width block block' number count number' count' xs s
     }
 
 -- how many bits a few copies in the block take
-few_taken : (w count : ℕ) (out block block' : List ℕ) → count ≤ 8 → length block' ≡ length block + count → Takes w out block out block' (stretch_bits w * one_if_any count)
+pub few_taken : (w count : ℕ) (out block block' : List ℕ) → count ≤ 8 → length block' ≡ length block + count → Takes w out block out block' (stretch_bits w * one_if_any count)
 few_taken w zero out block block' few n =
     let same : length block' ≡ length block = omega (arith, n) in
     let filled : w * filled_up (length block') ≡ w * filled_up (length block) = ap (λ (k : ℕ). w * filled_up k) same in
@@ -60,15 +60,6 @@ few_taken w (suc c) out block block' few n =
     let sum : w * (filled_up (length block) + 8) ≡ w * filled_up (length block) + 8 * w = omega arith in
     let one : stretch_bits w * 1 ≡ 14 * w + 152 = omega arith in
     omega (arith, filled, sum, one)
-
--- the number that waited, of which there are few copies, goes into the block, and another one waits
-pub keeps_packed : (start out : List ℕ) (width : ℕ) (block block' : List ℕ) (number count number' count' : ℕ) (xs : List ℕ)
-    → 0 < count' → (number ≡ number' → 2 ^ 40 ≤ count) → count ≤ 8 → block' ≡ block ++ replicate count number → Keeps start out (waiting width block number count) xs → Keeps start out (waiting width block' number' count') (xs ++ replicate count' number')
-keeps_packed start out width block block' number count number' count' xs some ends few e k =
-    let n : length block' ≡ length block + count = ap length e ∙ length-append block (replicate count number) ∙ ap (λ (j : ℕ). length block + j) (length-replicate count number) in
-    keeps_settled start out out width block block' number count number' count' xs some ends (few_taken width count out block block' few n)
-    (λ start' ys w. subst (λ (b : List ℕ). Wrote width start' out b (ys ++ replicate count number)) (sym e) (wrote_more width start' out block ys (replicate count number) w))
-    (λ start' done t. (done, omega (arith, n), t)) k
 
 -- one number more of a list
 pub numbers_on : (start out : List ℕ) (w : Waiting) (xs numbers : List ℕ) (i number : ℕ) → i < length numbers → number ≡ get_or numbers i 0 → Keeps start out w ((xs ++ take i numbers) ++ number ∷ []) → Keeps start out w (xs ++ take (i + 1) numbers)

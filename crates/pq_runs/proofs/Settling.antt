@@ -1,8 +1,8 @@
 -- How many bits copies take.
-use Rattle.std.proofs.Common.{◌≡◌, ◌⊎◌, inl, inr, ℕ, zero, suc, ◌+◌, ◌-◌, ◌*◌, ◌%◌, ◌^◌, ◌<◌, ◌≤◌, Bool, true, false, not, ◌==◌, ◌≢◌, List, [], ◌∷◌, ◌++◌, length, refl, sym, ap, ◌∙◌, arith}
+use Rattle.std.proofs.Common.{◌≡◌, ◌⊎◌, inl, inr, ℕ, zero, suc, ◌+◌, ◌-◌, ◌*◌, ◌%◌, ◌^◌, ◌<◌, ◌≤◌, Bool, true, false, not, ◌==◌, ◌≢◌, List, [], ◌++◌, length, replicate, refl, sym, ap, ◌∙◌, arith}
 use Rattle.std.proofs.lemmas.Bool.{false≢true}
 use Rattle.std.proofs.lemmas.Bool.Decides.{eqb_tells}
-use Rattle.std.proofs.lemmas.List.{length-append}
+use Rattle.std.proofs.lemmas.List.{length-append, length-replicate}
 use Rattle.std.proofs.lemmas.Nat.{mul-le}
 use Rattle.pq_numbers.specs.Bits.{bytes_for}
 use Rattle.pq_numbers.specs.Varint.{varint}
@@ -16,10 +16,10 @@ abbrev pub Taken : ℕ → List ℕ → List ℕ → List ℕ → List ℕ → �
 Taken w out0 block0 out block p =
     ((length out ≤ length out0) × (length block ≡ length block0 + p)) ⊎ ((8 * length out ≤ 8 * length out0 + 8 + w * 504) × (length block + 504 ≡ length block0 + p))
 
-pub taken_pushed : (w : ℕ) (out0 block0 out block : List ℕ) (v count left : ℕ) → 0 < left → left ≤ count → Taken w out0 block0 out block (count - left) → Taken w out0 block0 out (block ++ v ∷ []) (count - (left - 1))
-taken_pushed w out0 block0 out block v count left some most t =
-    let n : length (block ++ v ∷ []) ≡ length block + 1 = length-append block (v ∷ []) in
-    elim t [ inl a ↦ inl (a.0, omega (arith, a.1, n, some, most)) | inr b ↦ inr (b.0, omega (arith, b.1, n, some, most)) ]
+pub taken_pushed : (w : ℕ) (out0 block0 out block : List ℕ) (v count left some : ℕ) → some ≤ left → left ≤ count → Taken w out0 block0 out block (count - left) → Taken w out0 block0 out (block ++ replicate some v) (count - (left - some))
+taken_pushed w out0 block0 out block v count left some few most t =
+    let n : length (block ++ replicate some v) ≡ length block + some = length-append block (replicate some v) ∙ ap (λ (k : ℕ). length block + k) (length-replicate some v) in
+    elim t [ inl a ↦ inl (a.0, omega (arith, a.1, n, few, most)) | inr b ↦ inr (b.0, omega (arith, b.1, n, few, most)) ]
 
 -- ---- how many are packed
 
@@ -31,16 +31,16 @@ IsFilling many n count left = (n + (count - left) ≤ filled_up n) ⊎ ((left < 
 same_place : (w many : ℕ) (out0 block0 out block : List ℕ) (p : ℕ) → Taken w out0 block0 out block p → length block % 8 ≡ (length block0 + p) % 8
 same_place w many out0 block0 out block p t = elim t [ inl a ↦ omega (arith, a.1) | inr b ↦ omega (arith, b.1) ]
 
-pub filling_on : (w many : ℕ) (out0 block0 out block : List ℕ) (count left : ℕ) → 0 < left → left ≤ count → (left < many) ⊎ (0 < length block % 8) → Taken w out0 block0 out block (count - left) → IsFilling many (length block0) count left → IsFilling many (length block0) count (left - 1)
-filling_on w many out0 block0 out block count left some most t taken f = next t f
+pub filling_on : (w many : ℕ) (out0 block0 out block : List ℕ) (count left some : ℕ) → some ≤ left → left ≤ count → some + length block % 8 ≤ 8 → (left < many) ⊎ (0 < length block % 8) → Taken w out0 block0 out block (count - left) → IsFilling many (length block0) count left → IsFilling many (length block0) count (left - some)
+filling_on w many out0 block0 out block count left some few most room t taken f = next t f
   where
     place : length block % 8 ≡ (length block0 + (count - left)) % 8
     place = same_place w many out0 block0 out block (count - left) taken
 
-    next : (left < many) ⊎ (0 < length block % 8) → IsFilling many (length block0) count left → IsFilling many (length block0) count (left - 1)
-    next (inl few) (inl h) = inr (omega (arith, few), omega (arith, h, few, most))
-    next (inr within) (inl h) = inl (omega (arith, h, some, most, within, place))
-    next t (inr h) = inr (omega (arith, h.0, some), h.1)
+    next : (left < many) ⊎ (0 < length block % 8) → IsFilling many (length block0) count left → IsFilling many (length block0) count (left - some)
+    next (inl less) (inl h) = inr (omega (arith, less), omega (arith, h, less, most))
+    next (inr within) (inl h) = inl (omega (arith, h, few, most, within, place, room))
+    next t (inr h) = inr (omega (arith, h.0), h.1)
 
 pub taken_flushed : (w many : ℕ) (out0 block0 out block out' : List ℕ) (count left : ℕ) → many ≤ 32 → left ≤ count → length block0 < 504 → length block ≡ 504 → 8 * length out' ≤ 8 * length out + 8 + w * length block → IsFilling many (length block0) count left → Taken w out0 block0 out block (count - left) → Taken w out0 block0 out' [] (count - left)
 taken_flushed w many out0 block0 out block out' count left few most room full size f t =

@@ -115,12 +115,12 @@ replicate-append (suc m) n v =
     let e : suc m + n ≡ suc (m + n) = omega arith in
     ap (λ (t : List ℕ). v ∷ t) (replicate-append m n v) ∙ ap (λ (k : ℕ). replicate k v) (sym e)
 
--- one of the copies that are left
-pub wrote_one : (w : ℕ) (start out pending xs : List ℕ) (v count left : ℕ) → 0 < left → left ≤ count → Wrote w start out pending (xs ++ replicate (count - left) v) → Wrote w start out (pending ++ v ∷ []) (xs ++ replicate (count - (left - 1)) v)
-wrote_one w start out pending xs v count left some most s =
-    let e : count - (left - 1) ≡ count - left + 1 = omega arith in
-    let all : (xs ++ replicate (count - left) v) ++ v ∷ [] ≡ xs ++ replicate (count - (left - 1)) v = append_assoc xs (replicate (count - left) v) (v ∷ []) ∙ ap (λ (t : List ℕ). xs ++ t) (replicate-append (count - left) 1 v ∙ ap (λ (k : ℕ). replicate k v) (sym e)) in
-    subst (λ (ys : List ℕ). Wrote w start out (pending ++ v ∷ []) ys) all (wrote_more w start out pending (xs ++ replicate (count - left) v) (v ∷ []) s)
+-- some of the copies that are left
+pub wrote_some : (w : ℕ) (start out pending xs : List ℕ) (v count left some : ℕ) → some ≤ left → left ≤ count → Wrote w start out pending (xs ++ replicate (count - left) v) → Wrote w start out (pending ++ replicate some v) (xs ++ replicate (count - (left - some)) v)
+wrote_some w start out pending xs v count left some few most s =
+    let e : count - (left - some) ≡ count - left + some = omega (arith, few, most) in
+    let all : (xs ++ replicate (count - left) v) ++ replicate some v ≡ xs ++ replicate (count - (left - some)) v = append_assoc xs (replicate (count - left) v) (replicate some v) ∙ ap (λ (t : List ℕ). xs ++ t) (replicate-append (count - left) some v ∙ ap (λ (k : ℕ). replicate k v) (sym e)) in
+    subst (λ (ys : List ℕ). Wrote w start out (pending ++ replicate some v) ys) all (wrote_more w start out pending (xs ++ replicate (count - left) v) (replicate some v) s)
 
 -- all that are left
 pub wrote_left : (w : ℕ) (start out out' xs value : List ℕ) (v count left : ℕ) → 0 < w → v < 2 ^ w → 0 < left → left ≤ count → count < 2 ^ 62 → IsWhole w v value → out' ≡ out ++ (varint (2 * left) ++ value) → Wrote w start out [] (xs ++ replicate (count - left) v) → Wrote w start out' [] (xs ++ replicate count v)

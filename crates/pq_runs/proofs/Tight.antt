@@ -1,10 +1,10 @@
 -- How many bytes runs take.
-use Rattle.std.proofs.Common.{◌≡◌, ℕ, zero, suc, ◌+◌, ◌-◌, ◌*◌, ◌/◌, ◌%◌, ◌<◌, ◌≤◌, List, [], ◌∷◌, ◌++◌, length, sym, ap, ◌∙◌, arith, inl, inr}
+use Rattle.std.proofs.Common.{◌≡◌, ℕ, zero, suc, ◌+◌, ◌-◌, ◌*◌, ◌/◌, ◌%◌, ◌≤◌, List, [], ◌++◌, length, replicate, sym, ap, ◌∙◌, arith, inl, inr}
 use Rattle.std.proofs.lemmas.Bool.{le-ltb, cases_lt}
 use Rattle.std.proofs.lemmas.Nat.{mul-le}
 use Rattle.pq_numbers.specs.Varint.{digits, varint}
 use Rattle.pq_numbers.proofs.Writes.{digits-last}
-use Rattle.std.proofs.lemmas.List.{length-append}
+use Rattle.std.proofs.lemmas.List.{length-append, length-replicate}
 use Rattle.pq_numbers.specs.Bits.{bytes_for}
 use Rattle.pq_runs.specs.Packing.{ArePacked}
 use Rattle.pq_runs.specs.Writing.{IsWhole, IsTight}
@@ -52,10 +52,10 @@ packed_size w out out' block body few whole p e =
 abbrev pub Tighter : ℕ → ℕ → ℕ → ℕ → ℕ → Type 0
 Tighter w start out size all = (more : ℕ) × (all ≡ more + size) × IsTight w start out more
 
-pub tight_pushed : (w start out : ℕ) (block block' : List ℕ) (number all count left : ℕ) → 0 < left → left ≤ count → block' ≡ block ++ number ∷ [] → Tighter w start out (length block) (all + (count - left)) → Tighter w start out (length block') (all + (count - (left - 1)))
-tight_pushed w start out block block' number all count left some most e t =
-    let n : length block' ≡ length block + 1 = ap length e ∙ length-append block (number ∷ []) in
-    (t.0, omega (arith, t.1, n, some, most), t.2)
+pub tight_pushed : (w start out : ℕ) (block block' : List ℕ) (number all count left some : ℕ) → some ≤ left → left ≤ count → block' ≡ block ++ replicate some number → Tighter w start out (length block) (all + (count - left)) → Tighter w start out (length block') (all + (count - (left - some)))
+tight_pushed w start out block block' number all count left some few most e t =
+    let n : length block' ≡ length block + some = ap length e ∙ length-append block (replicate some number) ∙ ap (λ (k : ℕ). length block + k) (length-replicate some number) in
+    (t.0, omega (arith, t.1, n, few, most), t.2)
 
 pub tight_flushed : (w start out out' size all : ℕ) (block : List ℕ) → size ≡ 504 → block ≡ [] → 8 * out' ≤ 8 * out + 8 + w * size → Tighter w start out size all → Tighter w start out' (length block) all
 tight_flushed w start out out' size all block is none h t =

@@ -21,8 +21,9 @@ fn fewest(width: u32) -> u64
     u64::from(24 / width) + 8
 }
 
-// Takes so many copies of a number: into the groups of the block, and where many are left, as a run of their own.
-pub fn settle(
+// Takes so many copies of a number: into the groups of the block, a group at once, and where many are left, as a run of their own.
+#[inline(never)]
+fn settle_many(
     out: &mut Vec<u8>,
     block: &mut Block,
     number: u32,
@@ -45,8 +46,9 @@ pub fn settle(
     let many = fewest(width);
     let mut left = count;
     while left > 0 && (left < many || block.len() % 8 != 0) {
-        block.push(number);
-        left -= 1;
+        let some = left.min(8 - block.len() as u64 % 8);
+        block.push_few(number, some as usize);
+        left -= some;
         if block.len() == 504 {
             flush(out, block, width)?;
         }
@@ -56,6 +58,35 @@ pub fn settle(
         push_copies(out, number, left, width)?;
     }
     Ok(())
+}
+
+// Takes so many copies of a number. A few only wait in the block, where it has room.
+#[inline(always)]
+pub fn settle(
+    out: &mut Vec<u8>,
+    block: &mut Block,
+    number: u32,
+    count: u64,
+    width: u32,
+) -> Result<(), AllocError>
+    requires some { 1 ≤ width }
+    requires fits { width ≤ 32 }
+    requires few { count < 2 ^ 62 }
+    requires room { length block.old < 504 }
+    requires below { All (λ v. v < 2 ^ width) block.old }
+    requires number { number < 2 ^ width }
+    ensures room { OnOk result (length block.new < 504) }
+    ensures below { OnOk result (All (λ v. v < 2 ^ width) block.new) }
+    ensures wrote { OnOk result ((start xs : List ℕ) → Wrote width start out.old.items block.old xs → Wrote width start out.new.items block.new (xs ++ replicate count number)) }
+    ensures tight { OnOk result ((start done : ℕ) → IsTight width start (length out.old.items) done → (more : ℕ) × (done + length block.old + count ≡ more + length block.new) × IsTight width start (length out.new.items) more) }
+    ensures short { OnOk result (Takes width out.old.items block.old out.new.items block.new (stretch_bits width * one_if_any count)) }
+    ensures kept { Extends out.old.items out.new.items }
+{
+    if count <= 8 && block.len() < 496 {
+        block.push_few(number, count as usize);
+        return Ok(());
+    }
+    settle_many(out, block, number, count, width)
 }
 
 // The first numbers.

@@ -95,7 +95,7 @@ pub fn are_mixed_bits(word: u64, count: usize) -> bool
     ensures { IsTrue result → (low : ℕ) → count + 34 ≤ 14 * stretches (bit_numbers low word 0 count) }
 {
     let changes = low_bits(word ^ (word >> 1), count - 1).count_ones();
-    if 7 * (changes as usize + 1) < count + 34 {
+    if 10 * (changes as usize + 1) < count + 34 {
         return false;
     }
     true

@@ -70,12 +70,6 @@ impl RunWriter {
             self.count += count;
             return Ok(());
         }
-        if self.count <= 8 && self.block.len() < 496 {
-            self.block.push_few(self.number, self.count as usize);
-            self.number = number;
-            self.count = count;
-            return Ok(());
-        }
         let settled = settle(out, &mut self.block, self.number, self.count, self.width);
         if settled.is_err() {
             self.block.clear();

@@ -1,21 +1,12 @@
 use Rattle.std.proofs.Common.{◌≡◌, ◌≤◌, ◌^◌, arith, sym}
 use Rattle.pq_runs.proofs.Steps.{was_ok}
-use Rattle.pq_runs.proofs.Kept.{keeps_more, keeps_packed, keeps_settled}
+use Rattle.pq_runs.proofs.Kept.{keeps_more, keeps_settled}
 use Rattle.pq_runs.proofs.writer.RunWriter.push_some.Goals as goal
 use Rattle.pq_runs.proofs.writer.RunWriter.push_some.Goals.{else-number-self-via-then-number-self+else-self-lt-MOST_COPIES, else-number-self-via-else-number-self}
 
 pub returns-then-self-lt-MOST_COPIES-clause-added : goal.returns-then-self-lt-MOST_COPIES-clause-added
 returns-then-self-lt-MOST_COPIES-clause-added c = λ start xs k.
     rw c.if-number-self.true (keeps_more start c.args.out.now.items c.self.inside.width c.self.inside.block c.self.inside.number c.self.inside.count c.args.count xs (rw (← c.self.view_is) at k))
-
-pub returns-then-len-lt496-clause-added : goal.returns-then-len-lt496-clause-added
-returns-then-len-lt496-clause-added c =
-    let ends : c.self.inside.number ≡ c.args.number → 2 ^ 40 ≤ c.self.inside.count = λ e. elim c.else-number-self.branch [
-      | else-number-self-via-then-number-self+else-self-lt-MOST_COPIES w ↦ omega (arith, w.if-self-lt-MOST_COPIES.false)
-      | else-number-self-via-else-number-self w ↦ absurd (w.if-number-self.false (sym e))
-    ] in
-    λ start xs k.
-    keeps_packed start c.args.out.now.items c.self.inside.width c.self.inside.block c.push_few.new.self c.self.inside.number c.self.inside.count c.args.number c.args.count xs c.requires.some ends (omega arith) c.push_few.ensures (rw (← c.self.view_is) at k)
 
 pub returns-clause-added : goal.returns-clause-added
 returns-clause-added c =

@@ -1,7 +1,7 @@
 use Rattle.std.proofs.Common.{◌≡◌, ℕ, List, ◌<◌, ◌≤◌, ◌-◌, ◌+◌, ◌^◌, ◌++◌, length, replicate, All}
 use Rattle.pq_runs.specs.Writing.{Extends, Wrote, IsTight}
 use Rattle.pq_runs.proofs.Settling.{Taken, IsFilling}
-use Rattle.pq_runs.proofs.settle.settle.Given as goal
+use Rattle.pq_runs.proofs.settle.settle_many.Given as goal
 
 abbrev pub decreases-loop-left : goal.decreases-loop-left
 decreases-loop-left l = l.left
