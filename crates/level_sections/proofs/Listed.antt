@@ -9,15 +9,15 @@ use Rattle.levels.specs.Stretch.{level_of}
 use Rattle.levels.specs.declared.walk.Level.{Level}
 use Rattle.levels.specs.declared.walk.Level.TheVariants.{Definition}
 use Rattle.pq_runs.specs.Writing.{Keeps, Waiting}
-use Rattle.level_sections.specs.declared.planes.BitPlanes.{BitPlanes}
-use Rattle.level_sections.specs.Planes.{plane_number, plane_numbers}
+use Rattle.level_sections.specs.declared.planes.Pending.{Pending}
+use Rattle.level_sections.specs.Planes.{plane_numbers}
 use Rattle.level_sections.specs.declared.items.Window.{Window}
 use Rattle.level_sections.specs.declared.walk.Above.{Above}
 use Rattle.level_sections.specs.Blocks.{Reaches, part_optional, part_present, flat_level, levels_from}
-use Rattle.level_sections.specs.Definitions.{IsWindow, levels_or, list_definitions, listed_from}
+use Rattle.level_sections.specs.Definitions.{IsFollowed, IsWindow, levels_or, list_definitions, listed_from}
 use Rattle.level_sections.specs.Walk.{AreItems, Goes, IsOfItems, walked}
 use Rattle.level_sections.proofs.Blocks.{flat-below, flat-pairs, flat-reaches, from-below, run-levels, up-bit}
-use Rattle.level_sections.proofs.PlaneNumbers.{planes-one, planes-from}
+use Rattle.level_sections.proofs.PlaneNumbers.{planes-add, planes-from}
 use Rattle.level_sections.proofs.Walked.{goes_on, goes_end}
 
 -- ---- what the definition of levels says of lists
@@ -99,21 +99,26 @@ items-listed is_optional mask offsets parts def i false first items more e f n m
     let same : def + more ≡ def = omega (arith, m) in
     rw (← e, n) (ap (λ d. d ∷ []) same)
 
--- a list without items behind the levels that wait
-pub none-listed : (def more items : ℕ) (level : ℕ → ℕ) (first : ℕ) (planes : BitPlanes) → items ≡ 0 → plane_number planes 0 ≡ more → plane_numbers def planes 0 1 ≡ levels_or (def + more) level first items
-none-listed def more zero level first planes e f = planes-one def planes 0 ∙ ap (λ n. (def + n) ∷ []) f
-none-listed def more (suc items) level first planes e f = absurd (omega (arith, e))
-
--- a list with items
-pub some-listed : (def more : ℕ) (level : ℕ → ℕ) (first items : ℕ) (window : Window) → items ≢ 0 → window.first ≤ first → first + items ≤ window.end → IsWindow def level window → plane_numbers def window.planes (first - window.first) items ≡ levels_or (def + more) level first items
-some-listed def more level first zero window some after before is = absurd (some refl)
-some-listed def more level first (suc items) window some after before is =
-    planes-from level def window.planes (first - window.first) first (suc items) (λ i h. ap (λ k. def + plane_number window.planes k) (omega (arith, after)) ∙ is (first + i) (omega (arith, after)) (omega (arith, before, h)))
+-- a list without items
+pub none-listed : (def more items : ℕ) (level : ℕ → ℕ) (first : ℕ) → items ≡ 0 → (def + more) ∷ [] ≡ levels_or (def + more) level first items
+none-listed def more zero level first e = refl
+none-listed def more (suc items) level first e = absurd (omega (arith, e))
 
 -- the levels of the items of a list
 pub long-listed : (def more : ℕ) (level : ℕ → ℕ) (first items : ℕ) → items ≢ 0 → levels_from level first items ≡ levels_or (def + more) level first items
 long-listed def more level first zero some = absurd (some refl)
 long-listed def more level first (suc items) some = refl
+
+-- a list with items, whose levels stand behind those that wait
+pub some-listed : (def more : ℕ) (level : ℕ → ℕ) (first items : ℕ) (pending : Pending) (window : Window) → items ≢ 0 → pending.count + items ≤ 64 → window.first ≤ first → first + items ≤ window.end → IsFollowed pending window first → IsWindow def level window
+    → plane_numbers def pending.planes 0 (pending.count + items) ≡ plane_numbers def pending.planes 0 pending.count ++ levels_or (def + more) level first items
+some-listed def more level first items pending window some room after before followed is =
+    let place : 0 + pending.count ≡ pending.count = omega arith in
+    planes-add def pending.planes 0 pending.count items
+    ∙ ap (λ ys. plane_numbers def pending.planes 0 pending.count ++ ys)
+    (ap (λ k. plane_numbers def pending.planes k items) place
+    ∙ (planes-from level def pending.planes pending.count first items (λ i h. ap (λ n. def + n) (followed i (omega (arith, h, room)) (omega (arith, h, before))) ∙ is (first + i) (omega (arith, after)) (omega (arith, before, h)))
+    ∙ long-listed def more level first items some))
 
 -- ---- below a bound
 

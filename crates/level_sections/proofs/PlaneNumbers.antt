@@ -102,7 +102,7 @@ pub planes-one : (low : ℕ) (planes : BitPlanes) (place : ℕ) → plane_number
 unfolding plane_numbers
 planes-one low planes place = refl
 
-planes-add : (low : ℕ) (planes : BitPlanes) (place m n : ℕ) → plane_numbers low planes place (m + n) ≡ plane_numbers low planes place m ++ plane_numbers low planes (place + m) n
+pub planes-add : (low : ℕ) (planes : BitPlanes) (place m n : ℕ) → plane_numbers low planes place (m + n) ≡ plane_numbers low planes place m ++ plane_numbers low planes (place + m) n
 unfolding plane_numbers
 planes-add low planes place zero n =
     let a : 0 + n ≡ n = omega arith in
@@ -121,12 +121,17 @@ planes-alike low a b p q (suc count) same =
     ap (λ n. (low + n) ∷ plane_numbers low a (p + 1) count) first
     ∙ ap (λ ys. (low + plane_number b q) ∷ ys) (planes-alike low a b (p + 1) (q + 1) count (λ i h. ap (plane_number a) (omega arith) ∙ (same (suc i) (omega (arith, h)) ∙ ap (plane_number b) (omega arith))))
 
--- some numbers behind others
-pub planes-joined : (low : ℕ) (a b r : BitPlanes) (n from count : ℕ) → ((i : ℕ) → i < n → plane_number r i ≡ plane_number a i) → ((i : ℕ) → i < count → plane_number r (n + i) ≡ plane_number b (from + i)) → plane_numbers low r 0 (n + count) ≡ plane_numbers low a 0 n ++ plane_numbers low b from count
-planes-joined low a b r n from count front back =
-    planes-add low r 0 n count
-    ∙ (ap (λ ys. ys ++ plane_numbers low r (0 + n) count) (planes-alike low r a 0 0 n (λ i h. ap (plane_number r) (omega arith) ∙ (front i h ∙ ap (plane_number a) (omega arith))))
-    ∙ ap (λ ys. plane_numbers low a 0 n ++ ys) (planes-alike low r b (0 + n) from count (λ i h. ap (plane_number r) (omega arith) ∙ back i h)))
+-- the same numbers, behind which others stand
+pub planes-same : (low : ℕ) (a r : BitPlanes) (n : ℕ) → ((i : ℕ) → i < n → plane_number r i ≡ plane_number a i) → plane_numbers low r 0 n ≡ plane_numbers low a 0 n
+planes-same low a r n front = planes-alike low r a 0 0 n (λ i h. ap (plane_number r) (omega arith) ∙ (front i h ∙ ap (plane_number a) (omega arith)))
+
+-- one number more
+pub planes-next : (low : ℕ) (a r : BitPlanes) (n bit : ℕ) → ((i : ℕ) → i < n → plane_number r i ≡ plane_number a i) → plane_number r n ≡ bit → plane_numbers low r 0 (n + 1) ≡ plane_numbers low a 0 n ++ (low + bit) ∷ []
+planes-next low a r n bit front here =
+    let place : 0 + n ≡ n = omega arith in
+    planes-add low r 0 n 1
+    ∙ (ap (λ ys. ys ++ plane_numbers low r (0 + n) 1) (planes-same low a r n front)
+    ∙ ap (λ ys. plane_numbers low a 0 n ++ ys) (planes-one low r (0 + n) ∙ ap (λ k. (low + k) ∷ []) (ap (plane_number r) place ∙ here)))
 
 -- the same numbers as levels
 pub planes-from : (level : ℕ → ℕ) (low : ℕ) (planes : BitPlanes) (p place count : ℕ) → ((i : ℕ) → i < count → low + plane_number planes (p + i) ≡ level (place + i)) → plane_numbers low planes p count ≡ levels_from level place count

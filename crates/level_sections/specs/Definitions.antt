@@ -29,3 +29,7 @@ listed_from levels place (suc count) = levels place ++ listed_from levels (place
 -- the levels of some places above one that all have
 abbrev pub IsWindow : ℕ → (ℕ → ℕ) → Window → Type 0
 IsWindow low level window = (j : ℕ) → window.first ≤ j → j < window.end → low + plane_number window.planes (j - window.first) ≡ level j
+
+-- behind the levels that wait stand those of a window from a place on
+abbrev pub IsFollowed : Pending → Window → ℕ → Type 0
+IsFollowed pending window place = (i : ℕ) → pending.count + i < 64 → place + i < window.end → plane_number pending.planes (pending.count + i) ≡ plane_number window.planes (place + i - window.first)

@@ -7,12 +7,12 @@ ghost use Rattle.levels.specs.Levels.{bit};
 ghost use Rattle.levels.specs.Nested.{parts_of};
 ghost use Rattle.pq_runs.specs.Writing.{Extends, Keeps};
 ghost use Rattle.level_sections.specs.Blocks.{flat_level, Reaches};
-ghost use Rattle.level_sections.specs.Definitions.{IsWindow, levels_or, list_definitions, listed_from, pending_levels};
+ghost use Rattle.level_sections.specs.Definitions.{IsFollowed, IsWindow, levels_or, list_definitions, listed_from, pending_levels};
 ghost use Rattle.level_sections.specs.Walk.{AreItems, IsOfItems, Goes, IsLow, walked};
 ghost use Rattle.shredding.specs.Shred.{max_definition};
 
-use crate::block::{Front, front_at, push_flat, step_of};
-use crate::planes::{BitPlanes, Pending, item_planes, one_plane, push_planes, with_numbers};
+use crate::block::{Front, are_required, front_at, push_flat, step_of};
+use crate::planes::{BitPlanes, Pending, item_planes, push_planes, with_number, with_others};
 use crate::walk::Above;
 use columns_core::{Offset, OffsetsBuffer};
 use levels::{Level, ListNested, Nested, present_word};
@@ -87,7 +87,7 @@ fn window_at(is_optional: bool, rest: &[Nested], first: usize, to: usize) -> Win
     requires reaches { Reaches to (parts_of rest.now) }
     requires parts { length rest.now ≤ 5 }
     requires ordered { first ≤ to }
-    ensures few { result.end ≤ result.first + 64 }
+    ensures ordered { result.first ≤ result.end }
     ensures within { result.end ≤ to }
     ensures all { to ≤ first + 64 → result.end ≡ to }
     ensures first { result.first ≡ first }
@@ -108,25 +108,30 @@ fn window_at(is_optional: bool, rest: &[Nested], first: usize, to: usize) -> Win
     }
 }
 
-// Takes the levels of a list that has room behind those that wait: those of its items, or so much more than a null list's where it has none.
+// Takes the levels of a list that has room behind those that wait: those of its items, which stand there already, or so much more than a null
+// list's where it has none.
 #[inline(always)]
 fn with_list(pending: Pending, window: Window, empty: u64, first: usize, items: usize) -> Pending
     requires room { pending.count + max items 1 ≤ 64 }
     requires some { empty ≤ 1 }
-    requires few { window.end ≤ window.first + 64 }
-    requires after { 0 < items → window.first ≤ first }
-    requires before { 0 < items → first + items ≤ window.end }
+    requires followed { IsFollowed pending window first }
+    requires after { window.first ≤ first }
+    requires before { first + items ≤ window.end }
     ensures few { result.count ≤ 64 }
+    ensures followed { IsFollowed result window (first + items) }
     ensures levels { (def : ℕ) → (level : ℕ → ℕ) → IsWindow def level window → pending_levels def result ≡ pending_levels def pending ++ levels_or (def + empty) level first items }
 {
     if items == 0 {
-        return with_numbers(pending, one_plane(empty), 0, 1);
+        return with_number(pending, empty);
     }
-    with_numbers(pending, window.planes, first - window.first, items)
+    Pending {
+        planes: pending.planes,
+        count: pending.count + items,
+    }
 }
 
-// Takes some of up to 64 lists, as long as they have room behind the levels that wait and their items are known, and gives how many. A word
-// tells which are there.
+// Takes some of up to 64 lists, as long as they have room behind the levels that wait and their items are known and lie side by side, and gives
+// how many. A word tells which are there.
 #[inline(never)]
 fn take_lists<O: Offset>(
     pending: Pending,
@@ -137,7 +142,7 @@ fn take_lists<O: Offset>(
     count: usize,
 ) -> (Pending, usize)
     requires room { pending.count ≤ 64 }
-    requires few { window.end ≤ window.first + 64 }
+    requires ordered { window.first ≤ window.end }
     requires lists { count ≤ 64 }
     requires within { place + count ≤ length list.now.offsets - 1 }
     requires bits { (i : ℕ) → i < count → (bit_at word i == 1) ≡ is_present list.now.is_optional list.now.validity (place + i) }
@@ -147,7 +152,8 @@ fn take_lists<O: Offset>(
 {
     // the number of lists fits its type, so `place + i` does
     let _lists = list.offsets.len_proxy();
-    let mut after = pending;
+    let mut after = with_others(pending, window.planes);
+    let mut at = window.first;
     let mut i = 0;
     while i < count {
         let there = (word >> i) & 1 == 1;
@@ -156,16 +162,15 @@ fn take_lists<O: Offset>(
         if items.max(1) > 64 - after.count {
             break;
         }
-        if items > 0 {
-            if first < window.first {
-                break;
-            }
-            if last > window.end {
-                break;
-            }
+        if first != at {
+            break;
+        }
+        if last > window.end {
+            break;
         }
         let empty = step_at(list.is_optional, there);
         after = with_list(after, window, empty, first, items);
+        at = last;
         i += 1;
     }
     (after, i)
@@ -206,7 +211,8 @@ fn push_list<O: Offset>(
     }
     let window = window_at(list.is_optional, rest, first, last);
     let empty = step_at(list.is_optional, there);
-    Ok(with_list(NONE, window, empty, first, items))
+    let pending = with_others(NONE, window.planes);
+    Ok(with_list(pending, window, empty, first, items))
 }
 
 // Takes as many lists as have room behind the levels that wait, and one more, for which they are told. Gives the place behind them.
@@ -314,7 +320,7 @@ fn has_nulls(parts: &[Nested], from: usize, to: usize) -> bool
 }
 
 // Where lists end that are best taken one by one, from a place on: of the next ones neither few nor nearly all have no items, and the others have
-// few, of which some are null. Else there are none.
+// few, of which some are null or none can be. Else there are none.
 fn lists_end<O: Offset>(list: &ListNested<O>, rest: &[Nested], place: usize, to: usize) -> usize
     requires reaches { Reaches (item_span list.now.offsets) (parts_of rest.now) }
     requires parts { length rest.now ≤ 5 }
@@ -340,10 +346,14 @@ fn lists_end<O: Offset>(list: &ListNested<O>, rest: &[Nested], place: usize, to:
     if last - first > 8 * count {
         return place;
     }
-    if !has_nulls(rest, first, last) {
-        return place;
+    let end = place + (to - place).min(1024);
+    if are_required(rest) {
+        return end;
     }
-    place + (to - place).min(1024)
+    if has_nulls(rest, first, last) {
+        return end;
+    }
+    place
 }
 
 // Where lists above a path without lists end that are best taken one by one, from a place on.

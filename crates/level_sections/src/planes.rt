@@ -1,5 +1,5 @@
 //! Definition levels by the bits of words.
-ghost use Rattle.std.specs.Prelude.{◌≡◌, ℕ, ◌+◌, ◌-◌, ◌<◌, ◌≤◌, ◌==◌, ◌^◌, ◌*◌, ◌++◌, List, All, OnOk, cond, length, slice_index, take};
+ghost use Rattle.std.specs.Prelude.{◌≡◌, ℕ, ◌+◌, ◌-◌, ◌<◌, ◌≤◌, ◌==◌, ◌^◌, ◌*◌, ◌++◌, [], ◌∷◌, List, All, OnOk, cond, length, slice_index, take};
 ghost use Rattle.pq_runs.specs.Writing.{Extends, Keeps};
 ghost use Rattle.std.specs.Int.{bit_at, to_le_bytes, w32};
 ghost use Rattle.levels.specs.Nested.{parts_of};
@@ -123,22 +123,55 @@ fn joined(word: u64, count: usize, bits: u64) -> u64
     (word % (1 << count)) | (bits << count)
 }
 
-// The numbers of some places behind those that wait.
+// A word whose bits from one on move up by one, and make room for one more.
 #[inline(always)]
-pub fn with_numbers(pending: Pending, planes: BitPlanes, from: usize, count: usize) -> Pending
-    requires some { 0 < count }
-    requires room { pending.count + count ≤ 64 }
-    requires within { from + count ≤ 64 }
-    ensures count { result.count ≡ pending.count + count }
-    ensures levels { (low : ℕ) → pending_levels low result ≡ pending_levels low pending ++ plane_numbers low planes from count }
+fn inserted(word: u64, at: usize, bit: u64) -> u64
+    requires within { at < 64 }
+    ensures below { (i : ℕ) → i < at → bit_at result i ≡ bit_at word i }
+    ensures here { bit_at result at ≡ bit_at bit 0 }
+    ensures above { (i : ℕ) → at + 1 + i < 64 → bit_at result (at + 1 + i) ≡ bit_at word (at + i) }
+{
+    let others = joined(bit, 1, word >> at);
+    joined(word, at, others)
+}
+
+// One number more behind those that wait. The numbers behind them move up.
+#[inline(always)]
+pub fn with_number(pending: Pending, bit: u64) -> Pending
+    requires room { pending.count < 64 }
+    requires bit { bit ≤ 1 }
+    ensures count { result.count ≡ pending.count + 1 }
+    ensures behind { (i : ℕ) → result.count + i < 64 → plane_number result.planes (result.count + i) ≡ plane_number pending.planes (pending.count + i) }
+    ensures levels { (low : ℕ) → pending_levels low result ≡ pending_levels low pending ++ (low + bit) ∷ [] }
 {
     Pending {
         planes: BitPlanes {
-            ones: joined(pending.planes.ones, pending.count, planes.ones >> from),
-            twos: joined(pending.planes.twos, pending.count, planes.twos >> from),
-            fours: joined(pending.planes.fours, pending.count, planes.fours >> from),
+            ones: inserted(pending.planes.ones, pending.count, bit),
+            twos: inserted(pending.planes.twos, pending.count, 0),
+            fours: inserted(pending.planes.fours, pending.count, 0),
         },
-        count: pending.count + count,
+        count: pending.count + 1,
+    }
+}
+
+// The numbers that wait, with others behind them that do not wait yet.
+#[inline(always)]
+pub fn with_others(pending: Pending, planes: BitPlanes) -> Pending
+    requires room { pending.count ≤ 64 }
+    ensures count { result.count ≡ pending.count }
+    ensures behind { (i : ℕ) → pending.count + i < 64 → plane_number result.planes (pending.count + i) ≡ plane_number planes i }
+    ensures levels { (low : ℕ) → pending_levels low result ≡ pending_levels low pending }
+{
+    if pending.count == 64 {
+        return pending;
+    }
+    Pending {
+        planes: BitPlanes {
+            ones: joined(pending.planes.ones, pending.count, planes.ones),
+            twos: joined(pending.planes.twos, pending.count, planes.twos),
+            fours: joined(pending.planes.fours, pending.count, planes.fours),
+        },
+        count: pending.count,
     }
 }
 

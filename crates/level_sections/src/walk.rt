@@ -9,7 +9,7 @@ ghost use Rattle.level_sections.specs.Walk.{walked, AreItems, IsLow, Holds, IsSh
 ghost use Rattle.levels.specs.declared.walk.Level.TheVariants.{Repetition, Definition};
 ghost use Rattle.levels.specs.declared.walk.Level.{Level};
 
-use crate::block::{are_required, push_flat};
+use crate::block::push_flat;
 use crate::items::{mixed_end, walk_items};
 use crate::lists::walk_lists;
 use levels::{Level, ListNested, Nested, Stretch, max_rep_level, stretch_at};
@@ -94,9 +94,6 @@ fn items_at<'a>(part: &Nested, rest: &[Nested]) -> Shape<'a>
     ensures { IsShape Definition (part_of part.now ∷ parts_of rest.now) result }
 {
     if rest.len() > 5 {
-        return Shape::Stretches;
-    }
-    if are_required(rest) {
         return Shape::Stretches;
     }
     match part {

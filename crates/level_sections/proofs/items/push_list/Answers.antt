@@ -4,6 +4,7 @@ use Rattle.levels.specs.Nested.{parts_of}
 use Rattle.pq_runs.specs.Writing.{Keeps}
 use Rattle.level_sections.specs.Blocks.{flat_level}
 use Rattle.level_sections.specs.Definitions.{list_definitions, pending_levels}
+use Rattle.level_sections.specs.Planes.{plane_number}
 use Rattle.level_sections.proofs.Blocks.{reaches-less}
 use Rattle.level_sections.proofs.PlaneNumbers.{planes-none}
 use Rattle.level_sections.proofs.Listed.{definitions-below, items-listed, long-definitions, told-long, told-short, waits-none, waits-one}
@@ -38,7 +39,7 @@ returns-clause-waits g c =
     let first = c.items_of-first.result.0 in
     let is = items-listed list.is_optional list.validity list.offsets rest c.args.def c.args.i c.args.there first (c.items_of-first.result.1 - first) c.step_at-empty.result c.requires.there e.first e.count c.step_at-empty.ensures.value in
     waits-one (2 ^ c.args.writer.now.width) _ (list_definitions list.is_optional list.validity list.offsets rest c.args.def c.args.i) _ (planes-none c.args.def (record { ones = 0; twos = 0; fours = 0 }) 0 0 refl)
-    (c.with_list.ensures.levels c.args.def (flat_level rest (c.args.def + bit list.is_optional + 1)) (c.window_at-window.ensures.levels c.args.def) ∙ ap (λ (ys : List ℕ). pending_levels c.args.def (record { planes = record { ones = 0; twos = 0; fours = 0 }; count = 0 }) ++ ys) is)
+    (c.with_list.ensures.levels c.args.def (flat_level rest (c.args.def + bit list.is_optional + 1)) (c.window_at-window.ensures.levels c.args.def) ∙ (ap (λ (ys : List ℕ). pending_levels c.args.def c.with_others-pending.result ++ ys) is ∙ ap (λ (ys : List ℕ). ys ++ list_definitions list.is_optional list.validity list.offsets rest c.args.def c.args.i) (c.with_others-pending.ensures.levels c.args.def)))
     (definitions-below list.is_optional list.validity list.offsets rest c.args.def c.args.i (2 ^ c.args.writer.now.width) c.requires.holds)
 
 pub returns-clause-added : goal.returns-clause-added
@@ -50,5 +51,10 @@ returns-clause-added g c =
     let is = items-listed list.is_optional list.validity list.offsets rest c.args.def c.args.i c.args.there first (c.items_of-first.result.1 - first) c.step_at-empty.result c.requires.there e.first e.count c.step_at-empty.ensures.value in
     λ start left whole k.
     told-short start _ _ _ _ (pending_levels c.args.def c.args.pending) _ (pending_levels c.args.def c.with_list.result) (list_definitions list.is_optional list.validity list.offsets rest c.args.def c.args.i) left whole (planes-none c.args.def (record { ones = 0; twos = 0; fours = 0 }) 0 0 refl)
-    (c.with_list.ensures.levels c.args.def (flat_level rest (c.args.def + bit list.is_optional + 1)) (c.window_at-window.ensures.levels c.args.def) ∙ ap (λ (ys : List ℕ). pending_levels c.args.def (record { planes = record { ones = 0; twos = 0; fours = 0 }; count = 0 }) ++ ys) is)
+    (c.with_list.ensures.levels c.args.def (flat_level rest (c.args.def + bit list.is_optional + 1)) (c.window_at-window.ensures.levels c.args.def) ∙ (ap (λ (ys : List ℕ). pending_levels c.args.def c.with_others-pending.result ++ ys) is ∙ ap (λ (ys : List ℕ). ys ++ list_definitions list.is_optional list.validity list.offsets rest c.args.def c.args.i) (c.with_others-pending.ensures.levels c.args.def)))
     c.in_ok-push_planes.ensures.added k
+
+pub with_list-requires-clause-followed : goal.with_list-requires-clause-followed
+with_list-requires-clause-followed g c = λ i h lt.
+    ap (plane_number c.with_others-pending.result.planes) (omega (arith, c.with_others-pending.ensures.count))
+    ∙ (c.with_others-pending.ensures.behind i (omega (arith, h, c.with_others-pending.ensures.count)) ∙ ap (plane_number c.window_at-window.result.planes) (omega (arith, c.window_at-window.ensures.first)))
