@@ -7,7 +7,7 @@ ghost use Rattle.levels.specs.Nested.{parts_of, nested_column};
 ghost use Rattle.levels.specs.Sizes.{total, slot_size, list_size};
 
 use crate::here::{list_pairs, present_word};
-use crate::nested::{ListNested, Nested, max_rep_level, slot_count};
+use crate::nested::{ListNested, Nested, has_lists, slot_count};
 use crate::walk::{Level, Stretch, stretch_at};
 use columns_core::{Offset, OffsetsBuffer};
 
@@ -56,7 +56,7 @@ fn count_at_once(parts: &[Nested], from: usize, to: usize) -> Option<usize>
     let Some((part, rest)) = parts.split_first() else {
         return None;
     };
-    if max_rep_level(rest) > 0 {
+    if has_lists(rest) {
         return None;
     }
     match part {

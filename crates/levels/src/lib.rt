@@ -22,7 +22,7 @@ pub use here::{full_word, list_pairs, present_word};
 pub use in_bounds::is_in_bounds;
 pub use iters::{DefLevelsIter, RepLevelsIter};
 pub use most::most_values;
-pub use nested::{ListNested, Nested, max_def_level, max_rep_level, slot_count};
+pub use nested::{ListNested, Nested, has_lists, max_def_level, max_rep_level, slot_count};
 pub use ranges::{get_max_length, leaf_len, slice_nested_leaf};
 pub use walk::{Level, Stretch, stretch_at};
 pub use well_formed::is_well_formed;

@@ -1,5 +1,5 @@
 //! The parts of a path.
-ghost use Rattle.std.specs.Prelude.{◌≡◌, ℕ, ◌+◌, ◌-◌, ◌<◌, ◌≤◌, ◌*◌, ◌∷◌, [], length};
+ghost use Rattle.std.specs.Prelude.{◌≡◌, ℕ, ◌+◌, ◌-◌, ◌<◌, ◌≤◌, ◌*◌, ◌∷◌, [], length, false};
 ghost use Rattle.shredding.specs.Parts.{slot_count, path_way};
 ghost use Rattle.shredding.specs.Shred.{max_repetition, max_definition};
 ghost use Rattle.levels.specs.Nested.{part_of, parts_of, is_leaf, is_list, is_nullable};
@@ -94,6 +94,22 @@ pub fn max_rep_level(nested: &[Nested]) -> usize
         }
     }
     lists
+}
+
+/// Whether a path has lists. No part is looked at behind its first list.
+#[tactic(auto, using(crate::proofs::Maxima::repetition_step))]
+pub fn has_lists(nested: &[Nested]) -> bool
+    ensures { result ≡ false → max_repetition (path_way (parts_of nested.now)) ≡ 0 }
+{
+    for part in nested {
+        if part.is_leaf() {
+            return false;
+        }
+        if part.is_list() {
+            return true;
+        }
+    }
+    false
 }
 
 /// The largest definition level of a path: the number of its lists and optional parts.

@@ -84,6 +84,7 @@ fn full_end<O: Offset>(list: &ListNested<O>, place: usize, to: usize) -> usize
 
 // The stretch at a place of lists with items. The items of lists side by side lie side by side, so their definition levels are taken at
 // once; repetition levels tell one list from the next.
+#[inline(always)]
 fn stretch_of_items<'a, O: Offset>(
     list: &ListNested<O>,
     rest: &'a [Nested],
@@ -109,6 +110,7 @@ fn stretch_of_items<'a, O: Offset>(
 }
 
 // The stretch at a place of a list over the rest of its path.
+#[inline(always)]
 fn stretch_of_list<'a, O: Offset>(
     list: &ListNested<O>,
     rest: &'a [Nested],
@@ -136,6 +138,7 @@ fn stretch_of_list<'a, O: Offset>(
 }
 
 // The stretch at a place of a leaf. The values and nulls of a leaf have the same repetition levels.
+#[inline(always)]
 fn stretch_of_leaf<'a>(
     is_optional: bool,
     mask: &Option<Bitmap>,
@@ -163,6 +166,7 @@ fn stretch_of_leaf<'a>(
 }
 
 /// The stretch of a path from a place on, which ends at a place not behind `to`, as to a level.
+#[inline(always)]
 pub fn stretch_at(parts: &[Nested], level: Level, place: usize, to: usize) -> Stretch<'_>
     requires well { IsPath (parts_of parts.now) }
     requires some { place < to }
