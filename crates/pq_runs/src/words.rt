@@ -87,15 +87,23 @@ pub fn stretch_end(word: u64, at: usize, count: usize) -> usize
     (at + others.trailing_zeros() as usize).min(count)
 }
 
-// Whether the numbers of so few bits are in so many stretches that they are best packed as they stand.
+// Whether the numbers of so few bits are in so many stretches that they are best packed as they stand: fewer do where each is a bit, which is packed
+// at once.
 #[inline(always)]
-pub fn are_mixed_bits(word: u64, count: usize) -> bool
+pub fn are_mixed_bits(word: u64, count: usize, are_bits: bool) -> bool
     requires some { 1 ≤ count }
     requires few { count ≤ 64 }
     ensures { IsTrue result → (low : ℕ) → count + 34 ≤ 14 * stretches (bit_numbers low word 0 count) }
 {
     let changes = low_bits(word ^ (word >> 1), count - 1).count_ones();
-    if 10 * (changes as usize + 1) < count + 34 {
+    let stretches = changes as usize + 1;
+    if 14 * stretches < count + 34 {
+        return false;
+    }
+    if are_bits {
+        return true;
+    }
+    if 10 * stretches < count + 34 {
         return false;
     }
     true

@@ -169,11 +169,11 @@ impl RunWriter {
             return Ok(());
         }
         let first = numbers[0];
-        if are_all(numbers, first) {
-            return self.push(out, first, numbers.len());
-        }
         if are_mixed(numbers, first) {
             return self.push_mixed(out, numbers);
+        }
+        if are_all(numbers, first) {
+            return self.push(out, first, numbers.len());
         }
         self.push_others(out, numbers)
     }
@@ -294,7 +294,7 @@ impl RunWriter {
         if count == 0 {
             return Ok(());
         }
-        if are_mixed_bits(word, count) {
+        if are_mixed_bits(word, count, self.width == 1) {
             if self.count == 1 && self.number >= low && self.number - low <= 1 {
                 return self.push_behind_one(out, low, word, count);
             }
