@@ -8,7 +8,7 @@ use Rattle.columns_core.proofs.Bits.{length_bits, more_bits}
 use Rattle.read_walk.specs.Values.{ones}
 use Rattle.read_leaf.specs.Truths.{among_nulls, TookAmong}
 use Rattle.read_leaf.proofs.PlainBits.{next_truths}
-use Rattle.read_leaf.proofs.SetBits.{ones-append}
+use Rattle.read_leaf.proofs.SetBits.{ones-append, set_more, ones_front}
 
 -- one bit more above the others of a word
 bit_above : (n word b : ℕ) → word < 2 ^ n → b < 2 → word_bits (word + b * 2 ^ n) (n + 1) ≡ word_bits word n ++ (b == 1) ∷ []
@@ -22,21 +22,6 @@ bit_above (suc n) word b h g =
     let high : (word + b * 2 ^ suc n) / 2 ≡ word / 2 + b * 2 ^ n = omega (arith, whole) in
     let n' : suc n + 1 ≡ suc (n + 1) = omega arith in
     rw (n', low, high) (ap (λ (bs : List Bool). (word % 2 == 1) ∷ bs) (bit_above n (word / 2) b (omega (arith, h, p)) g))
-
--- the next bit of a word
-next_of : (n word : ℕ) → word_bits word (n + 1) ≡ word_bits word n ++ (bit_at word n == 1) ∷ []
-next_of zero word = ap (λ (b : ℕ). (b == 1) ∷ []) (sym (bit_at_lowest word))
-next_of (suc n) word =
-    let n' : suc n + 1 ≡ suc (n + 1) = omega arith in
-    rw n' (ap (λ (bs : List Bool). (word % 2 == 1) ∷ bs) (next_of n (word / 2) ∙ ap (λ (b : ℕ). word_bits (word / 2) n ++ (b == 1) ∷ []) (sym (bit_at-suc word n))))
-
-set_more : (n word : ℕ) (b : Bool) → (bit_at word n == 1) ≡ b → word_bits word (n + 1) ≡ word_bits word n ++ b ∷ []
-set_more n word b e = next_of n word ∙ ap (λ (c : Bool). word_bits word n ++ c ∷ []) e
-
-ones_front : (i n word : ℕ) → i ≤ n → ones (word_bits word i) ≤ ones (word_bits word n)
-ones_front zero n word h = omega arith
-ones_front (suc i) zero word h = absurd (omega (arith, h))
-ones_front (suc i) (suc n) word h = omega (arith, ones_front i n (word / 2) (omega (arith, h)))
 
 among-more : (bs ts : List Bool) (t : Bool) → length ts ≡ ones bs → among_nulls (bs ++ true ∷ []) (ts ++ t ∷ []) ≡ among_nulls bs ts ++ t ∷ []
 among-more [] [] t e = refl

@@ -10,6 +10,8 @@ pub mod EqualBits
 pub mod SetBits
 pub mod MixedNumbers
 pub mod MixedStrings
+pub mod Stretches
+pub mod CutTexts
 pub mod AmongNulls
 pub mod PlainBits
 pub mod TruthSlots

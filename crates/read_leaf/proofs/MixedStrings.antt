@@ -8,7 +8,7 @@ use Rattle.columns_core.specs.Bits.{word_bits}
 use Rattle.shredding.specs.Slot.{Value, bytes, Slot, null, value}
 use Rattle.read_walk.specs.Values.{Stored, Decodes, DecodesMixed, ones, spread, CannotDecode, bytes_in, bytes_of}
 use Rattle.read_walk.proofs.Decoding.{slots-append, cannot-behind, cannot-more}
-use Rattle.read_leaf.specs.Strings.{string_at, stored_strings, total_bytes, string_slots, AreStrings, AreAllowed, TookStrings, TookSome, CannotTake}
+use Rattle.read_leaf.specs.Strings.{string_at, stored_strings, total_bytes, string_slots, AreStrings, AreAllowed, TookStrings}
 use Rattle.read_leaf.proofs.Pieces.{total-append}
 use Rattle.read_leaf.proofs.SetBits.{spread-all, ones-append, spread-append, spread-bytes}
 use Rattle.read_leaf.proofs.EqualBits.{ones as word-ones}
@@ -41,7 +41,7 @@ module _ (allows : List ℕ → Bool) where
   pub string-empty : (text : List ℕ) (old new : List (List ℕ)) → allows [] ≡ true → new ≡ old ++ [] ∷ [] → TookStrings allows (false ∷ []) text text old new
   string-empty text old new a p = record { strings = []; count = refl; taken = refl; among = [] ∷ []; are = record { even = refl; all = refl }; allowed = (a, tt); stand = refl; pushed = p }
 
-  strings-then : (bs cs : List Bool) (text text1 text2 : List ℕ) (old mid new : List (List ℕ)) → TookStrings allows bs text text1 old mid → TookStrings allows cs text1 text2 mid new → TookStrings allows (bs ++ cs) text text2 old new
+  pub strings-then : (bs cs : List Bool) (text text1 text2 : List ℕ) (old mid new : List (List ℕ)) → TookStrings allows bs text text1 old mid → TookStrings allows cs text1 text2 mid new → TookStrings allows (bs ++ cs) text text2 old new
   strings-then bs cs text text1 text2 old mid new a b =
       let values : map Some (map bytes a.strings) ++ map Some (map bytes b.strings) ≡ map Some (map bytes (a.strings ++ b.strings)) = sym (map-append Some (map bytes a.strings) (map bytes b.strings)) ∙ ap (map Some) (sym (map-append bytes a.strings b.strings)) in
       record {
@@ -59,48 +59,6 @@ module _ (allows : List ℕ → Bool) where
         pushed = b.pushed ∙ (ap (λ (t : List (List ℕ)). t ++ b.among) a.pushed ∙ append_assoc old a.among b.among);
       }
 
-  -- the strings of the first bits; the word has the bits behind them
-  pub record AreTaken (valid i word : ℕ) (text rest : List ℕ) (old new : List (List ℕ)) : Type 0 where
-    pub behind : (m : ℕ) → word_bits valid (i + m) ≡ word_bits valid i ++ word_bits word m
-    pub took : TookStrings allows (word_bits valid i) text rest old new
-
-  pub taken-none : (valid : ℕ) (text : List ℕ) (old : List (List ℕ)) → AreTaken valid 0 valid text text old old
-  taken-none valid text old = record { behind = λ m. let e : 0 + m ≡ m = omega arith in ap (word_bits valid) e; took = strings-none text old }
-
-  taken-behind : (valid i word : ℕ) → ((m : ℕ) → word_bits valid (i + m) ≡ word_bits valid i ++ word_bits word m) → (m : ℕ) → word_bits valid (i + 1 + m) ≡ word_bits valid (i + 1) ++ word_bits (word / 2) m
-  taken-behind valid i word h m =
-      let e : i + 1 + m ≡ i + suc m = omega arith in
-      ap (word_bits valid) e ∙ (h (suc m) ∙ (sym (append_assoc (word_bits valid i) ((word % 2 == 1) ∷ []) (word_bits (word / 2) m)) ∙ ap (λ (t : List Bool). t ++ word_bits (word / 2) m) (sym (h 1))))
-
-  pub taken-more : (valid i word : ℕ) (text text1 text2 : List ℕ) (old mid new : List (List ℕ)) → AreTaken valid i word text text1 old mid → TookStrings allows ((word % 2 == 1) ∷ []) text1 text2 mid new → AreTaken valid (i + 1) (word / 2) text text2 old new
-  taken-more valid i word text text1 text2 old mid new a t = record {
-    behind = taken-behind valid i word a.behind;
-    took = subst (λ (bs : List Bool). TookStrings allows bs text text2 old new) (sym (a.behind 1)) (strings-then (word_bits valid i) ((word % 2 == 1) ∷ []) text text1 text2 old mid new a.took t);
-  }
-
-  pub taken-some : (valid i word most : ℕ) (text rest rest' : List ℕ) (old new new' : List (List ℕ)) → i ≤ most → AreTaken valid i word text rest old new → new' ≡ new → rest' ≡ rest → TookSome allows valid most text rest' old new'
-  taken-some valid i word most text rest rest' old new new' l a e f = rw (e, f) (record { some = i; within = l; took = a.took })
-
-  pub taken-cannot : (limit valid i word n : ℕ) (text rest : List ℕ) (old new : List (List ℕ)) (e : Error) → i < n → AreTaken valid i word text rest old new → CannotTake limit (ones ((word % 2 == 1) ∷ [])) (stored_strings allows rest) new e → CannotTake limit (ones (word_bits valid n)) (stored_strings allows text) old e
-  taken-cannot limit valid i word n text rest old new e l a c = λ slots s.
-      let t = a.took in
-      let vs : List Value = map bytes t.strings in
-      let more : List Slot = string_slots t.among (word_bits valid i) in
-      let sum : bytes_in (slots ++ more) ≡ bytes_in slots + bytes_in more = slots-append slots more in
-      let now : bytes_in (slots ++ more) ≡ total_bytes new = omega (arith, sum, s, t.are.all, ap total_bytes t.pushed, total-append old t.among) in
-      let size : length vs ≡ ones (word_bits valid i) = length-map t.strings bytes ∙ t.count in
-      let grown : bytes_in (slots ++ more) ≡ bytes_in slots + bytes_of vs = sum ∙ ap (λ (k : ℕ). bytes_in slots + k) (ap bytes_in t.stand ∙ spread-bytes (word_bits valid i) vs size) in
-      let last : i + 1 + (n - (i + 1)) ≡ n = omega (arith, l) in
-      let all = ap ones (ap (word_bits valid) (sym last) ∙ taken-behind valid i word a.behind (n - (i + 1))) ∙ (ones-append (word_bits valid (i + 1)) (word_bits (word / 2) (n - (i + 1))) ∙ ap (λ (k : ℕ). k + ones (word_bits (word / 2) (n - (i + 1)))) (ap ones (a.behind 1) ∙ ones-append (word_bits valid i) ((word % 2 == 1) ∷ []))) in
-      let few : length vs + ones ((word % 2 == 1) ∷ []) ≤ ones (word_bits valid n) = omega (arith, size, all) in
-      cannot-more limit (length vs + ones ((word % 2 == 1) ∷ [])) (ones (word_bits valid n)) (stored_strings allows text) slots e few
-      (cannot-behind limit (ones ((word % 2 == 1) ∷ [])) vs (stored_strings allows text) (stored_strings allows rest) slots (slots ++ more) e t.taken grown (c (slots ++ more) now))
-
-  -- ---- one string
-
-  pub cannot-long : (limit : ℕ) (text s rest : List ℕ) (old : List (List ℕ)) (e : Error) → string_at text ≡ Some (s, rest) → allows s ≡ true → (e ≡ Memory) ⊎ ((e ≡ Overflow V1) × (0 < limit) × (limit ≤ total_bytes old + length s)) → CannotTake limit 1 (stored_strings allows text) old e
-  cannot-long limit text s rest old e is a why = λ slots same. string-long limit allows text s rest slots e is a (elim why [ inl memory ↦ inl memory | inr long ↦ inr (long.0, long.1, omega (arith, long.2, same)) ])
-
   -- ---- what is decoded
 
   pub strings-decoded : (bits : List Bool) (text rest : List ℕ) (ss ss' : List (List ℕ)) (bs bs' : List Bool) → length ss ≡ length bs → TookStrings allows bits text rest ss ss' → bs' ≡ bs ++ bits → DecodesMixed bits (stored_strings allows text) (stored_strings allows rest) (string_slots ss bs) (string_slots ss' bs')
@@ -110,10 +68,6 @@ module _ (allows : List ℕ → Bool) where
     taken = t.taken;
     pushed = ap (λ (cs : List Bool). string_slots ss' cs) b ∙ (ap (λ (us : List (List ℕ)). string_slots us (bs ++ bits)) t.pushed ∙ (both-slots ss t.among bs bits even ∙ ap (λ (u : List Slot). string_slots ss bs ++ u) t.stand));
   }
-
-  -- how many were taken
-  pub taken-count : (bits : List Bool) (text rest : List ℕ) (ss ss' : List (List ℕ)) → TookStrings allows bits text rest ss ss' → length ss' - length ss ≡ length bits
-  taken-count bits text rest ss ss' t = omega (arith, ap length t.pushed, length-append ss t.among, t.are.even)
 
 -- ---- a word of set bits
 
@@ -130,8 +84,3 @@ word-valid n left left' slots slots' h d =
 
 pub word-cannot : (limit n : ℕ) (left : List Stored) (slots : List Slot) (e : Error) → n ≤ 64 → CannotDecode limit (ones (word_bits (2 ^ 64 - 1) n)) left slots e → CannotDecode limit n left slots e
 word-cannot limit n left slots e h c = subst (λ (k : ℕ). CannotDecode limit k left slots e) (ap ones (word-ones n 64 h) ∙ ones-all n) c
-
--- an error that is handed on
-pub passed-on : {A E : Type 0} (P : E → Type 0) (r : Result A E) (e : E) → IsErrAnd r (λ e'. e' ≡ e) → P e → IfErr r P
-passed-on P (Ok a) e is p = tt
-passed-on P (Err e') e is p = subst P (sym is) p

@@ -2,6 +2,8 @@
 use Rattle.std.proofs.Common.{◌≡◌, ℕ, zero, suc, ◌+◌, ◌-◌, ◌*◌, ◌/◌, ◌%◌, ◌^◌, ◌<◌, ◌≤◌, ◌==◌, Bool, true, false, cond, List, [], ◌∷◌, ◌++◌, map, length, replicate, refl, arith, ap, sym, ◌∙◌, append_assoc}
 use Rattle.std.proofs.Common.{count_ones}
 use Rattle.std.proofs.Math.Arith.{mod-mul}
+use Rattle.std.specs.Int.{bit_at}
+use Rattle.std.proofs.lemmas.Nat.Bits.{bit_at_lowest, bit_at-suc}
 use Rattle.std.proofs.lemmas.Nat.{ones_le_self, pow_pos}
 use lib.Count.{ones_step}
 use Rattle.columns_core.specs.Bits.{word_bits}
@@ -95,3 +97,18 @@ pub next-bit : (valid n i word : ℕ) (done : List Bool) → i < n → done ++ w
 next-bit valid n i word done l e =
     let step : n - i ≡ suc (n - (i + 1)) = omega (arith, l) in
     append_assoc done ((word % 2 == 1) ∷ []) (word_bits (word / 2) (n - (i + 1))) ∙ (ap (λ (k : ℕ). done ++ word_bits word k) (sym step) ∙ e)
+
+-- the next bit of a word
+next_of : (n word : ℕ) → word_bits word (n + 1) ≡ word_bits word n ++ (bit_at word n == 1) ∷ []
+next_of zero word = ap (λ (b : ℕ). (b == 1) ∷ []) (sym (bit_at_lowest word))
+next_of (suc n) word =
+    let n' : suc n + 1 ≡ suc (n + 1) = omega arith in
+    rw n' (ap (λ (bs : List Bool). (word % 2 == 1) ∷ bs) (next_of n (word / 2) ∙ ap (λ (b : ℕ). word_bits (word / 2) n ++ (b == 1) ∷ []) (sym (bit_at-suc word n))))
+
+pub set_more : (n word : ℕ) (b : Bool) → (bit_at word n == 1) ≡ b → word_bits word (n + 1) ≡ word_bits word n ++ b ∷ []
+set_more n word b e = next_of n word ∙ ap (λ (c : Bool). word_bits word n ++ c ∷ []) e
+
+pub ones_front : (i n word : ℕ) → i ≤ n → ones (word_bits word i) ≤ ones (word_bits word n)
+ones_front zero n word h = omega arith
+ones_front (suc i) zero word h = absurd (omega (arith, h))
+ones_front (suc i) (suc n) word h = omega (arith, ones_front i n (word / 2) (omega (arith, h)))

@@ -1,11 +1,13 @@
 -- Plain byte strings, and what is decoded of them (Parquet format, Encodings, "Plain"; Arrow columnar format, "Variable-size Binary Layout").
-use Rattle.std.specs.Prelude.{◌≡◌, ℕ, zero, suc, ◌+◌, ◌<◌, ◌≤◌, Bool, true, nat_lt, Option, Some, None, List, [], ◌∷◌, ◌++◌, map, length, take, drop, slice_index, if◌then◌else◌, IsUtf8}
+use Rattle.std.specs.Prelude.{◌≡◌, ℕ, zero, suc, ◌+◌, ◌<◌, ◌≤◌, Bool, true, false, ◌&&◌, ◌⊎◌, nat_lt, Option, Some, None, List, [], ◌∷◌, ◌++◌, map, length, take, drop, slice_index, if◌then◌else◌, IsUtf8}
 use Rattle.shredding.specs.Slot.{bytes, Slot, null, value}
 use Rattle.columns_core.specs.Rising.{last_place}
 use Rattle.columns_slots.specs.Bytes.{pieces}
 use Rattle.pq_numbers.specs.Texts.{number_of}
 use Rattle.columns_base.specs.declared.error.Error.{Error}
-use Rattle.columns_core.specs.Bits.{word_bits}
+use Rattle.columns_base.specs.declared.error.Error.TheVariants.{Memory, OutOfSpec, Overflow}
+use Rattle.columns_base.specs.declared.error.S.TheVariants.{S6, S7}
+use Rattle.columns_base.specs.declared.error.V.TheVariants.{V1}
 use Rattle.read_walk.specs.Values.{Stored, bytes_in, ones, spread, CannotDecode}
 
 -- ---- stored strings
@@ -63,6 +65,47 @@ abbrev pub string_slots : List (List ℕ) → List Bool → List Slot
 string_slots (s ∷ ss) (b ∷ bs) = (if b then value (bytes s) else null) ∷ string_slots ss bs
 string_slots _ _ = []
 
+-- ---- strings of a stretch
+
+-- the string of a slot where one is wanted: the next one that stands in the bytes, and what lies behind it; else an empty one
+abbrev pub IsNext : Bool → List ℕ → List ℕ → List ℕ → Type 0
+IsNext true text s behind = string_at text ≡ Some (s, behind)
+IsNext false text s behind = (s ≡ []) × (behind ≡ text)
+
+-- a string for each bit
+abbrev pub StandIn : List Bool → List (List ℕ) → List ℕ → List ℕ → Type 0
+StandIn [] [] text rest = rest ≡ text
+StandIn [] (s ∷ ss) text rest = ⊥
+StandIn (b ∷ bs) [] text rest = ⊥
+StandIn (b ∷ bs) (s ∷ ss) text rest = (behind : List ℕ) × IsNext b text s behind × StandIn bs ss behind rest
+
+-- all their bytes
+abbrev pub joined : List (List ℕ) → List ℕ
+joined [] = []
+joined (s ∷ ss) = s ++ joined ss
+
+-- the bytes of strings for so many bits, whose lengths are these
+pub record TookBytes (bits : List Bool) (text rest lengths old new : List ℕ) : Type 0 where
+  pub strings : List (List ℕ)
+  pub stand : StandIn bits strings text rest
+  pub sizes : map length strings ≡ lengths
+  pub bytes : new ≡ old ++ joined strings
+
+-- an error for which strings for so many bits cannot be taken, whatever they say
+abbrev pub IsFault : List Bool → List ℕ → Error → Type 0
+IsFault bits text e = (e ≡ Memory) ⊎ ((e ≡ OutOfSpec S6) × (length (all_strings text) < ones bits))
+
+-- whether each string is a value of the leaf
+abbrev pub is_each : (List ℕ → Bool) → List (List ℕ) → Bool
+is_each allows [] = true
+is_each allows (s ∷ ss) = allows s && is_each allows ss
+
+-- an error for which strings of these lengths cannot be laid out behind those before, where what came before them was at fault
+abbrev pub CannotLay : ℕ → (List ℕ → Bool) → List ℕ → List ℕ → List ℕ → Option Error → Error → Type 0
+CannotLay limit allows offsets strings lengths fault e =
+    ((e ≡ OutOfSpec S7) × (is_each allows (cut_off lengths strings) ≡ false))
+    ⊎ ((is_each allows (cut_off lengths strings) ≡ true) × ((e ≡ Memory) ⊎ (fault ≡ Some e) ⊎ ((e ≡ Overflow V1) × (fault ≡ None) × (0 < limit) × (limit ≤ last_place offsets + length strings))))
+
 -- each string is a value of the leaf
 abbrev pub AreAllowed : (List ℕ → Bool) → List (List ℕ) → Type 0
 AreAllowed allows [] = Unit {0}
@@ -83,12 +126,6 @@ pub record TookStrings (allows : List ℕ → Bool) (bits : List Bool) (text res
   pub allowed : AreAllowed allows among
   pub stand : string_slots among bits ≡ spread bits (map bytes strings)
   pub pushed : new ≡ old ++ among
-
--- those of the first bits of a word
-pub record TookSome (allows : List ℕ → Bool) (valid most : ℕ) (text rest : List ℕ) (old new : List (List ℕ)) : Type 0 where
-  pub some : ℕ
-  pub within : some ≤ most
-  pub took : TookStrings allows (word_bits valid some) text rest old new
 
 -- an error for which the next n cannot be taken behind strings
 abbrev pub CannotTake : ℕ → ℕ → List Stored → List (List ℕ) → Error → Type 0

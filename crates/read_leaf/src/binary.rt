@@ -1,14 +1,19 @@
 //! Byte strings that grow.
-ghost use Rattle.std.specs.Prelude.{◌≡◌, ◌⊎◌, ◌+◌, ◌<◌, ◌≤◌, ◌++◌, ◌∷◌, [], List, ℕ, IfOk, OnOk, IfErr, OnErr, take, drop, replicate, sum, length as list_length};
+ghost use Rattle.std.specs.Prelude.{◌≡◌, ◌⊎◌, ◌+◌, ◌<◌, ◌≤◌, ◌++◌, ◌∷◌, [], List, ℕ, true, None, IfOk, OnOk, IfErr, OnErr, take, drop, replicate, sum, length as list_length};
 ghost use Rattle.columns_base.specs.declared.error.Error.{Error};
 ghost use Rattle.columns_base.specs.declared.error.S.{S};
 ghost use Rattle.columns_base.specs.declared.error.V.{V};
 ghost use Rattle.columns_slots.specs.Bytes.{pieces};
 ghost use Rattle.std.specs.Iterator.{IsFinite, Drains};
-ghost use Rattle.read_leaf.specs.Strings.{IsLaid, cut_off, total_bytes};
+ghost use Rattle.columns_core.specs.Bits.{word_bits};
+ghost use Rattle.columns_core.specs.Rising.{last_place, places_from};
+ghost use Rattle.read_walk.specs.Values.{ones};
+ghost use Rattle.read_leaf.specs.Strings.{IsLaid, cut_off, is_each, total_bytes, stored_strings, TookStrings, CannotTake, CannotLay};
 
 use crate::cut::front;
 use crate::lengths::{collect_lengths, push_lengths, sum_within};
+use crate::plain::take_plain;
+use crate::strings::StringKind;
 use columns_base::{Error, Result, S, V};
 use columns_core::{Offset, Offsets, OffsetsBuffer};
 use std::alloc::Global;
@@ -38,7 +43,7 @@ const SHORT: usize = 32;
 
 // The first bytes more. Behind short ones as many more are copied as a short string may have, and cut off again, which costs less than to
 // copy so many bytes as are known only here.
-fn push_first(values: &mut Vec<u8>, bytes: &[u8], count: usize) -> Result<()>
+pub fn push_first(values: &mut Vec<u8>, bytes: &[u8], count: usize) -> Result<()>
     requires { count ≤ list_length bytes.now }
     ensures ok { OnOk result (values.new.items ≡ values.old.items ++ take count bytes.now) }
     ensures err { IfErr result (λ e. (e ≡ Error.Memory) × (values.new.items ≡ values.old.items)) }
@@ -49,6 +54,31 @@ fn push_first(values: &mut Vec<u8>, bytes: &[u8], count: usize) -> Result<()>
         return Ok(());
     }
     values.extend_from_slice(front(bytes, count))?;
+    Ok(())
+}
+
+// A range for each of the strings of these lengths, which lie one after another, where all are values of `K` and nothing else is wrong.
+fn lay_out<O: Offset, K: StringKind>(
+    offsets: &mut Offsets<O>,
+    strings: &[u8],
+    lengths: &[usize],
+    fault: Option<Error>,
+) -> Result<()>
+    requires whole { sum lengths.now ≡ list_length strings.now }
+    ensures ok { OnOk result ((fault ≡ None) × (is_each K.allows (cut_off lengths.now strings.now) ≡ true) × (offsets.new.0 ≡ offsets.old.0 ++ places_from (last_place offsets.old.0) lengths.now)) }
+    ensures err { IfErr result (λ e. CannotLay O.limit K.allows offsets.old.0 strings.now lengths.now fault e × (offsets.new.0 ≡ offsets.old.0)) }
+{
+    if !K::are_values(strings, lengths) {
+        return Err(Error::OutOfSpec(S::S7));
+    }
+    if let Some(error) = fault {
+        return Err(error);
+    }
+    if O::from_usize(offsets.last().to_usize() + strings.len()).is_none() {
+        return Err(Error::Overflow(V::V1));
+    }
+    offsets.reserve(lengths.len())?;
+    push_lengths(offsets, lengths);
     Ok(())
 }
 
@@ -96,6 +126,54 @@ impl<O: Offset> Binary<O> {
         push_first(&mut self.values, bytes, count)?;
         match self.offsets.try_push_usize(count) {
             Ok(()) => Ok(()),
+            Err(error) => {
+                self.values.truncate(before);
+                Err(error)
+            }
+        }
+    }
+
+    /// A plain string for each of the low bits of a word: the next one where it is set, else an empty one. Gives the bytes behind them.
+    ///
+    /// # Errors
+    ///
+    /// S6 where fewer are stored, S7 where one is no value of `K`, V1 where the bytes of all strings are more than the offset type counts, and
+    /// `Memory`. The strings are then as before.
+    pub(crate) fn push_plain<'a, K: StringKind>(
+        &mut self,
+        text: &'a [u8],
+        valid: u64,
+        count: usize,
+    ) -> Result<&'a [u8]>
+        requires few { count ≤ 64 }
+        ensures ok { IfOk result (λ rest. TookStrings K.allows (word_bits valid count) text.now rest.now self.old self.new) }
+        ensures err { IfErr result (λ e. CannotTake O.limit (ones (word_bits valid count)) (stored_strings K.allows text.now) self.old e × (self.new ≡ self.old)) }
+    {
+        let mut lengths = [0; 64];
+        self.push_stretch::<K>(&mut lengths[..count], text, valid)
+    }
+
+    // The same with memory for the lengths of the strings, one for each bit.
+    fn push_stretch<'a, K: StringKind>(
+        &mut self,
+        lengths: &mut [usize],
+        text: &'a [u8],
+        valid: u64,
+    ) -> Result<&'a [u8]>
+        requires few { list_length lengths.old ≤ 64 }
+        ensures ok { IfOk result (λ rest. TookStrings K.allows (word_bits valid (list_length lengths.old)) text.now rest.now self.old self.new) }
+        ensures err { IfErr result (λ e. CannotTake O.limit (ones (word_bits valid (list_length lengths.old))) (stored_strings K.allows text.now) self.old e × (self.new ≡ self.old)) }
+    {
+        let before = self.values.len();
+        let taken = take_plain(&mut self.values, lengths, text, valid);
+        let strings = &self.values[before..];
+        match lay_out::<O, K>(
+            &mut self.offsets,
+            strings,
+            &lengths[..taken.count],
+            taken.fault,
+        ) {
+            Ok(()) => Ok(taken.rest),
             Err(error) => {
                 self.values.truncate(before);
                 Err(error)

@@ -12,10 +12,13 @@ mod laws;
 mod lengths;
 mod loaded;
 mod nulls;
+mod plain;
 mod primitive;
+mod room;
 mod set_bits;
 mod stored;
 mod strings;
+mod texts;
 mod truths;
 
 pub use binary::Binary;

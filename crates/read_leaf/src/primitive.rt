@@ -8,6 +8,7 @@ ghost use Rattle.read_walk.specs.Values.{Decodes, DecodesMixed, ones, CannotDeco
 ghost use Rattle.read_leaf.specs.Numbers.{TookNumbers, TookOne, TookMixed, OneIsOutside, number_slots, stored_numbers};
 
 use crate::cut::skip;
+use crate::room::want_room;
 use crate::set_bits::count_set;
 use crate::stored::{FromStored, StoredNumber};
 use columns_base::{Error, Result, S};
@@ -107,34 +108,6 @@ pub(crate) fn push_copies<T: Copy>(values: &mut Vec<T>, number: T, count: usize)
     };
     values.resize(size, number)?;
     Ok(())
-}
-
-// Makes room for the numbers to come: for seven times as many slots as there are, or 1,024, but for no more than the numbers that are `left`. Does
-// nothing where these are few, since room for `count` slots is then made at twice what there is.
-#[cold]
-#[inline(never)]
-fn make_room<T>(values: &mut Vec<T>, count: usize, left: usize) -> Result<()>
-    ensures same { values.new.items ≡ values.old.items }
-    ensures err { IfErr result (λ e. e ≡ Error.Memory) }
-{
-    let len = values.len();
-    let more = len.saturating_mul(7).max(1024).min(left);
-    if more < count.max(len / 4) {
-        return Ok(());
-    }
-    values.reserve_exact(more)?;
-    Ok(())
-}
-
-// The same where there is no room for `count` slots.
-fn want_room<T>(values: &mut Vec<T>, count: usize, left: usize) -> Result<()>
-    ensures same { values.new.items ≡ values.old.items }
-    ensures err { IfErr result (λ e. e ≡ Error.Memory) }
-{
-    if count <= values.capacity().saturating_sub(values.len()) {
-        return Ok(());
-    }
-    make_room(values, count, left)
 }
 
 // Writes the next numbers to the places, one to each, and gives the bytes behind them; none where one of them is none of the leaf.

@@ -6,11 +6,11 @@ ghost use Rattle.columns_core.specs.Bits.{word_bits};
 ghost use Rattle.shredding.specs.Slot.{bytes, null, value};
 ghost use Rattle.pq_numbers.specs.Texts.{number_of};
 ghost use Rattle.read_walk.specs.Values.{Decodes, DecodesMixed, ones, CannotDecode, bytes_in};
-ghost use Rattle.read_leaf.specs.Strings.{string_at, stored_strings, string_slots, AreAllowed, IsText, TookStrings, TookSome, CannotTake};
+ghost use Rattle.read_leaf.specs.Strings.{string_at, stored_strings, string_slots, AreAllowed, IsText};
 
 use crate::binary::Binary;
-use crate::cut::{front, skip};
-use columns_base::{Error, Result, S, V};
+use crate::texts::{are_texts, is_text};
+use columns_base::{Error, Result};
 use columns_core::{MutableBitmap, Offset};
 use read_walk::NestedDecoder;
 use std::alloc::Global;
@@ -26,6 +26,14 @@ pub trait StringKind {
     /// Whether the string is a value of the leaf.
     fn is_value(bytes: &[u8]) -> bool
         ensures { result ≡ allows bytes.now };
+
+    ghost use Rattle.std.specs.Prelude.{◌≤◌, length, sum};
+    ghost use Rattle.read_leaf.specs.Strings.{cut_off, is_each};
+
+    /// Whether all strings of these lengths, cut one after another off the front of the bytes, are.
+    fn are_values(bytes: &[u8], lengths: &[usize]) -> bool
+        requires { sum lengths.now ≤ length bytes.now }
+        ensures { result ≡ is_each allows (cut_off lengths.now bytes.now) };
 
     ghost use Rattle.std.specs.Prelude.{◌≡◌, [], true};
 
@@ -47,18 +55,9 @@ impl StringKind for Bytes {
     fn is_value(_bytes: &[u8]) -> bool {
         true
     }
-}
 
-#[tactic(auto, unfolding(crate::specs::Strings::IsText))]
-fn is_text(bytes: &[u8]) -> bool
-    ensures { IsTrue result ↔ IsText bytes.now }
-{
-    if bytes.is_ascii() {
-        return true;
-    }
-    match std::str::from_utf8(bytes) {
-        Ok(_) => true,
-        Err(_) => false,
+    fn are_values(_bytes: &[u8], _lengths: &[usize]) -> bool {
+        true
     }
 }
 
@@ -77,6 +76,10 @@ impl StringKind for Text {
 
     fn is_value(bytes: &[u8]) -> bool {
         is_text(bytes)
+    }
+
+    fn are_values(bytes: &[u8], lengths: &[usize]) -> bool {
+        are_texts(bytes, lengths)
     }
 }
 
@@ -152,11 +155,12 @@ impl<O: Offset, K: StringKind> StringValues<O, K> {
         ensures err { IfErr result (CannotDecode O.limit (ones (word_bits valid count)) (stored_strings K.allows state.old.values.now) (string_slots self.old.0 self.old.1)) }
     {
         self.validity.reserve(count)?;
-        let before = self.strings.len();
-        let taken = take_strings::<O, K>(state, &mut self.strings, valid, count);
-        let more = self.strings.len() - before;
-        self.validity.extend_from_word(valid, more).unwrap();
-        taken
+        match self.strings.push_plain::<K>(state.values, valid, count) {
+            Ok(rest) => state.values = rest,
+            Err(error) => return Err(error),
+        }
+        self.validity.extend_from_word(valid, count).unwrap();
+        Ok(())
     }
 
     // As many nulls.
@@ -174,32 +178,6 @@ impl<O: Offset, K: StringKind> StringValues<O, K> {
     }
 }
 
-// The number that the first four bytes spell.
-fn first_number(text: &[u8]) -> u32
-    requires { 4 ≤ list_length text.now }
-    ensures { result ≡ number_of (take 4 text.now) }
-{
-    match text {
-        [a, b, c, d, ..] => u32::from_le_bytes([*a, *b, *c, *d]),
-        _ => unreachable!(),
-    }
-}
-
-// How long the string at the front is, and the bytes behind its length, of which it is the first; none where any of them is cut.
-fn take_length(text: &[u8]) -> Option<(usize, &[u8])>
-    ensures { MatchOption result (string_at text.now ≡ None) (λ s. (s.0 ≤ list_length s.1.now) × (string_at text.now ≡ Some (take s.0 s.1.now, drop s.0 s.1.now))) }
-{
-    if text.len() < 4 {
-        return None;
-    }
-    let count = first_number(text) as usize;
-    let behind = skip(text, 4);
-    if behind.len() < count {
-        return None;
-    }
-    Some((count, behind))
-}
-
 /// Decodes plain byte strings, of which `K` says which are values of the leaf.
 #[derive(Drop)]
 pub struct StringDecoder<O, K> {
@@ -214,67 +192,6 @@ impl<O, K> StringDecoder<O, K> {
             kind: PhantomData,
         }
     }
-}
-
-// Takes the next string.
-fn take_next<'a, O: Offset, K: StringKind>(
-    state: &mut PlainStrings<'a>,
-    strings: &mut Binary<O>,
-) -> Result<()>
-    ensures ok { OnOk result (TookStrings K.allows (true ∷ []) state.old.values.now state.new.values.now strings.old strings.new) }
-    ensures err { IfErr result (CannotTake O.limit 1 (stored_strings K.allows state.old.values.now) strings.old) }
-    ensures same { IfErr result (λ e. (strings.new ≡ strings.old) × (state.new.values.now ≡ state.old.values.now)) }
-{
-    match take_length(state.values) {
-        None => Err(Error::OutOfSpec(S::S6)),
-        Some((count, behind)) => {
-            if !K::is_value(front(behind, count)) {
-                return Err(Error::OutOfSpec(S::S7));
-            }
-            strings.push_front(behind, count)?;
-            state.values = skip(behind, count);
-            Ok(())
-        }
-    }
-}
-
-// Takes the next string where one is there, else an empty one.
-fn take_slot<'a, O: Offset, K: StringKind>(
-    state: &mut PlainStrings<'a>,
-    strings: &mut Binary<O>,
-    is_valid: bool,
-) -> Result<()>
-    ensures ok { OnOk result (TookStrings K.allows (is_valid ∷ []) state.old.values.now state.new.values.now strings.old strings.new) }
-    ensures err { IfErr result (CannotTake O.limit (ones (is_valid ∷ [])) (stored_strings K.allows state.old.values.now) strings.old) }
-    ensures same { IfErr result (λ e. (strings.new ≡ strings.old) × (state.new.values.now ≡ state.old.values.now)) }
-{
-    if is_valid {
-        take_next::<O, K>(state, strings)
-    } else {
-        strings.extend_constant(1)
-    }
-}
-
-// Takes a string for each of the low bits of a word: the next one where it is set, else an empty one.
-fn take_strings<'a, O: Offset, K: StringKind>(
-    state: &mut PlainStrings<'a>,
-    strings: &mut Binary<O>,
-    valid: u64,
-    count: usize,
-) -> Result<()>
-    ensures some { TookSome K.allows valid count state.old.values.now state.new.values.now strings.old strings.new }
-    ensures ok { OnOk result (TookStrings K.allows (word_bits valid count) state.old.values.now state.new.values.now strings.old strings.new) }
-    ensures err { IfErr result (CannotTake O.limit (ones (word_bits valid count)) (stored_strings K.allows state.old.values.now) strings.old) }
-{
-    let mut bits = valid;
-    for i in 0..count {
-        match take_slot::<O, K>(state, strings, bits % 2 == 1) {
-            Ok(()) => {}
-            Err(error) => return Err(error),
-        }
-        bits /= 2;
-    }
-    Ok(())
 }
 
 impl<'a, O: Offset, K: StringKind> NestedDecoder<'a> for StringDecoder<O, K> {
