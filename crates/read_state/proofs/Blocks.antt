@@ -1,5 +1,5 @@
 -- A block's pairs, one after another, and for the part beneath.
-use Rattle.std.proofs.Common.{◌≡◌, ℕ, suc, ◌+◌, ◌<◌, ◌≤◌, Bool, true, false, not, cond, ◌&&◌, nat_lt, List, [], ◌∷◌, map, length, drop, get_or, refl, arith, ap, sym, ◌∙◌, add-one}
+use Rattle.std.proofs.Common.{◌≡◌, ℕ, suc, ◌+◌, ◌<◌, ◌≤◌, Bool, true, false, not, cond, ◌&&◌, nat_lt, List, [], ◌∷◌, map, length, drop, get_or, set, refl, arith, ap, sym, ◌∙◌, add-one}
 use Rattle.std.proofs.Math.Seq.{drop-cons}
 use Rattle.std.proofs.Common.{replicate, inl, inr, Some, None, ◌++◌, [], length-append}
 use Rattle.std.proofs.lemmas.Bool.{cases_lt}
@@ -133,3 +133,9 @@ bits-step bits bits' depth def reps defs hidden j all h d e so new =
     let g : ℕ = grows_by part depth def m in
     no-places part' 0 (0 + g) depth def rest refl
     ∙ part-step part part' 0 (0 + g) depth def reps defs hidden j all h d e so (bits-cond (marks_part depth def m) (nat_lt def (get_or defs j 0)) bits bits' new) refl
+
+-- ---- the only part of a state
+pub only-block : (parts : List NestedBox) (part part' : NestedBox) (ms : List Mark) → length parts ≡ 1 → part ≡ get_or parts 0 part → kept_box part' ≡ pushed_all (kept_box part) 0 0 0 ms → all_kept (set parts 0 part') ≡ block ms 0 0 (all_kept parts)
+only-block [] part part' ms l e n = absurd (omega (arith, l))
+only-block (p ∷ q ∷ ps) part part' ms l e n = absurd (omega (arith, l))
+only-block (p ∷ []) part part' ms l e n = rw (n, e) refl

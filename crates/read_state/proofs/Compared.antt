@@ -1,10 +1,11 @@
 -- Words of bits: what compares 64 levels, and what picks by a word.
-use Rattle.std.proofs.Common.{◌≡◌, ℕ, zero, suc, ◌+◌, ◌-◌, ◌*◌, ◌/◌, ◌%◌, ◌^◌, ◌<◌, ◌≤◌, ◌==◌, ◌&&◌, Bool, true, false, true≢false, inl, inr, cond, nat_le, nat_eq, leb, eqb, w32, bit_and, bit_or, min, max, List, [], ◌∷◌, ◌++◌, map, length, replicate, get_or, refl, arith, ap, sym, ◌∙◌, pow-suc, mul_assoc}
+use Rattle.std.proofs.Common.{◌≡◌, ℕ, zero, suc, ◌+◌, ◌-◌, ◌*◌, ◌/◌, ◌%◌, ◌^◌, ◌<◌, ◌≤◌, ◌==◌, ◌&&◌, Bool, true, false, true≢false, inl, inr, cond, nat_le, nat_eq, leb, eqb, bit_and, bit_or, min, max, List, [], ◌∷◌, ◌++◌, map, length, replicate, get_or, refl, arith, ap, sym, ◌∙◌, pow-suc, mul_assoc}
 use Rattle.std.proofs.lemmas.Nat.{shr-shr, and_shr}
 use Rattle.std.proofs.lemmas.Nat.Bits.{bit_at_lowest, bit_at-suc, bit_at_and, bit_at_or, bit_at_ones, bit_at-lt}
 use Rattle.std.specs.Int.{bit_at}
 use lib.Lanes.{mask_l, zip2, top}
 use mir.Val.{bits, hbits}
+use mir.Syntax.{Width}
 use Rattle.std.proofs.lemmas.Simd.{bitmask_splat, tops_compared, mask_l-mod}
 use Rattle.std.proofs.lemmas.List.{length-map, get_or-map}
 use Rattle.std.proofs.lemmas.Bool.Decides.{leb_tells}
@@ -33,16 +34,16 @@ splat-first least (x ∷ xs) = ap (λ (bs : List Bool). nat_le least x ∷ bs) (
 mask-word : (f : ℕ → Bool) (xs : List ℕ) (n word : ℕ) → length xs ≡ n → word ≡ mask_l (map f xs) → word_bits word n ≡ map f xs
 mask-word f xs n word l e = ap (λ (k : ℕ). word_bits k n) e ∙ (ap (word_bits (mask_l (map f xs))) (sym l ∙ sym (length-map xs f)) ∙ mask-bits (map f xs))
 
-pub mask-to : (most n : ℕ) (xs : List ℕ) → length xs ≡ n → n ≤ 64 → word_bits (mask_l (map (top (hbits w32)) (zip2 (λ a b. cond (leb a b) (2 ^ bits w32 - 1) 0) xs (replicate n most))) % 2 ^ 64) n ≡ map (λ d. nat_le d most) xs
-mask-to most n xs l short = mask-word (λ d. nat_le d most) xs n _ l (bitmask_splat w32 leb xs n most l short)
+pub mask-to : (w : Width) → (most n : ℕ) (xs : List ℕ) → length xs ≡ n → n ≤ 64 → word_bits (mask_l (map (top (hbits w)) (zip2 (λ a b. cond (leb a b) (2 ^ bits w - 1) 0) xs (replicate n most))) % 2 ^ 64) n ≡ map (λ d. nat_le d most) xs
+mask-to w most n xs l short = mask-word (λ d. nat_le d most) xs n _ l (bitmask_splat w leb xs n most l short)
 
-pub mask-at : (level n : ℕ) (xs : List ℕ) → length xs ≡ n → n ≤ 64 → word_bits (mask_l (map (top (hbits w32)) (zip2 (λ a b. cond (eqb a b) (2 ^ bits w32 - 1) 0) xs (replicate n level))) % 2 ^ 64) n ≡ map (λ d. nat_eq d level) xs
-mask-at level n xs l short = mask-word (λ d. nat_eq d level) xs n _ l (bitmask_splat w32 eqb xs n level l short)
+pub mask-at : (w : Width) → (level n : ℕ) (xs : List ℕ) → length xs ≡ n → n ≤ 64 → word_bits (mask_l (map (top (hbits w)) (zip2 (λ a b. cond (eqb a b) (2 ^ bits w - 1) 0) xs (replicate n level))) % 2 ^ 64) n ≡ map (λ d. nat_eq d level) xs
+mask-at w level n xs l short = mask-word (λ d. nat_eq d level) xs n _ l (bitmask_splat w eqb xs n level l short)
 
-pub mask-from : (least n : ℕ) (xs : List ℕ) → length xs ≡ n → n ≤ 64 → word_bits (mask_l (map (top (hbits w32)) (zip2 (λ a b. cond (leb a b) (2 ^ bits w32 - 1) 0) (replicate n least) xs)) % 2 ^ 64) n ≡ map (λ d. nat_le least d) xs
-mask-from least n xs l short =
+pub mask-from : (w : Width) → (least n : ℕ) (xs : List ℕ) → length xs ≡ n → n ≤ 64 → word_bits (mask_l (map (top (hbits w)) (zip2 (λ a b. cond (leb a b) (2 ^ bits w - 1) 0) (replicate n least) xs)) % 2 ^ 64) n ≡ map (λ d. nat_le least d) xs
+mask-from w least n xs l short =
     let f : ℕ → Bool = λ d. nat_le least d in
-    mask-word f xs n _ l (ap (λ (ms : List Bool). mask_l ms % 2 ^ 64) (tops_compared w32 leb (replicate n least) xs ∙ (ap (λ (k : ℕ). zip2 leb (replicate k least) xs) (sym l) ∙ splat-first least xs)) ∙ mask_l-mod (map f xs) 64 (omega (arith, length-map xs f, l, short)))
+    mask-word f xs n _ l (ap (λ (ms : List Bool). mask_l ms % 2 ^ 64) (tops_compared w leb (replicate n least) xs ∙ (ap (λ (k : ℕ). zip2 leb (replicate k least) xs) (sym l) ∙ splat-first least xs)) ∙ mask_l-mod (map f xs) 64 (omega (arith, length-map xs f, l, short)))
 
 -- no level is below 0
 from-zero : (d : ℕ) → nat_le 0 d ≡ true

@@ -12,3 +12,4 @@ pub mod Picking
 pub mod Listing
 pub mod Counting
 pub mod Marked
+pub mod Narrowed

@@ -1,5 +1,5 @@
 -- The marks of a block for one part, and for the part beneath it.
-use Rattle.std.proofs.Common.{◌≡◌, ℕ, zero, suc, ◌+◌, ◌<◌, ◌==◌, Bool, true, false, true≢false, not, is_some, ◌&&◌, ◌||◌, nat_le, nat_lt, inl, inr, Option, List, [], ◌∷◌, map, length, replicate, refl, arith, ap, sym, ◌∙◌}
+use Rattle.std.proofs.Common.{◌≡◌, ℕ, zero, suc, ◌+◌, ◌<◌, ◌==◌, Bool, true, false, true≢false, not, is_some, ◌&&◌, ◌||◌, nat_le, nat_lt, min, inl, inr, Option, List, [], ◌∷◌, map, length, replicate, refl, arith, ap, sym, ◌∙◌}
 use Rattle.std.proofs.lemmas.Bool.Decides.{leb_tells, eqb_tells}
 use Rattle.columns_core.specs.Bits.{word_bits}
 use Rattle.read_laws.specs.State.{Kept, kept_leaf, kept_list, kept_struct}
@@ -12,13 +12,13 @@ use Rattle.read_state.proofs.Blocks.{and-none}
 cons-same : (b c : Bool) (bs cs : List Bool) → b ≡ c → bs ≡ cs → b ∷ bs ≡ c ∷ cs
 cons-same b c bs cs e f = ap (λ (x : Bool). x ∷ bs) e ∙ ap (λ (xs : List Bool). c ∷ xs) f
 
-reps-beneath : (k : Kept) (depth def : ℕ) (ms : List Mark) → map (λ m. m.repetition) (map (beneath k depth def) ms) ≡ map (λ m. m.repetition) ms
+reps-beneath : (k : Kept) (depth def : ℕ) (ms : List Mark) → map (λ m. min m.repetition 255) (map (beneath k depth def) ms) ≡ map (λ m. min m.repetition 255) ms
 reps-beneath k depth def [] = refl
-reps-beneath k depth def (m ∷ ms) = ap (λ (rs : List ℕ). m.repetition ∷ rs) (reps-beneath k depth def ms)
+reps-beneath k depth def (m ∷ ms) = ap (λ (rs : List ℕ). min m.repetition 255 ∷ rs) (reps-beneath k depth def ms)
 
-defs-beneath : (k : Kept) (depth def : ℕ) (ms : List Mark) → map (λ m. m.definition) (map (beneath k depth def) ms) ≡ map (λ m. m.definition) ms
+defs-beneath : (k : Kept) (depth def : ℕ) (ms : List Mark) → map (λ m. min m.definition 255) (map (beneath k depth def) ms) ≡ map (λ m. min m.definition 255) ms
 defs-beneath k depth def [] = refl
-defs-beneath k depth def (m ∷ ms) = ap (λ (ds : List ℕ). m.definition ∷ ds) (defs-beneath k depth def ms)
+defs-beneath k depth def (m ∷ ms) = ap (λ (ds : List ℕ). min m.definition 255 ∷ ds) (defs-beneath k depth def ms)
 
 -- ---- beneath a struct: a is that the pair is not too deep, b that it defines the struct, s that the struct is there
 required-bit : (h a b : Bool) → (((h || (a && b)) && true) || (a && b)) ≡ (h || (a && b))
@@ -92,11 +92,40 @@ marked-struct mask c ms reps defs w depth def inner e is = record {
 }
 
 -- ---- beneath another part
-plain-bits : (k : Kept) (depth def deeper inner : ℕ) (ms : List Mark) → is_struct k ≡ false → reached deeper inner (map (λ m. m.repetition) ms) (map (λ m. m.definition) ms) ≡ map (marks_part deeper inner) (map (beneath k depth def) ms)
-plain-bits k depth def deeper inner [] e = refl
-plain-bits k depth def deeper inner (m ∷ ms) e =
+-- what is above 255 is above or at each level below it
+not-deep : (r depth : ℕ) → depth < 255 → nat_le (min r 255) depth ≡ nat_le r depth
+not-deep r depth h = elim (leb_tells r depth) [
+  | inl e ↦ elim (leb_tells (min r 255) depth) [
+    | inl f ↦ f.0 ∙ sym e.0
+    | inr f ↦ absurd (omega (arith, e.1, f.1))
+  ]
+  | inr e ↦ elim (leb_tells (min r 255) depth) [
+    | inl f ↦ absurd (omega (arith, e.1, f.1, h))
+    | inr f ↦ f.0 ∙ sym e.0
+  ]
+]
+
+not-low : (l def : ℕ) → def < 256 → nat_le def (min l 255) ≡ nat_le def l
+not-low l def h = elim (leb_tells def l) [
+  | inl e ↦ elim (leb_tells def (min l 255)) [
+    | inl f ↦ f.0 ∙ sym e.0
+    | inr f ↦ absurd (omega (arith, e.1, f.1, h))
+  ]
+  | inr e ↦ elim (leb_tells def (min l 255)) [
+    | inl f ↦ absurd (omega (arith, e.1, f.1))
+    | inr f ↦ f.0 ∙ sym e.0
+  ]
+]
+
+pub told-levels : (def : ℕ) (ms : List Mark) → def < 255 → map (λ d. nat_lt def d) (map (λ m. min m.definition 255) ms) ≡ map (λ d. nat_lt def d) (map (λ m. m.definition) ms)
+told-levels def [] h = refl
+told-levels def (m ∷ ms) h = cons-same _ _ _ _ (not-low m.definition (suc def) (omega (arith, h))) (told-levels def ms h)
+
+plain-bits : (k : Kept) (depth def deeper inner : ℕ) (ms : List Mark) → deeper < 255 → inner < 256 → is_struct k ≡ false → reached deeper inner (map (λ m. min m.repetition 255) ms) (map (λ m. min m.definition 255) ms) ≡ map (marks_part deeper inner) (map (beneath k depth def) ms)
+plain-bits k depth def deeper inner [] g h e = refl
+plain-bits k depth def deeper inner (m ∷ ms) g h e =
     let none : (marks_part depth def m && hides k m.definition def) ≡ false = rw e (and-none (marks_part depth def m) (not (is_nullable k && nat_lt def m.definition))) in
-    cons-same _ _ _ _ (ap (λ (h : Bool). h || (nat_le m.repetition deeper && nat_le inner m.definition)) (sym none)) (plain-bits k depth def deeper inner ms e)
+    cons-same _ _ _ _ (rw (not-deep m.repetition deeper g, not-low m.definition inner h) (ap (λ (b : Bool). b || (nat_le m.repetition deeper && nat_le inner m.definition)) (sym none))) (plain-bits k depth def deeper inner ms g h e)
 
 plain-near : (k : Kept) (depth def deeper inner : ℕ) (ms : List Mark) → is_struct k ≡ false → AllNear deeper inner (map (beneath k depth def) ms)
 plain-near k depth def deeper inner [] e = tt
@@ -104,11 +133,11 @@ plain-near k depth def deeper inner (m ∷ ms) e =
     let none : (marks_part depth def m && hides k m.definition def) ≡ false = rw e (and-none (marks_part depth def m) (not (is_nullable k && nat_lt def m.definition))) in
     (λ h q. absurd (true≢false (sym h ∙ none)), plain-near k depth def deeper inner ms e)
 
-pub marked-plain : (k : Kept) (ms : List Mark) (reps defs : List ℕ) (w depth def w' deeper inner : ℕ) → is_struct k ≡ false → word_bits w' 64 ≡ reached deeper inner reps defs → AreMarked ms reps defs w depth def → AreMarked (map (beneath k depth def) ms) reps defs w' deeper inner
-marked-plain k ms reps defs w depth def w' deeper inner e bits is = record {
+pub marked-plain : (k : Kept) (ms : List Mark) (reps defs : List ℕ) (w depth def w' deeper inner : ℕ) → deeper < 255 → inner < 256 → is_struct k ≡ false → word_bits w' 64 ≡ reached deeper inner reps defs → AreMarked ms reps defs w depth def → AreMarked (map (beneath k depth def) ms) reps defs w' deeper inner
+marked-plain k ms reps defs w depth def w' deeper inner g h e bits is = record {
   repetitions = reps-beneath k depth def ms ∙ is.repetitions;
   definitions = defs-beneath k depth def ms ∙ is.definitions;
-  pushed = bits ∙ (ap (λ (rs : List ℕ). reached deeper inner rs defs) (sym is.repetitions) ∙ (ap (reached deeper inner (map (λ m. m.repetition) ms)) (sym is.definitions) ∙ plain-bits k depth def deeper inner ms e));
+  pushed = bits ∙ (ap (λ (rs : List ℕ). reached deeper inner rs defs) (sym is.repetitions) ∙ (ap (reached deeper inner (map (λ m. min m.repetition 255) ms)) (sym is.definitions) ∙ plain-bits k depth def deeper inner ms g h e));
   near = plain-near k depth def deeper inner ms e;
 }
 
@@ -120,22 +149,27 @@ marked-required (kept_struct mask c) ms reps defs w depth def deeper inner e f g
     rw same (marked-struct mask c ms reps defs w depth def inner g is)
 
 -- ---- the pairs of a block for the first part
-first-reps : (n : ℕ) (reps defs : List ℕ) → length reps ≡ n → length defs ≡ n → map (λ m. m.repetition) (marks_of reps defs (replicate n false)) ≡ reps
+first-reps : (n : ℕ) (reps defs : List ℕ) → length reps ≡ n → length defs ≡ n → map (λ m. min m.repetition 255) (marks_of reps defs (replicate n false)) ≡ map (λ d. min d 255) reps
 first-reps zero [] defs l m = refl
 first-reps zero (r ∷ reps) defs l m = absurd (omega (arith, l))
 first-reps (suc n) [] defs l m = absurd (omega (arith, l))
 first-reps (suc n) (r ∷ reps) [] l m = absurd (omega (arith, m))
-first-reps (suc n) (r ∷ reps) (d ∷ defs) l m = ap (λ (rs : List ℕ). r ∷ rs) (first-reps n reps defs (omega (arith, l)) (omega (arith, m)))
+first-reps (suc n) (r ∷ reps) (d ∷ defs) l m = ap (λ (rs : List ℕ). min r 255 ∷ rs) (first-reps n reps defs (omega (arith, l)) (omega (arith, m)))
 
-first-defs : (n : ℕ) (reps defs : List ℕ) → length reps ≡ n → length defs ≡ n → map (λ m. m.definition) (marks_of reps defs (replicate n false)) ≡ defs
+first-defs : (n : ℕ) (reps defs : List ℕ) → length reps ≡ n → length defs ≡ n → map (λ m. min m.definition 255) (marks_of reps defs (replicate n false)) ≡ map (λ d. min d 255) defs
 first-defs zero [] [] l m = refl
 first-defs zero [] (d ∷ defs) l m = absurd (omega (arith, m))
 first-defs zero (r ∷ reps) defs l m = absurd (omega (arith, l))
 first-defs (suc n) [] defs l m = absurd (omega (arith, l))
 first-defs (suc n) (r ∷ reps) [] l m = absurd (omega (arith, m))
-first-defs (suc n) (r ∷ reps) (d ∷ defs) l m = ap (λ (ds : List ℕ). d ∷ ds) (first-defs n reps defs (omega (arith, l)) (omega (arith, m)))
+first-defs (suc n) (r ∷ reps) (d ∷ defs) l m = ap (λ (ds : List ℕ). min d 255 ∷ ds) (first-defs n reps defs (omega (arith, l)) (omega (arith, m)))
 
-first-bits : (n depth def : ℕ) (reps defs : List ℕ) → length reps ≡ n → length defs ≡ n → reached depth def reps defs ≡ map (marks_part depth def) (marks_of reps defs (replicate n false))
+told-reached : (depth def : ℕ) (reps defs : List ℕ) → depth < 255 → def < 256 → reached depth def (map (λ d. min d 255) reps) (map (λ d. min d 255) defs) ≡ reached depth def reps defs
+told-reached depth def [] defs g h = refl
+told-reached depth def (r ∷ reps) [] g h = refl
+told-reached depth def (r ∷ reps) (d ∷ defs) g h = rw (not-deep r depth g, not-low d def h) (ap (λ (bs : List Bool). (nat_le r depth && nat_le def d) ∷ bs) (told-reached depth def reps defs g h))
+
+pub first-bits : (n depth def : ℕ) (reps defs : List ℕ) → length reps ≡ n → length defs ≡ n → reached depth def reps defs ≡ map (marks_part depth def) (marks_of reps defs (replicate n false))
 first-bits zero depth def [] defs l m = refl
 first-bits zero depth def (r ∷ reps) defs l m = absurd (omega (arith, l))
 first-bits (suc n) depth def [] defs l m = absurd (omega (arith, l))
@@ -150,12 +184,12 @@ first-near (suc n) depth def [] defs = tt
 first-near (suc n) depth def (r ∷ reps) [] = tt
 first-near (suc n) depth def (r ∷ reps) (d ∷ defs) = (λ h q. absurd (true≢false (sym h)), first-near n depth def reps defs)
 
-pub marked-first : (w depth def : ℕ) (reps defs : List ℕ) → length reps ≡ 64 → length defs ≡ 64 → word_bits w 64 ≡ reached depth def reps defs → AreMarked (marks_of reps defs (replicate 64 false)) reps defs w depth def
-marked-first w depth def reps defs l m bits = record {
-  repetitions = first-reps 64 reps defs l m;
-  definitions = first-defs 64 reps defs l m;
-  pushed = bits ∙ first-bits 64 depth def reps defs l m;
-  near = first-near 64 depth def reps defs;
+pub marked-first : (w : ℕ) (reps defs low tall : List ℕ) → length reps ≡ 64 → length defs ≡ 64 → low ≡ map (λ d. min d 255) reps → tall ≡ map (λ d. min d 255) defs → word_bits w 64 ≡ reached 0 0 low tall → AreMarked (marks_of reps defs (replicate 64 false)) low tall w 0 0
+marked-first w reps defs low tall l m e f bits = record {
+  repetitions = first-reps 64 reps defs l m ∙ sym e;
+  definitions = first-defs 64 reps defs l m ∙ sym f;
+  pushed = bits ∙ (ap (λ (rs : List ℕ). reached 0 0 rs tall) e ∙ (ap (reached 0 0 (map (λ d. min d 255) reps)) f ∙ (told-reached 0 0 reps defs (omega arith) (omega arith) ∙ first-bits 64 0 0 reps defs l m)));
+  near = first-near 64 0 0 reps defs;
 }
 
 -- ---- a part that is a list, or has a part beneath it, is not the last one

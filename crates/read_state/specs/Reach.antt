@@ -1,5 +1,5 @@
 -- The pairs of a block that reach a part, and what a list keeps of them.
-use Rattle.std.specs.Prelude.{◌≡◌, ℕ, ◌+◌, Bool, true, cond, ◌&&◌, nat_le, List, [], ◌∷◌, map}
+use Rattle.std.specs.Prelude.{◌≡◌, ℕ, ◌+◌, Bool, true, cond, ◌&&◌, nat_le, min, List, [], ◌∷◌, map}
 use Rattle.columns_core.specs.Bits.{word_bits}
 use Rattle.read_laws.specs.Step.{bit}
 use Rattle.read_laws.specs.Block.{Mark, marks_part}
@@ -24,9 +24,9 @@ abbrev pub AllNear : ℕ → ℕ → List Mark → Type 0
 AllNear depth def [] = Unit {0}
 AllNear depth def (m ∷ ms) = (m.hidden ≡ true → nat_le def m.definition ≡ true → nat_le m.repetition depth ≡ true) × AllNear depth def ms
 
--- marks of 64 pairs of these levels, and a word with a bit for each that pushes to a part
+-- marks of 64 pairs of these levels, of which those above 255 are told as 255, and a word with a bit for each that pushes to a part
 pub record AreMarked (ms : List Mark) (reps defs : List ℕ) (word depth def : ℕ) : Type 0 where
-  pub repetitions : map (λ m. m.repetition) ms ≡ reps
-  pub definitions : map (λ m. m.definition) ms ≡ defs
+  pub repetitions : map (λ m. min m.repetition 255) ms ≡ reps
+  pub definitions : map (λ m. min m.definition 255) ms ≡ defs
   pub pushed : word_bits word 64 ≡ map (marks_part depth def) ms
   pub near : AllNear depth def ms

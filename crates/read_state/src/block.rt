@@ -11,12 +11,13 @@ ghost use Rattle.read_state.specs.Ticks.{TicksAtMost};
 
 use crate::boxes::NestedBox;
 use crate::kinds::Nested;
+use crate::lists::ones_of;
 use crate::parts::{bit, both, first_len, pushes};
 use crate::plain::words_to;
 use crate::pushes::{more, push_length};
 use crate::steps::Steps;
 use crate::stretch::push_to;
-use crate::words::reached_word;
+use crate::words::{levels_from, levels_to, narrowed, reached_word};
 use columns_base::Result;
 use columns_core::MutableBitmap;
 use std::sync::ledger::Ledger;
@@ -254,6 +255,23 @@ fn push_part(
     }
 }
 
+// Pushes 64 pairs to the only part of a state.
+fn push_only(part: &mut NestedBox, reps: &[u32], defs: &[u32]) -> Result<()>
+    requires reps { length reps.now ≡ 64 }
+    requires defs { length defs.now ≡ 64 }
+    ensures ok { OnOk result (kept_box part.new ≡ pushed_all (kept_box part.old) 0 0 0 (marks_of reps.now defs.now (replicate 64 false))) }
+    ensures err { IfErr result (λ e. e ≡ Error.Memory) }
+{
+    match part {
+        NestedBox::Primitive(leaf) => {
+            let pushed = levels_to(reps, 0) & levels_from(defs, 0);
+            leaf.pushes = more(leaf.pushes, ones_of(pushed))?;
+            Ok(())
+        }
+        _ => push_part(part, reps, defs, &[false; 64], 0, 0, 0),
+    }
+}
+
 // Pushes a block of pairs to the parts, which lie beneath `depth` lists and `def` definition levels.
 fn block_to<L: Ledger>(
     parts: &mut [NestedBox],
@@ -342,9 +360,15 @@ pub fn push_all<L: Ledger>(
             steps,
         );
     }
-    if reps.len() == 64 && parts.len() < 0x1000_0000 {
-        let pushed = reached_word(reps, defs, 0, 0);
-        return words_to(parts, reps, defs, pushed, 0, 0, steps);
+    if reps.len() == 64 && parts.len() == 1 {
+        steps.tick();
+        return push_only(&mut parts[0], reps, defs);
+    }
+    if reps.len() == 64 && parts.len() < 64 {
+        let reps = narrowed(reps);
+        let defs = narrowed(defs);
+        let pushed = reached_word(&reps, &defs, 0, 0);
+        return words_to(parts, &reps, &defs, pushed, 0, 0, steps);
     }
     let hidden = [false; 64];
     block_to(parts, reps, defs, &hidden, 0, 0, steps)

@@ -15,7 +15,7 @@ use crate::lists::{ones_of, pick_bits, push_starts};
 use crate::parts::{bit, both, first_len};
 use crate::pushes::more;
 use crate::steps::Steps;
-use crate::words::{levels_from, reached_word};
+use crate::words::{bytes_from, reached_word};
 use columns_base::Result;
 use columns_core::MutableBitmap;
 use std::sync::ledger::Ledger;
@@ -32,20 +32,20 @@ fn push_places(lengths: &mut Vec<i64>, pushed: u64, grown: u64, first: usize) ->
 }
 
 // Pushes to a nullable part beneath `def` definition levels.
-fn push_valid(validity: &mut MutableBitmap, defs: &[u32], pushed: u64, def: usize) -> Result<()>
+fn push_valid(validity: &mut MutableBitmap, defs: &[u8], pushed: u64, def: usize) -> Result<()>
     requires defs { length defs.now ≡ 64 }
-    requires few { def + 2 < 2 ^ 32 }
+    requires few { def + 2 < 2 ^ 8 }
     ensures ok { OnOk result (validity.new.0 ≡ validity.old.0 ++ chosen (word_bits pushed 64) (map (λ d. nat_lt def d) defs.now)) }
     ensures err { IfErr result (λ e. e ≡ Error.Memory) }
 {
-    let there = levels_from(defs, (def + 1) as u32);
+    let there = bytes_from(defs, (def + 1) as u8);
     validity.extend_from_word(pick_bits(pushed, there), ones_of(pushed))
 }
 
 // Pushes to one part, which lies beneath `def` definition levels.
 fn push_part(
     part: &mut NestedBox,
-    defs: &[u32],
+    defs: &[u8],
     pushed: u64,
     grown: u64,
     def: usize,
@@ -53,7 +53,7 @@ fn push_part(
 ) -> Result<()>
     requires defs { length defs.now ≡ 64 }
     requires places { is_list (kept_box part.old) ≡ true → first < 2 ^ 63 }
-    requires few { def + 2 < 2 ^ 32 }
+    requires few { def + 2 < 2 ^ 8 }
     ensures ok { (ms : List Mark) (reps : List ℕ) (depth : ℕ) → AreMarked ms reps defs.now pushed depth def → (is_list (kept_box part.old) ≡ true → AreMarked (map (beneath (kept_box part.old) depth def) ms) reps defs.now grown (depth + 1) (def + gain (kept_box part.old))) → OnOk result (kept_box part.new ≡ pushed_all (kept_box part.old) first depth def ms) }
     ensures err { IfErr result (λ e. e ≡ Error.Memory) }
 {
@@ -78,8 +78,8 @@ fn push_part(
 // A bit for each pair that pushes to the part beneath one that `pushed` has a bit for each pair of. A struct is as long as the part beneath it; beneath
 // the last part that is no list there is none.
 fn beneath_word(
-    reps: &[u32],
-    defs: &[u32],
+    reps: &[u8],
+    defs: &[u8],
     pushed: u64,
     required: bool,
     last: bool,
@@ -88,8 +88,8 @@ fn beneath_word(
 ) -> u64
     requires reps { length reps.now ≡ 64 }
     requires defs { length defs.now ≡ 64 }
-    requires deep { depth < 2 ^ 32 }
-    requires few { def < 2 ^ 32 }
+    requires deep { depth < 255 }
+    requires few { def < 2 ^ 8 }
     ensures { (k : Kept) (ms : List Mark) (outer above : ℕ) → AreMarked ms reps.now defs.now pushed outer above → required ≡ is_struct k → depth ≡ outer + bit (is_list k) → def ≡ above + gain k → (required ≡ false → last ≡ false) → AreMarked (map (beneath k outer above) ms) reps.now defs.now result depth def }
 {
     if required {
@@ -98,7 +98,7 @@ fn beneath_word(
     if last {
         return 0;
     }
-    reached_word(reps, defs, depth as u32, def as u32)
+    reached_word(reps, defs, depth as u8, def as u8)
 }
 
 /// Pushes the pairs to the parts, which lie beneath `depth` lists and `def` definition levels; `pushed` has a bit for each that pushes to the
@@ -109,8 +109,8 @@ fn beneath_word(
 /// `Memory`; some parts may then have the pushes.
 pub fn words_to<L: Ledger>(
     parts: &mut [NestedBox],
-    reps: &[u32],
-    defs: &[u32],
+    reps: &[u8],
+    defs: &[u8],
     pushed: u64,
     depth: usize,
     def: usize,
@@ -118,8 +118,8 @@ pub fn words_to<L: Ledger>(
 ) -> Result<()>
     requires reps { length reps.now ≡ 64 }
     requires defs { length defs.now ≡ 64 }
-    requires few { def + 2 * length parts.old + 2 < 2 ^ 32 }
-    requires deep { depth + length parts.old + 1 < 2 ^ 32 }
+    requires few { def + 2 * length parts.old + 2 < 2 ^ 8 }
+    requires deep { depth + length parts.old + 1 < 2 ^ 8 }
     requires counted { HasLongItems (all_kept parts.old) → ⊥ }
     ensures ok { (ms : List Mark) → (0 < length parts.old → AreMarked ms reps.now defs.now pushed depth def) → OnOk result (all_kept parts.new ≡ block ms depth def (all_kept parts.old)) }
     ensures err { IfErr result (λ e. e ≡ Error.Memory) }

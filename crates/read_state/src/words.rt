@@ -1,5 +1,5 @@
 //! Levels of 64 pairs, compared all at once.
-ghost use Rattle.std.specs.Prelude.{◌≡◌, ◌+◌, ◌<◌, ◌^◌, length, map, nat_eq, nat_le, nat_lt};
+ghost use Rattle.std.specs.Prelude.{◌≡◌, ◌+◌, ◌<◌, ◌^◌, length, map, nat_eq, nat_le, min};
 ghost use Rattle.columns_core.specs.Bits.{word_bits};
 ghost use Rattle.read_state.specs.Reach.{reached};
 
@@ -35,11 +35,39 @@ pub fn levels_at(levels: &[u32], level: u32) -> u64
     lanes.simd_eq(Simd::<u32, 64>::splat(level)).to_bitmask()
 }
 
+/// 64 levels in a byte each, where those above 255 are 255.
+pub fn narrowed(levels: &[u32]) -> [u8; 64]
+    requires { length levels.now ≡ 64 }
+    ensures { result ≡ map (λ d. min d 255) levels.now }
+{
+    let lanes = Simd::<u32, 64>::from_slice(levels);
+    let low = lanes.simd_min(Simd::<u32, 64>::splat(255));
+    low.cast::<u8>().to_array()
+}
+
+// A bit for each of 64 levels in bytes, set where it is at most this one.
+fn bytes_to(levels: &[u8], most: u8) -> u64
+    requires { length levels.now ≡ 64 }
+    ensures { word_bits result 64 ≡ map (λ d. nat_le d most) levels.now }
+{
+    let lanes = Simd::<u8, 64>::from_slice(levels);
+    lanes.simd_le(Simd::<u8, 64>::splat(most)).to_bitmask()
+}
+
+/// A bit for each of 64 levels in bytes, set where it is this one or above it.
+pub fn bytes_from(levels: &[u8], least: u8) -> u64
+    requires { length levels.now ≡ 64 }
+    ensures { word_bits result 64 ≡ map (λ d. nat_le least d) levels.now }
+{
+    let lanes = Simd::<u8, 64>::from_slice(levels);
+    lanes.simd_ge(Simd::<u8, 64>::splat(least)).to_bitmask()
+}
+
 /// A bit for each of 64 pairs, set where it pushes to a part beneath `depth` lists and `def` definition levels. No pair lies beneath a null.
-pub fn reached_word(reps: &[u32], defs: &[u32], depth: u32, def: u32) -> u64
+pub fn reached_word(reps: &[u8], defs: &[u8], depth: u8, def: u8) -> u64
     requires reps { length reps.now ≡ 64 }
     requires defs { length defs.now ≡ 64 }
     ensures { word_bits result 64 ≡ reached depth def reps.now defs.now }
 {
-    levels_to(reps, depth) & levels_from(defs, def)
+    bytes_to(reps, depth) & bytes_from(defs, def)
 }

@@ -14,8 +14,8 @@ returns-then-are_alike-clause-ok g c =
     let same = c.if-are_alike.ensures refl in
     on_ok_weaker c.push_to.result (λ e. stretch-is-block (length c.args.reps.now) _ _ c.args.reps.now c.args.defs.now (all_kept c.args.parts.now) (all_kept c.push_to.new.parts) c.requires.reps same.0 same.1 c.requires.fits e) c.push_to.ensures.ok
 
-pub returns-then-parts-lt268435456-clause-ok : goal.returns-then-parts-lt268435456-clause-ok
-returns-then-parts-lt268435456-clause-ok g c =
+pub returns-then-parts-lt64-clause-ok : goal.returns-then-parts-lt64-clause-ok
+returns-then-parts-lt64-clause-ok g c =
     let reps = c.args.reps.now in
     let defs = c.args.defs.now in
-    c.words_to.ensures.ok (marks_of reps defs (replicate 64 false)) (λ some. marked-first c.reached_word-pushed.result 0 0 reps defs c.if-reps-eq64.true (c.requires.defs ∙ c.if-reps-eq64.true) c.reached_word-pushed.ensures)
+    c.words_to.ensures.ok (marks_of reps defs (replicate 64 false)) (λ some. marked-first c.reached_word-pushed.result reps defs c.narrowed-reps.result c.narrowed-defs.result c.if-reps-eq64-2.true (c.requires.defs ∙ c.if-reps-eq64-2.true) c.narrowed-reps.ensures c.narrowed-defs.ensures c.reached_word-pushed.ensures)

@@ -1,7 +1,9 @@
-use Rattle.std.proofs.Common.{sym, refl}
+use Rattle.std.proofs.Common.{◌++◌, ℕ, Bool, List, map, nat_lt, arith, ap, sym, refl, ◌∙◌}
 use Rattle.std.proofs.lemmas.Result.{on_ok_weaker}
 use Rattle.columns_core.specs.Bits.{word_bits}
 use Rattle.read_state.specs.Kinds.{starts_of}
+use Rattle.read_state.specs.Reach.{chosen}
+use Rattle.read_state.proofs.Marked.{told-levels}
 use Rattle.read_state.proofs.Counting.{leaf-counted, struct-counted}
 use Rattle.read_state.proofs.Listing.{optional-words, valid-words, struct-words}
 use Rattle.read_state.proofs.plain.push_part.Goals as goal
@@ -17,8 +19,9 @@ returns-in_ok-part-in-StructValid-clause-ok c ms reps depth is grows =
 pub returns-in_ok-push_places-in-Optional-clause-ok : goal.returns-in_ok-push_places-in-Optional-clause-ok
 returns-in_ok-push_places-in-Optional-clause-ok c ms reps depth is grows =
     let list = c.in-Optional.list in
+    let told = ap (λ (ds : List ℕ). list.validity.0 ++ chosen (word_bits c.args.pushed 64) (map (λ d. nat_lt c.args.def d) ds)) (sym is.definitions) ∙ ap (λ (bs : List Bool). list.validity.0 ++ chosen (word_bits c.args.pushed 64) bs) (told-levels c.args.def ms (omega (arith, c.requires.few))) in
     let beneath = (rw c.in-Optional.is at grows) refl in
-    rw c.in-Optional.is (on_ok_weaker c.push_valid.result (λ e. optional-words ms c.args.defs.now list.validity.0 c.push_valid.new.validity.0 (starts_of list.lengths.items) (starts_of c.push_places.new.lengths.items) c.args.first depth c.args.def (word_bits c.args.pushed 64) (word_bits c.args.grown 64) is.definitions is.pushed beneath.pushed e c.in_ok-push_places-in-Optional.ensures.ok) c.push_valid.ensures.ok)
+    rw c.in-Optional.is (on_ok_weaker c.push_valid.result (λ e. optional-words ms (map (λ m. m.definition) ms) list.validity.0 c.push_valid.new.validity.0 (starts_of list.lengths.items) (starts_of c.push_places.new.lengths.items) c.args.first depth c.args.def (word_bits c.args.pushed 64) (word_bits c.args.grown 64) refl is.pushed beneath.pushed (e ∙ told) c.in_ok-push_places-in-Optional.ensures.ok) c.push_valid.ensures.ok)
 
 pub returns-in-Valid-clause-ok : goal.returns-in-Valid-clause-ok
 returns-in-Valid-clause-ok c ms reps depth is grows =
@@ -29,4 +32,5 @@ returns-in-Valid-clause-ok c ms reps depth is grows =
 pub returns-in-Struct-clause-ok : goal.returns-in-Struct-clause-ok
 returns-in-Struct-clause-ok c ms reps depth is grows =
     let part = c.in-Struct.part in
-    rw c.in-Struct.is (on_ok_weaker c.push_valid-in-Struct.result (λ e. struct-words ms c.args.defs.now part.validity.0 c.push_valid-in-Struct.new.validity.0 c.args.first depth c.args.def (word_bits c.args.pushed 64) is.definitions is.pushed e) c.push_valid-in-Struct.ensures.ok)
+    let told = ap (λ (ds : List ℕ). part.validity.0 ++ chosen (word_bits c.args.pushed 64) (map (λ d. nat_lt c.args.def d) ds)) (sym is.definitions) ∙ ap (λ (bs : List Bool). part.validity.0 ++ chosen (word_bits c.args.pushed 64) bs) (told-levels c.args.def ms (omega (arith, c.requires.few))) in
+    rw c.in-Struct.is (on_ok_weaker c.push_valid-in-Struct.result (λ e. struct-words ms (map (λ m. m.definition) ms) part.validity.0 c.push_valid-in-Struct.new.validity.0 c.args.first depth c.args.def (word_bits c.args.pushed 64) refl is.pushed (e ∙ told)) c.push_valid-in-Struct.ensures.ok)

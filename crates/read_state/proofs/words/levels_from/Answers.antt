@@ -1,4 +1,4 @@
-use Rattle.std.proofs.Common.{map, nat_le, take, arith, ap, ◌∙◌}
+use Rattle.std.proofs.Common.{w32, map, nat_le, take, arith, ap, ◌∙◌}
 use Rattle.std.proofs.lemmas.List.{take_all, length-take-le}
 use Rattle.read_state.proofs.Compared.{mask-from, mask-zero}
 use Rattle.read_state.proofs.words.levels_from.Goals as goal
@@ -6,7 +6,7 @@ use Rattle.read_state.proofs.words.levels_from.Goals as goal
 pub returns : goal.returns
 returns c =
     let levels = c.args.levels.now in
-    mask-from c.args.least 64 (take 64 levels) (length-take-le 64 levels (omega (arith, c.requires))) (omega arith) ∙ ap (map (λ d. nat_le c.args.least d)) (take_all 64 levels (omega (arith, c.requires)))
+    mask-from w32 c.args.least 64 (take 64 levels) (length-take-le 64 levels (omega (arith, c.requires))) (omega arith) ∙ ap (map (λ d. nat_le c.args.least d)) (take_all 64 levels (omega (arith, c.requires)))
 
 pub returns-then-least-eq0 : goal.returns-then-least-eq0
 returns-then-least-eq0 c = mask-zero c.args.least 64 c.args.levels.now c.if-least-eq0.true c.requires (omega arith)

@@ -1,4 +1,4 @@
-use Rattle.std.proofs.Common.{map, nat_le, take, arith, ap, ◌∙◌}
+use Rattle.std.proofs.Common.{w32, map, nat_le, take, arith, ap, ◌∙◌}
 use Rattle.std.proofs.lemmas.List.{take_all, length-take-le}
 use Rattle.read_state.proofs.Compared.{mask-to}
 use Rattle.read_state.proofs.words.levels_to.Goals as goal
@@ -6,4 +6,4 @@ use Rattle.read_state.proofs.words.levels_to.Goals as goal
 pub returns : goal.returns
 returns c =
     let levels = c.args.levels.now in
-    mask-to c.args.most 64 (take 64 levels) (length-take-le 64 levels (omega (arith, c.requires))) (omega arith) ∙ ap (map (λ d. nat_le d c.args.most)) (take_all 64 levels (omega (arith, c.requires)))
+    mask-to w32 c.args.most 64 (take 64 levels) (length-take-le 64 levels (omega (arith, c.requires))) (omega arith) ∙ ap (map (λ d. nat_le d c.args.most)) (take_all 64 levels (omega (arith, c.requires)))
