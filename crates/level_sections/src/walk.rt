@@ -12,7 +12,7 @@ ghost use Rattle.levels.specs.declared.walk.Level.{Level};
 use crate::block::push_flat;
 use crate::items::{mixed_end, walk_items};
 use crate::lists::walk_lists;
-use levels::{Level, ListNested, Nested, Stretch, max_rep_level, stretch_at};
+use levels::{Level, ListNested, Nested, Stretch, has_lists, stretch_at};
 use pq_runs::RunWriter;
 use std::alloc::AllocError;
 
@@ -57,7 +57,7 @@ fn shape_of(level: Level, parts: &[Nested]) -> Shape<'_>
 fn struct_shape<'a>(rest: &[Nested]) -> Shape<'a>
     ensures { (level : Level) (is_optional : Bool) (mask : Option (List Bool)) (count : ℕ) → IsShape level (struct_part is_optional mask count ∷ parts_of rest.now) result }
 {
-    if max_rep_level(rest) > 0 {
+    if has_lists(rest) {
         return Shape::Stretches;
     }
     Shape::Flat
@@ -67,7 +67,7 @@ fn struct_shape<'a>(rest: &[Nested]) -> Shape<'a>
 fn list_shape<'a>(level: Level, part: &'a Nested, rest: &[Nested]) -> Shape<'a>
     ensures { IsShape level (part_of part.now ∷ parts_of rest.now) result }
 {
-    if max_rep_level(rest) > 0 {
+    if has_lists(rest) {
         return Shape::Stretches;
     }
     match level {
