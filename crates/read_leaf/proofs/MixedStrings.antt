@@ -1,18 +1,16 @@
 -- Plain strings among nulls.
-use Rattle.std.proofs.Common.{◌≡◌, ◌⊎◌, inl, inr, ℕ, zero, suc, ◌+◌, ◌-◌, ◌/◌, ◌%◌, ◌^◌, ◌<◌, ◌≤◌, ◌==◌, Bool, true, false, Some, Result, Ok, Err, IsErrAnd, IfErr, List, [], ◌∷◌, ◌++◌, map, length, replicate, refl, arith, ap, sym, subst, ◌∙◌, append_assoc, append-nil, length-append}
+use Rattle.std.proofs.Common.{◌≡◌, ℕ, zero, suc, ◌-◌, ◌^◌, ◌≤◌, Bool, true, false, Some, List, [], ◌∷◌, ◌++◌, map, length, replicate, refl, arith, ap, sym, subst, ◌∙◌, append_assoc, append-nil, length-append}
 use Rattle.std.proofs.lemmas.List.{map-append, length-map}
 use Rattle.columns_base.specs.declared.error.Error.{Error}
-use Rattle.columns_base.specs.declared.error.Error.TheVariants.{Overflow, Memory}
-use Rattle.columns_base.specs.declared.error.V.TheVariants.{V1}
 use Rattle.columns_core.specs.Bits.{word_bits}
-use Rattle.shredding.specs.Slot.{Value, bytes, Slot, null, value}
-use Rattle.read_walk.specs.Values.{Stored, Decodes, DecodesMixed, ones, spread, CannotDecode, bytes_in, bytes_of}
-use Rattle.read_walk.proofs.Decoding.{slots-append, cannot-behind, cannot-more}
-use Rattle.read_leaf.specs.Strings.{string_at, stored_strings, total_bytes, string_slots, AreStrings, AreAllowed, TookStrings}
+use Rattle.shredding.specs.Slot.{bytes, Slot, null, value}
+use Rattle.read_walk.specs.Values.{Stored, Decodes, DecodesMixed, ones, spread, CannotDecode, bytes_in}
+use Rattle.read_walk.proofs.Decoding.{slots-append}
+use Rattle.read_leaf.specs.Strings.{string_at, stored_strings, string_slots, AreStrings, AreAllowed, TookStrings}
 use Rattle.read_leaf.proofs.Pieces.{total-append}
-use Rattle.read_leaf.proofs.SetBits.{spread-all, ones-append, spread-append, spread-bytes}
+use Rattle.read_leaf.proofs.SetBits.{spread-all, ones-append, spread-append}
 use Rattle.read_leaf.proofs.EqualBits.{ones as word-ones}
-use Rattle.read_leaf.proofs.Standing.{allowed, string-long}
+use Rattle.read_leaf.proofs.Standing.{allowed}
 
 both-slots : (ss ts : List (List ℕ)) (bs cs : List Bool) → length ss ≡ length bs → string_slots (ss ++ ts) (bs ++ cs) ≡ string_slots ss bs ++ string_slots ts cs
 both-slots [] ts [] cs e = refl

@@ -1,5 +1,5 @@
 -- Decoded numbers as slots.
-use Rattle.std.proofs.Common.{◌≡◌, ◌⊎◌, inl, inr, ℕ, zero, suc, ◌+◌, ◌-◌, ◌*◌, ◌/◌, ◌<◌, ◌≤◌, ℤ, Bool, true, false, Option, Some, None, option_map, List, [], ◌∷◌, ◌++◌, map, length, take, drop, replicate, refl, arith, ap, ◌∙◌, append_assoc, length-append}
+use Rattle.std.proofs.Common.{◌≡◌, ◌⊎◌, inl, inr, ℕ, zero, suc, ◌+◌, ◌-◌, ◌*◌, ◌/◌, ◌<◌, ◌≤◌, ℤ, Bool, true, false, Option, Some, None, option_map, List, [], ◌∷◌, ◌++◌, map, length, take, drop, replicate, refl, arith, ap, ap₂, sym, ◌∙◌, append_assoc, length-append}
 use Rattle.std.proofs.Math.Nat.{add-mul-div_left, mul-div-le}
 use Rattle.std.proofs.lemmas.Nat.{mul-le}
 use Rattle.std.proofs.lemmas.List.{map-append, length-map, length-replicate, length-drop, drop-drop}
@@ -76,6 +76,49 @@ module _ (loaded : ℤ → Option ℤ) (spelled : List ℕ → ℤ) (size : ℕ)
   -- the first n stored numbers, and those behind them
   all-split : (n : ℕ) (bytes rest : List ℕ) → 0 < size → n ≤ length bytes / size → rest ≡ drop (size * n) bytes → all_numbers spelled size bytes ≡ plain_numbers spelled size n bytes ++ all_numbers spelled size rest
   all-split n bytes rest some h e = rw e (ap (λ (k : ℕ). plain_numbers spelled size k bytes) (behind n bytes some h) ∙ numbers-split n (length (drop (size * n) bytes) / size) bytes)
+
+  -- numbers behind others
+  split-loaded : (n m : ℕ) (bytes : List ℕ) → map loaded (plain_numbers spelled size (n + m) bytes) ≡ map loaded (plain_numbers spelled size n bytes) ++ map loaded (plain_numbers spelled size m (drop (size * n) bytes))
+  split-loaded n m bytes = ap (map loaded) (numbers-split n m bytes) ∙ map-append loaded (plain_numbers spelled size n bytes) (plain_numbers spelled size m (drop (size * n) bytes))
+
+  pub numbers-then : (n m : ℕ) (bytes mid rest : List ℕ) (old now new : List ℤ) → TookNumbers loaded spelled size n bytes mid old now → TookNumbers loaded spelled size m mid rest now new → TookNumbers loaded spelled size (n + m) bytes rest old new
+  numbers-then n m bytes mid rest old now new a b =
+      let there : map loaded (plain_numbers spelled size m (drop (size * n) bytes)) ≡ map Some b.numbers = rw a.behind at b.are in
+      let place : size * n + size * m ≡ size * (n + m) = omega arith in
+      record {
+        numbers = a.numbers ++ b.numbers;
+        count = omega (arith, length-append a.numbers b.numbers, a.count, b.count);
+        are = split-loaded n m bytes ∙ (ap₂ (λ (x y : List (Option ℤ)). x ++ y) a.are there ∙ sym (map-append Some a.numbers b.numbers));
+        pushed = b.pushed ∙ (ap (λ (t : List ℤ). t ++ b.numbers) a.pushed ∙ append_assoc old a.numbers b.numbers);
+        behind = b.behind ∙ (ap (drop (size * m)) a.behind ∙ (drop-drop (size * m) (size * n) bytes ∙ ap (λ (k : ℕ). drop k bytes) place));
+      }
+
+  outside-more : (n k : ℕ) (bytes : List ℕ) → n ≤ k → OneIsOutside loaded spelled size n bytes → OneIsOutside loaded spelled size k bytes
+  outside-more n k bytes h o =
+      let others = map loaded (plain_numbers spelled size (k - n) (drop (size * n) bytes)) in
+      let whole : k ≡ n + (k - n) = omega (arith, h) in
+      record {
+        numbers = o.numbers;
+        others = o.others ++ others;
+        are = ap (λ (j : ℕ). map loaded (plain_numbers spelled size j bytes)) whole ∙ (split-loaded n (k - n) bytes ∙ (ap (λ (t : List (Option ℤ)). t ++ others) o.are ∙ append_assoc (map Some o.numbers) (None ∷ o.others) others));
+        within = omega (arith, o.within, h);
+      }
+
+  pub outside-then : (n m k : ℕ) (bytes mid : List ℕ) (old now : List ℤ) → n + m ≤ k → TookNumbers loaded spelled size n bytes mid old now → OneIsOutside loaded spelled size m mid → OneIsOutside loaded spelled size k bytes
+  outside-then n m k bytes mid old now h a o =
+      let there : map loaded (plain_numbers spelled size m (drop (size * n) bytes)) ≡ map Some o.numbers ++ (None ∷ o.others) = rw a.behind at o.are in
+      outside-more (n + m) k bytes h (record {
+        numbers = a.numbers ++ o.numbers;
+        others = o.others;
+        are = split-loaded n m bytes ∙ (ap₂ (λ (x y : List (Option ℤ)). x ++ y) a.are there ∙ (sym (append_assoc (map Some a.numbers) (map Some o.numbers) (None ∷ o.others)) ∙ ap (λ (t : List (Option ℤ)). t ++ (None ∷ o.others)) (sym (map-append Some a.numbers o.numbers))));
+        within = omega (arith, length-append a.numbers o.numbers, a.count, o.within);
+      })
+
+  pub block-left : (n m k : ℕ) (bytes mid : List ℕ) → n + m ≤ k → size * k ≤ length bytes → mid ≡ drop (size * n) bytes → size * m ≤ length mid
+  block-left n m k bytes mid h l e =
+      let whole : k ≡ n + m + (k - (n + m)) = omega (arith, h) in
+      let all : size * k ≡ size * n + size * m + size * (k - (n + m)) = ap (λ (j : ℕ). size * j) whole ∙ omega arith in
+      rw e (omega (arith, length-drop (size * n) bytes, all, l))
 
   -- the stored values of numbers that were taken, and those behind them
   pub taken-front : (n : ℕ) (bytes rest : List ℕ) (zs zs' : List ℤ) → 0 < size → n ≤ length bytes / size → (t : TookNumbers loaded spelled size n bytes rest zs zs') → stored_numbers loaded spelled size bytes ≡ map Some (map number t.numbers) ++ stored_numbers loaded spelled size rest

@@ -1,20 +1,19 @@
 -- Strings of a stretch: taken one after another, laid out, and asked whether they are values.
-use Rattle.std.proofs.Common.{◌≡◌, ◌⊎◌, inl, inr, ℕ, zero, suc, ◌+◌, ◌-◌, ◌/◌, ◌%◌, ◌^◌, ◌<◌, ◌≤◌, ◌==◌, Bool, true, false, true≢false, ◌&&◌, Option, Some, None, MatchOption, List, [], ◌∷◌, ◌++◌, map, length, take, drop, replicate, sum, refl, arith, ap, ap₂, sym, subst, ◌∙◌, append_assoc, append-nil, length-append}
+use Rattle.std.proofs.Common.{◌≡◌, ◌⊎◌, inl, inr, ℕ, ◌+◌, ◌-◌, ◌/◌, ◌^◌, ◌<◌, ◌≤◌, ◌==◌, Bool, true, false, true≢false, ◌&&◌, Option, Some, None, MatchOption, List, [], ◌∷◌, ◌++◌, map, length, take, drop, replicate, sum, refl, arith, ap, ap₂, sym, subst, ◌∙◌, append_assoc, append-nil, length-append}
 use borrow.Rule.Slice.PartMut.{put_mid, post_of}
 use Rattle.std.specs.Int.{bit_at}
 use Rattle.std.proofs.Math.Seq.{take-append-add, take-take}
 use Rattle.std.proofs.lemmas.List.{map-append, length-map, length-take-le, length-drop, take-append-le, take_all}
 use Rattle.std.proofs.lemmas.List.Sums.{sum_by-cons}
 use Rattle.columns_base.specs.declared.error.Error.{Error}
-use Rattle.columns_base.specs.declared.error.Error.TheVariants.{OutOfSpec, Overflow, Memory}
-use Rattle.columns_base.specs.declared.error.S.TheVariants.{S6, S7}
-use Rattle.columns_base.specs.declared.error.V.TheVariants.{V1}
+use Rattle.columns_base.specs.declared.error.Error.TheVariants.{OutOfSpec, Memory}
+use Rattle.columns_base.specs.declared.error.S.TheVariants.{S6}
 use Rattle.columns_core.specs.Bits.{word_bits}
 use Rattle.columns_core.specs.Rising.{last_place, places_from}
 use Rattle.columns_slots.specs.Bytes.{pieces}
 use Rattle.shredding.specs.Slot.{Value, bytes, Slot}
-use Rattle.read_walk.specs.Values.{Stored, ones, bytes_in, bytes_of, AreTooFew, AreTooLong, IsOneOutside, CannotDecode}
-use Rattle.read_leaf.specs.Strings.{string_at, all_strings, loaded_string, stored_strings, total_bytes, cut_off, IsLaid, IsNext, StandIn, joined, TookBytes, IsFault, is_each, AreAllowed, TookStrings, CannotTake, CannotLay}
+use Rattle.read_walk.specs.Values.{Stored, ones, bytes_in, AreTooLong, IsOneOutside, CannotDecode}
+use Rattle.read_leaf.specs.Strings.{string_at, all_strings, loaded_string, stored_strings, total_bytes, cut_off, IsLaid, IsNext, StandIn, joined, TookBytes, IsFault, is_each, TookStrings, CannotTake, CannotLay}
 use Rattle.read_leaf.proofs.BitRuns.{bits_split}
 use Rattle.read_leaf.proofs.CutStrings.{grown}
 use Rattle.read_leaf.proofs.Pieces.{total-append}

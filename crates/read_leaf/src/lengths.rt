@@ -43,6 +43,7 @@ pub fn push_lengths<O: Offset>(offsets: &mut Offsets<O>, lengths: &[usize])
     ensures { offsets.new.0 ≡ offsets.old.0 ++ places_from (last_place offsets.old.0) lengths.now }
 {
     for length in lengths {
-        offsets.try_push_usize(*length).unwrap();
+        let length = O::from_usize(*length).unwrap();
+        offsets.push(length).unwrap();
     }
 }

@@ -69,6 +69,9 @@ impl<T: Drop> NumberValues<T> {
     }
 }
 
+// How many places are made at once.
+const BLOCK: usize = 256;
+
 /// Decodes plain numbers of `P` as numbers of `T`.
 #[derive(Drop)]
 pub struct PrimitiveDecoder<T, P> {
@@ -152,7 +155,50 @@ fn push_each<'a, T: FromStored<P>, P: StoredNumber>(
     Ok(rest)
 }
 
-// Appends the next `count` numbers, and gives the bytes behind them. From eight on it costs less to make all places at once.
+// Appends the next `count` numbers, and gives the bytes behind them: makes all places, and writes them.
+fn append_block<'a, T: FromStored<P>, P: StoredNumber>(
+    values: &mut Vec<T>,
+    bytes: &'a [u8],
+    count: usize,
+) -> Result<&'a [u8]>
+    requires enough { P.byte_count * count ≤ list_length bytes.now }
+    ensures ok { IfOk result (λ rest. TookNumbers T.loaded P.spelled P.byte_count count bytes.now rest.now (map T.loaded_number values.old.items) (map T.loaded_number values.new.items)) }
+    ensures kept { list_length values.old.items ≤ list_length values.new.items }
+    ensures err { IfErr result (λ e. (e ≡ Error.Memory) ⊎ ((e ≡ Error.OutOfSpec S.S7) × OneIsOutside T.loaded P.spelled P.byte_count count bytes.now)) }
+{
+    let before = values.len();
+    push_copies(values, T::zero(), count)?;
+    match fill_numbers::<T, P>(&mut values[before..], bytes) {
+        Some(rest) => Ok(rest),
+        None => Err(Error::OutOfSpec(S::S7)),
+    }
+}
+
+// The same block by block, each small enough that it is still at hand when it is written.
+fn append_blocks<'a, T: FromStored<P>, P: StoredNumber>(
+    values: &mut Vec<T>,
+    bytes: &'a [u8],
+    count: usize,
+) -> Result<&'a [u8]>
+    requires enough { P.byte_count * count ≤ list_length bytes.now }
+    ensures ok { IfOk result (λ rest. TookNumbers T.loaded P.spelled P.byte_count count bytes.now rest.now (map T.loaded_number values.old.items) (map T.loaded_number values.new.items)) }
+    ensures kept { list_length values.old.items ≤ list_length values.new.items }
+    ensures err { IfErr result (λ e. (e ≡ Error.Memory) ⊎ ((e ≡ Error.OutOfSpec S.S7) × OneIsOutside T.loaded P.spelled P.byte_count count bytes.now)) }
+{
+    let mut rest = bytes;
+    let mut left = count;
+    while left > 0 {
+        let some = left.min(BLOCK);
+        match append_block::<T, P>(values, rest, some) {
+            Ok(behind) => rest = behind,
+            Err(error) => return Err(error),
+        }
+        left -= some;
+    }
+    Ok(rest)
+}
+
+// Appends the next `count` numbers, and gives the bytes behind them. From eight on it costs less to make their places first.
 fn append_numbers<'a, T: FromStored<P>, P: StoredNumber>(
     values: &mut Vec<T>,
     bytes: &'a [u8],
@@ -167,12 +213,7 @@ fn append_numbers<'a, T: FromStored<P>, P: StoredNumber>(
     if count < 8 {
         return push_each::<T, P>(values, bytes, count);
     }
-    let before = values.len();
-    push_copies(values, T::zero(), count)?;
-    match fill_numbers::<T, P>(&mut values[before..], bytes) {
-        Some(rest) => Ok(rest),
-        None => Err(Error::OutOfSpec(S::S7)),
-    }
+    append_blocks::<T, P>(values, bytes, count)
 }
 
 // Writes the next numbers to the places of which the bits are set, the lowest first, and gives the bytes behind them; none where one of them is

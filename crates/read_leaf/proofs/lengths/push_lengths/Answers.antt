@@ -11,12 +11,13 @@ loop-length-preserved g c =
     let ns = c.args.lengths.now in
     let n = get_or ns i 0 in
     let old = c.loop-length.offsets.0 in
-    let new = c.try_push_usize.new.self.0 in
-    let more : new ≡ old ++ (last_place old + n) ∷ [] = rw c.unwrap.ensures at c.try_push_usize.ensures.ok in
+    let new = c.push.new.self.0 in
+    let is = (rw c.unwrap-length.ensures at c.from_usize.ensures).0 in
+    let more : new ≡ old ++ (last_place old + n) ∷ [] = rw is at (rw c.unwrap.ensures at c.push.ensures.ok) in
     let t = take_more ns i 0 (omega (arith, c.loop-length-test.true, c.loop-length.auto.length-index-end)) in
     record {
       grown = rw t (length_more c.args.offsets.now.0 old new (last_place c.args.offsets.now.0) n (last_place old) (take i ns) v.grown v.end more);
       end = rw t (end_more old new (last_place c.args.offsets.now.0) n (last_place old) (take i ns) v.end more);
       count = omega (arith, ap length more, length-append old ((last_place old + n) ∷ []), v.count);
-      room = omega (arith, v.room, c.try_push_usize.ensures.room);
+      room = omega (arith, v.room, c.push.ensures.room, ap length more, length-append old ((last_place old + n) ∷ []));
     }

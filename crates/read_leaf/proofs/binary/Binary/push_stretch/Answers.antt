@@ -1,7 +1,6 @@
-use Rattle.std.proofs.Common.{◌≡◌, ◌≤◌, ◌-◌, ◌+◌, ◌++◌, ◌∷◌, List, ℕ, Option, MatchOption, true, length, take, drop, sum, refl, arith, ap, ap₂, sym, subst, ◌∙◌}
+use Rattle.std.proofs.Common.{◌≡◌, ◌++◌, List, ℕ, Option, MatchOption, true, length, take, drop, arith, ap, ap₂, sym, subst, ◌∙◌}
 use Rattle.columns_base.specs.declared.error.Error.{Error}
 use Rattle.columns_core.specs.Bits.{word_bits}
-use Rattle.columns_core.specs.Rising.{last_place}
 use Rattle.columns_slots.specs.Bytes.{pieces}
 use Rattle.read_leaf.specs.Strings.{cut_off, is_each, joined, IsFault, TookStrings}
 use Rattle.read_leaf.proofs.Stretches.{appended, whole-rest, front-whole, grown-by, plain-taken, plain-cannot}

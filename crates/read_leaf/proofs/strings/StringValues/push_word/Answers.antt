@@ -1,4 +1,4 @@
-use Rattle.std.proofs.Common.{◌≡◌, ◌++◌, List, Bool, ap, ◌∙◌}
+use Rattle.std.proofs.Common.{◌++◌, List, Bool, ap, ◌∙◌}
 use Rattle.columns_core.specs.Bits.{word_bits}
 use Rattle.read_leaf.proofs.MixedStrings.{both-strings, both-allowed, strings-decoded}
 use Rattle.read_leaf.proofs.strings.StringValues.push_word.Goals as goal
