@@ -14,6 +14,7 @@ pub mod NumberPlaces
 pub mod Picked
 pub mod ServedTypes
 pub mod StringPlaces
+pub mod StringRows
 pub mod TruthPlaces
 pub mod ServedColumns
 pub mod Ordered

@@ -2,16 +2,14 @@
 use Rattle.std.proofs.Common.{◌≡◌, ℕ, zero, suc, ◌+◌, ◌-◌, ◌*◌, ◌<◌, ◌≤◌, ◌^◌, false, List, [], ◌∷◌, ◌++◌, length, take, drop, map, refl, sym, ap, subst, ◌∙◌, arith}
 use Rattle.std.specs.Prelude.{sum_by, slice_index_or}
 use Rattle.std.specs.List.{AllByRecursion as Each}
-use Rattle.std.proofs.lemmas.List.{length-take, length-drop, map-append, length-map, get_or-map}
+use Rattle.std.proofs.lemmas.List.{length-take, length-drop, length-map, get_or-map}
 use Rattle.std.proofs.lemmas.List.Sums.{sum_by-cons}
-use Rattle.shredding.specs.Slot.{Value, truth, bytes}
-use Rattle.columns_core.specs.Rising.{IsRising}
+use Rattle.shredding.specs.Slot.{truth, bytes}
 use Rattle.columns_slots.specs.Bytes.{pieces, pieces_values}
 use Rattle.columns_slots.specs.Slots.{IsPlaces}
 use Rattle.columns_slots.proofs.Sound.{some_place}
 use Rattle.columns_slots.proofs.Strings.{pieces_at, pieces_len}
 use Rattle.columns_leaf.proofs.Texts.{step_of_places}
-use Rattle.levels.proofs.Rising.{rising}
 use Rattle.pq_tree.specs.Physical.{byte_array}
 use Rattle.pq_files.specs.Layout.{plain_length, plain_size}
 use Rattle.pq_files.specs.Room.{max_size}
@@ -20,7 +18,6 @@ use Rattle.write_places.proofs.Gather.{gather-split, gather-more, gather-none}
 use Rattle.write_places.proofs.Picked.{IsNext, each_picked}
 use Rattle.write_values.specs.Numbers.{at_place}
 use Rattle.write_values.specs.Rows.{AppendsRow, row-none}
-use Rattle.write_values.proofs.InRows.{row-more}
 use Rattle.write_values.proofs.Picked.{few_picked}
 
 -- ---- one string
@@ -66,19 +63,6 @@ pub string_none : (os bs : List ℕ) (from : ℕ) (out : List ℕ) → AppendsRo
 string_none os bs from out =
     let e : range from (from - from) ≡ [] = gather-none (λ j. j ∷ []) from (from - from) (omega arith) in
     subst (λ (ns : List ℕ). AppendsRow byte_array out out (map (at_place (pieces_values os bs)) ns)) (sym e) (row-none byte_array out)
-
-pub string_more : (os bs : List ℕ) (from i : ℕ) (a b c : List ℕ) (v : Value) → from ≤ i → AppendsRow byte_array a b (map (at_place (pieces_values os bs)) (range from (i - from))) → AppendsRow byte_array b c (v ∷ []) → v ≡ at_place (pieces_values os bs) i → AppendsRow byte_array a c (map (at_place (pieces_values os bs)) (range from (i + 1 - from)))
-string_more os bs from i a b c v low h g e =
-    let split = range_more from i low in
-    subst (λ (vs : List Value). AppendsRow byte_array a c vs) (ap (λ (w : Value). map (at_place (pieces_values os bs)) (range from (i - from)) ++ (w ∷ [])) e ∙ (sym (map-append (at_place (pieces_values os bs)) (range from (i - from)) (i ∷ [])) ∙ ap (map (at_place (pieces_values os bs))) (sym split))) (row-more byte_array a b c _ (v ∷ []) h g)
-
--- a string of a stretch that fits into a page is short
-pub string_short : (os bs : List ℕ) (from to i size : ℕ) → IsPlaces os (length bs) → IsRising os → from ≤ i → i < to → to < length os → plain_length byte_array (map (at_place (pieces_values os bs)) (range from (to - from))) ≤ max_size → size ≡ slice_index_or os (i + 1) 0 - slice_index_or os i 0 → size < 2 ^ 32
-string_short os bs from to i size p r low high within h e =
-    let all = strings_size os bs from to p (omega (arith, low, high)) within in
-    let a = rising os from i r low (omega (arith, high, within)) in
-    let b = rising os (i + 1) to r (omega (arith, high)) within in
-    omega (arith, e, a, b, all.1, h)
 
 -- ---- as they are stored
 

@@ -219,7 +219,7 @@ fn push_each<T: AlwaysStored<P>, P: StoredNumber>(out: &mut Vec<u8>, values: &[T
 }
 
 // Where a block of at most 64 places ends.
-fn block_end(at: usize, len: usize) -> usize
+pub fn block_end(at: usize, len: usize) -> usize
     requires { at < len }
     ensures past { at < result }
     ensures within { result ≤ len }

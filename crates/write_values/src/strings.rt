@@ -1,5 +1,5 @@
 //! Byte strings, texts among them.
-ghost use Rattle.std.specs.Prelude.{◌≡◌, ◌+◌, ◌-◌, ◌*◌, ◌^◌, ◌<◌, ◌≤◌, map, length, sum_by, slice_index_or, [], ◌∷◌, OnOk, IfErr};
+ghost use Rattle.std.specs.Prelude.{◌≡◌, ◌+◌, ◌-◌, ◌*◌, ◌^◌, ◌<◌, ◌≤◌, ◌++◌, map, length, take, drop, sum_by, slice_index_or, vec_len, [], ◌∷◌, IfSome, OnOk, IfErr};
 ghost use Rattle.columns_base.specs.declared.error.Error.TheVariants.{Memory};
 ghost use Rattle.shredding.specs.Slot.{bytes};
 ghost use Rattle.columns_slots.specs.Slots.{IsPlaces};
@@ -11,10 +11,12 @@ ghost use Rattle.write_places.specs.Places.{range, picked};
 ghost use Rattle.write_values.specs.Numbers.{at_place};
 ghost use Rattle.write_values.specs.Rows.{AppendsRow};
 
+use crate::numbers::block_end;
 use crate::row::LeafValues;
 use columns_core::{Offset, OffsetsBuffer, Result};
 use columns_leaf::{BinaryArray, Utf8Array};
 use pq_numbers::push_u32_le;
+use write_places::full_word;
 
 // Appends a string behind its length.
 fn push_string(out: &mut Vec<u8>, text: &[u8]) -> Result<()>
@@ -54,28 +56,6 @@ fn strings_size<O: Offset>(offsets: &OffsetsBuffer<O>, all: &[u8], from: usize, 
     (to - from) as u128 * 4 + span as u128
 }
 
-// Appends strings, each behind its length.
-fn push_strings<O: Offset>(
-    offsets: &OffsetsBuffer<O>,
-    all: &[u8],
-    out: &mut Vec<u8>,
-    from: usize,
-    to: usize,
-) -> Result<()>
-    requires places { IsPlaces offsets.now (length all.now) }
-    requires ordered { from ≤ to }
-    requires within { to < length offsets.now }
-    requires small { plain_length byte_array (map (at_place (pieces_values offsets.now all.now)) (range from (to - from))) ≤ max_size }
-    ensures ok { OnOk result (AppendsRow byte_array out.old.items out.new.items (map (at_place (pieces_values offsets.now all.now)) (range from (to - from)))) }
-    ensures err { IfErr result (λ e. e ≡ Memory) }
-{
-    offsets.know();
-    for i in from..to {
-        push_string(out, string_at(offsets, all, i))?;
-    }
-    Ok(())
-}
-
 // The number of bytes of the plain spelling of the strings at picked places, run by run.
 fn picked_size<O: Offset>(
     offsets: &OffsetsBuffer<O>,
@@ -108,8 +88,85 @@ fn picked_size<O: Offset>(
     plain
 }
 
-// Appends the strings at picked places, each behind its length.
-fn push_picked<O: Offset>(
+// Bytes take their place from one place on, and those before it stay.
+#[inline(always)]
+fn put_bytes(places: &mut [u8], at: usize, text: &[u8])
+    requires { at + length text.now ≤ length places.old }
+    ensures len { length places.new ≡ length places.old }
+    ensures front { take (at + length text.now) places.new ≡ take at places.old ++ text.now }
+{
+    places[at..at + text.len()].copy_from_slice(text);
+}
+
+// A piece of some bytes takes its place from one place on, and what stands before it stays. A short piece is copied with the bytes behind it,
+// for which there is room.
+#[inline(always)]
+fn put_piece(places: &mut [u8], at: usize, all: &[u8], from: usize, to: usize)
+    requires ordered { from ≤ to }
+    requires within { to ≤ length all.now }
+    requires room { at + (to - from) + 32 ≤ length places.old }
+    ensures len { length places.new ≡ length places.old }
+    ensures front { take (at + (to - from)) places.new ≡ take at places.old ++ take (to - from) (drop from all.now) }
+{
+    match all[from..].first_chunk::<32>() {
+        Some(chunk) if to - from <= 32 => {
+            let chunk = *chunk;
+            put_bytes(places, at, &chunk);
+        }
+        _ => put_bytes(places, at, &all[from..to]),
+    }
+}
+
+// A string takes its place behind its length, and what stands before it stays. Answers the place behind it.
+#[inline(always)]
+fn put_string(places: &mut [u8], at: usize, all: &[u8], from: usize, to: usize) -> usize
+    requires ordered { from ≤ to }
+    requires within { to ≤ length all.now }
+    requires short { to - from < 2 ^ 32 }
+    requires room { at + 4 + (to - from) + 32 ≤ length places.old }
+    ensures at { result ≡ at + 4 + (to - from) }
+    ensures len { length places.new ≡ length places.old }
+    ensures is { AppendsRow byte_array (take at places.old) (take result places.new) (bytes (take (to - from) (drop from all.now)) ∷ []) }
+{
+    let size = to - from;
+    put_bytes(places, at, &(size as u32).to_le_bytes());
+    put_piece(places, at + 4, all, from, to);
+    at + 4 + size
+}
+
+// The strings at picked places stand one behind the other from the front on, each behind its length, in so many bytes.
+fn put_picked<O: Offset>(
+    offsets: &OffsetsBuffer<O>,
+    all: &[u8],
+    places: &mut [u8],
+    from: usize,
+    bits: u64,
+    count: usize,
+) -> usize
+    requires places { IsPlaces offsets.now (length all.now) }
+    requires few { count ≤ 64 }
+    requires low { bits < 2 ^ count }
+    requires within { from + count < length offsets.now }
+    requires small { plain_length byte_array (map (at_place (pieces_values offsets.now all.now)) (picked bits from count)) ≤ max_size }
+    requires room { plain_length byte_array (map (at_place (pieces_values offsets.now all.now)) (picked bits from count)) + 32 ≤ length places.old }
+    ensures len { length places.new ≡ length places.old }
+    ensures within { result ≤ length places.new }
+    ensures are { AppendsRow byte_array [] (take result places.new) (map (at_place (pieces_values offsets.now all.now)) (picked bits from count)) }
+{
+    let _strings = offsets.len_proxy();
+    let mut left = bits;
+    let mut at = 0;
+    while left != 0 {
+        let i = left.trailing_zeros() as usize;
+        let start = offsets.place(from + i);
+        at = put_string(places, at, all, start, offsets.place(from + i + 1));
+        left ^= 1 << i;
+    }
+    at
+}
+
+// Appends the strings at picked places, each behind its length, each by itself.
+fn push_each<O: Offset>(
     offsets: &OffsetsBuffer<O>,
     all: &[u8],
     out: &mut Vec<u8>,
@@ -131,6 +188,99 @@ fn push_picked<O: Offset>(
         let i = left.trailing_zeros() as usize;
         push_string(out, string_at(offsets, all, from + i))?;
         left ^= 1 << i;
+    }
+    Ok(())
+}
+
+// The room that strings which span so many bytes want, each behind its length, with that of one copy more. None where they are few or long, so that
+// each is appended by itself.
+fn short_room(few: usize, span: usize) -> Option<usize>
+    requires { few ≤ 64 }
+    ensures { IfSome result (λ room. room ≡ 4 * few + span + 32) }
+{
+    if few < 3 || span > 32 * few {
+        None
+    } else {
+        Some(4 * few + span + 32)
+    }
+}
+
+// Appends the strings at picked places, each behind its length, in so many bytes that are cleared before.
+fn push_short<O: Offset>(
+    offsets: &OffsetsBuffer<O>,
+    all: &[u8],
+    out: &mut Vec<u8>,
+    room: usize,
+    from: usize,
+    bits: u64,
+    count: usize,
+) -> Result<()>
+    requires places { IsPlaces offsets.now (length all.now) }
+    requires few { count ≤ 64 }
+    requires low { bits < 2 ^ count }
+    requires within { from + count < length offsets.now }
+    requires small { plain_length byte_array (map (at_place (pieces_values offsets.now all.now)) (picked bits from count)) ≤ max_size }
+    requires room { plain_length byte_array (map (at_place (pieces_values offsets.now all.now)) (picked bits from count)) + 32 ≤ room }
+    requires fits { vec_len out.old + room < 2 ^ 64 }
+    ensures ok { OnOk result (AppendsRow byte_array out.old.items out.new.items (map (at_place (pieces_values offsets.now all.now)) (picked bits from count))) }
+    ensures err { IfErr result (λ e. e ≡ Memory) }
+{
+    let before = out.len();
+    out.resize(before + room, 0)?;
+    let size = put_picked(offsets, all, &mut out[before..], from, bits, count);
+    out.truncate(before + size);
+    Ok(())
+}
+
+// Appends the strings at picked places, each behind its length: at once where they are short and their room is there.
+fn push_picked<O: Offset>(
+    offsets: &OffsetsBuffer<O>,
+    all: &[u8],
+    out: &mut Vec<u8>,
+    from: usize,
+    bits: u64,
+    count: usize,
+) -> Result<()>
+    requires places { IsPlaces offsets.now (length all.now) }
+    requires few { count ≤ 64 }
+    requires low { bits < 2 ^ count }
+    requires within { from + count < length offsets.now }
+    requires small { plain_length byte_array (map (at_place (pieces_values offsets.now all.now)) (picked bits from count)) ≤ max_size }
+    ensures ok { OnOk result (AppendsRow byte_array out.old.items out.new.items (map (at_place (pieces_values offsets.now all.now)) (picked bits from count))) }
+    ensures err { IfErr result (λ e. e ≡ Memory) }
+{
+    let _strings = offsets.len_proxy();
+    let start = offsets.place(from);
+    let end = offsets.place(from + count);
+    match short_room(bits.count_ones() as usize, end - start) {
+        Some(room) if room <= out.capacity() - out.len() => push_short(
+            offsets, all, out, room, from, bits, count,
+        ),
+        _ => push_each(offsets, all, out, from, bits, count),
+    }
+}
+
+// Appends strings, each behind its length, in blocks.
+fn push_strings<O: Offset>(
+    offsets: &OffsetsBuffer<O>,
+    all: &[u8],
+    out: &mut Vec<u8>,
+    from: usize,
+    to: usize,
+) -> Result<()>
+    requires places { IsPlaces offsets.now (length all.now) }
+    requires ordered { from ≤ to }
+    requires within { to < length offsets.now }
+    requires small { plain_length byte_array (map (at_place (pieces_values offsets.now all.now)) (range from (to - from))) ≤ max_size }
+    ensures ok { OnOk result (AppendsRow byte_array out.old.items out.new.items (map (at_place (pieces_values offsets.now all.now)) (range from (to - from)))) }
+    ensures err { IfErr result (λ e. e ≡ Memory) }
+{
+    offsets.know();
+    let mut at = from;
+    while at < to {
+        let end = block_end(at, to);
+        push_picked(offsets, all, out, at, full_word(end - at), end - at)?;
+        at = end;
     }
     Ok(())
 }

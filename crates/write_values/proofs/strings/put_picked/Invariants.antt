@@ -1,4 +1,4 @@
-use Rattle.std.proofs.Common.{◌≤◌, ◌<◌, ◌^◌, length, map}
+use Rattle.std.proofs.Common.{◌≡◌, ◌≤◌, ◌<◌, ◌+◌, ◌^◌, [], length, map, take}
 use Rattle.columns_slots.specs.Bytes.{pieces_values}
 use Rattle.pq_tree.specs.Physical.{byte_array}
 use Rattle.pq_files.specs.Layout.{plain_length}
@@ -6,7 +6,7 @@ use Rattle.pq_files.specs.Room.{max_size}
 use Rattle.write_places.specs.Places.{picked}
 use Rattle.write_values.specs.Numbers.{at_place}
 use Rattle.write_values.proofs.Picked.{IsPartly}
-use Rattle.write_values.proofs.strings.push_picked.Given as goal
+use Rattle.write_values.proofs.strings.put_picked.Given as goal
 
 abbrev pub decreases-loop-left : goal.decreases-loop-left
 decreases-loop-left g l = length (picked l.left l.from l.count)
@@ -15,5 +15,7 @@ abbrev pub invariant-loop-left : goal.invariant-loop-left
 invariant-loop-left g l = record {
   low : l.left < 2 ^ l.count;
   small : plain_length byte_array (map (at_place (pieces_values l.offsets l.all)) (picked l.left l.from l.count)) ≤ max_size;
-  row : IsPartly byte_array l.fn.out.items l.out.items (map (at_place (pieces_values l.offsets l.all)) (picked l.bits l.from l.count)) (map (at_place (pieces_values l.offsets l.all)) (picked l.left l.from l.count));
+  room : l.at + plain_length byte_array (map (at_place (pieces_values l.offsets l.all)) (picked l.left l.from l.count)) + 32 ≤ length l.places;
+  len : length l.places ≡ length l.fn.places;
+  row : IsPartly byte_array [] (take l.at l.places) (map (at_place (pieces_values l.offsets l.all)) (picked l.bits l.from l.count)) (map (at_place (pieces_values l.offsets l.all)) (picked l.left l.from l.count));
 }
