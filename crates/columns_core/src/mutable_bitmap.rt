@@ -1,5 +1,5 @@
 //! Truth values that grow.
-ghost use Rattle.std.specs.Prelude.{◌≡◌, ◌+◌, ◌-◌, ◌*◌, ◌/◌, ◌%◌, ◌<◌, ◌≤◌, ◌^◌, ◌==◌, ◌≢◌, ℕ, [], ◌∷◌, ◌++◌, IfOk, IfErr, IsOk, replicate, slice_index_or, vec_len, vec_capacity, length as list_length};
+ghost use Rattle.std.specs.Prelude.{◌≡◌, ◌+◌, ◌-◌, ◌*◌, ◌/◌, ◌%◌, ◌<◌, ◌≤◌, ◌^◌, ◌==◌, ◌≢◌, ℕ, [], ◌∷◌, ◌++◌, IfOk, IfErr, IsOk, replicate, slice_index_or, vec_len, vec_capacity, length as list_length, IsTrue};
 ghost use Rattle.columns_core.specs.Bits.{bits_from, bit_of, word_bits};
 ghost use Rattle.std.specs.Int.{bit_at};
 
@@ -159,6 +159,11 @@ impl MutableBitmap {
         ensures reserved { length ≤ self.old.1 → IsOk result }
         ensures room { list_length self.old.0 + self.old.1 ≤ list_length self.new.0 + self.new.1 }
     {
+        if has_wide_room(&self.bytes, self.size) {
+            put_wide(&mut self.bytes, self.size, word, length);
+            self.size += length;
+            return Ok(());
+        }
         self.reserve(length)?;
         put_word(&mut self.bytes, self.size, word, length);
         self.size += length;
@@ -353,6 +358,35 @@ fn put_word(bytes: &mut Vec<u8>, size: usize, word: u64, length: usize)
     bytes
         .extend_from_slice(&joined[..bytes_for(open + length)])
         .unwrap();
+}
+
+// Whether there is room for sixteen bytes behind the full ones, and 64 bits more are counted.
+fn has_wide_room(bytes: &Vec<u8>, size: usize) -> bool
+    requires { size ≤ 8 * vec_len bytes.now }
+    ensures room { IsTrue result → size / 8 + 16 ≤ vec_capacity bytes.now }
+    ensures counted { IsTrue result → size + 64 < 2 ^ 64 }
+{
+    size < 0xffff_ffff_ffff_ff00 && bytes.capacity() - size / 8 >= 16
+}
+
+// As `put_word`, where there is so much room: sixteen bytes are written, and cut again.
+fn put_wide(bytes: &mut Vec<u8>, size: usize, word: u64, length: usize)
+    requires short { length ≤ 64 }
+    requires below { size ≤ 8 * vec_len bytes.old }
+    requires above { 8 * vec_len bytes.old < size + 8 }
+    requires room { size / 8 + 16 ≤ vec_capacity bytes.old }
+    ensures bits { bits_from bytes.new.items 0 (size + length) ≡ bits_from bytes.old.items 0 size ++ word_bits word length }
+    ensures below { size + length ≤ 8 * vec_len bytes.new }
+    ensures above { 8 * vec_len bytes.new < size + length + 8 }
+    ensures capacity { vec_capacity bytes.old ≤ vec_capacity bytes.new }
+{
+    let full = size / 8;
+    let open = size % 8;
+    let low = open_bits(bytes, size);
+    let joined = word_behind(word, low, open).to_le_bytes();
+    bytes.truncate(full);
+    bytes.extend_from_slice(&joined).unwrap();
+    bytes.truncate(full + bytes_for(open + length));
 }
 
 // A byte more where the last one is full.
