@@ -169,11 +169,7 @@ fn cut<'a>(page: &DataPageRef<'a>) -> Result<(&'a [u8], &'a [u8], &'a [u8])>
 ///
 /// N4 for another encoding than PLAIN, where values stand in bytes of their own those of a dictionary, and that of the deltas, or levels that are
 /// no runs; S4 where a section of levels lies outside of the body.
-pub fn open_page<'a>(
-    page: &DataPageRef<'a>,
-    own: bool,
-    deltas: Deltas,
-) -> Result<OpenPage<'a>>
+pub fn open_page<'a>(page: &DataPageRef<'a>, own: bool, deltas: Deltas) -> Result<OpenPage<'a>>
     ensures ok { IfOk result (IsOpenPage own deltas (raw_page page.now) (levels_in page.now.descriptor)) }
     ensures err { IfErr result (CannotOpen own deltas (raw_page page.now) (levels_in page.now.descriptor)) }
 {
@@ -277,11 +273,7 @@ pub struct PagePairs<'a> {
 /// # Errors
 ///
 /// Those of `open_page`.
-pub fn open_pairs<'a>(
-    page: &DataPageRef<'a>,
-    own: bool,
-    deltas: Deltas,
-) -> Result<PagePairs<'a>>
+pub fn open_pairs<'a>(page: &DataPageRef<'a>, own: bool, deltas: Deltas) -> Result<PagePairs<'a>>
     ensures ok { IfOk result (λ x. IsOpenPage own deltas (raw_page page.now) (levels_in page.now.descriptor) x.open × ArePairsIn x.open x.pairs × (x.goes_on ≡ first_goes_on x.pairs)) }
     ensures err { IfErr result (CannotOpen own deltas (raw_page page.now) (levels_in page.now.descriptor)) }
 {
