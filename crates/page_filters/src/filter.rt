@@ -20,3 +20,17 @@ pub trait PageFilter: Drop {
     fn keeps(&self, column: &Descriptor, header: &DataPageHeader) -> bool
         ensures { result ≡ keeps self.now (column_view column.now) (header_view header.now) };
 }
+
+/// Keeps all pages: the filter that a caller names where it hands on none (`None::<AllPages>`).
+#[derive(Clone, Copy, Debug, Drop)]
+pub struct AllPages;
+
+impl PageFilter for AllPages {
+    ghost use Rattle.std.specs.Prelude.{true};
+
+    ghost keeps = { λ _ _ _. true };
+
+    fn keeps(&self, _column: &Descriptor, _header: &DataPageHeader) -> bool {
+        true
+    }
+}

@@ -6,5 +6,5 @@ mod filter;
 mod pages;
 
 pub use chunk::{PageReader, get_page_iterator};
-pub use filter::PageFilter;
+pub use filter::{AllPages, PageFilter};
 pub use pages::FilteredPages;

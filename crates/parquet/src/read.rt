@@ -4,7 +4,7 @@ pub mod dictionaries;
 
 pub use assembly::{ArrayIter, column_iter_to_arrays};
 pub use leaf_iters::{binary, boolean, dict_indices_decoder, null, primitive, simple};
-pub use page_filters::{FilteredPages, PageFilter, PageReader, get_page_iterator};
+pub use page_filters::{AllPages, FilteredPages, PageFilter, PageReader, get_page_iterator};
 pub use page_validity::{
     FilteredOptionalPageValidity, OptionalPageValidity, PageValidity, Zip, get_selected_rows,
     not_implemented,
