@@ -1,6 +1,7 @@
 //! Measures how fast the level pairs of a list of optional numbers are walked: levels are decoded from their sections, and values from theirs. The first word
 //! is the number of pages (one without it), the second the shape (all without it): `nulls`, `ones`, `fours`, `twos` or `random`. A page has about 65,536
-//! pairs, and each has a fresh state. With `packed` or `copies` as the second word a million numbers in such runs are decoded alone, as often as the first says.
+//! pairs, and each has a fresh state. With `packed` or `copies` as the second word a million numbers in such runs are decoded alone, one by one
+//! and as a whole list, as often as the first says.
 //! Counts go to standard output, and times, which differ from run to run, to standard error.
 #![tactic(auto)]
 

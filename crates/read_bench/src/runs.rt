@@ -1,6 +1,6 @@
 //! Runs of numbers of three bits, decoded alone.
 use anyhow::Result;
-use pq_runs::HybridRleDecoder;
+use pq_runs::{HybridRleDecoder, decode};
 use std::alloc::Global;
 use std::time::Instant;
 
@@ -36,8 +36,8 @@ fn copies(alloc: Global) -> Result<Vec<u8>> {
     Ok(bytes)
 }
 
-// The sum of all numbers.
-fn decode(bytes: &[u8]) -> Result<u32> {
+// The sum of all numbers, which come one by one.
+fn sum_of(bytes: &[u8]) -> Result<u32> {
     let mut sum: u32 = 0;
     for number in HybridRleDecoder::try_new(bytes, 3, COUNT)? {
         sum = sum.wrapping_add(number?);
@@ -45,23 +45,34 @@ fn decode(bytes: &[u8]) -> Result<u32> {
     Ok(sum)
 }
 
-/// Decodes the runs so many times.
+// Tells how long a number took.
+fn tell(rt: &HostRuntime, name: &str, nanoseconds: u128, times: usize) -> Result<()> {
+    let count = (COUNT as u128).saturating_mul(times as u128).max(1);
+    eprintln!(rt;
+        "{name}: {} hundredths of a nanosecond a number",
+        nanoseconds.saturating_mul(100) / count
+    )?;
+    Ok(())
+}
+
+/// Decodes the runs so many times one by one, and as often as a whole list.
 pub fn measure(rt: &HostRuntime, runs: Runs, times: usize) -> Result<()> {
-    let (name, bytes) = match runs {
-        Runs::Packed => ("packed numbers", packed(rt.alloc())?),
-        Runs::Copies => ("copies", copies(rt.alloc())?),
+    let (name, whole, bytes) = match runs {
+        Runs::Packed => ("packed numbers", "a list of them", packed(rt.alloc())?),
+        Runs::Copies => ("copies", "a list of them", copies(rt.alloc())?),
     };
     let start = Instant::now(rt)?;
     let mut sum: u32 = 0;
     for _ in 0..times {
-        sum = sum.wrapping_add(decode(&bytes)?);
+        sum = sum.wrapping_add(sum_of(&bytes)?);
     }
-    let time = start.elapsed(rt)?.as_nanos();
-    let count = (COUNT as u128).saturating_mul(times as u128).max(1);
-    println!(rt; "{name}: sum {sum}")?;
-    eprintln!(rt;
-        "{name}: {} hundredths of a nanosecond a number",
-        time.saturating_mul(100) / count
-    )?;
+    tell(rt, name, start.elapsed(rt)?.as_nanos(), times)?;
+    let start = Instant::now(rt)?;
+    let mut count: usize = 0;
+    for _ in 0..times {
+        count = count.saturating_add(decode(rt.alloc(), &bytes, 3, COUNT)?.len());
+    }
+    tell(rt, whole, start.elapsed(rt)?.as_nanos(), times)?;
+    println!(rt; "{name}: sum {sum}, {count} in lists")?;
     Ok(())
 }
