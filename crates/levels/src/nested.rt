@@ -96,7 +96,7 @@ pub fn max_rep_level(nested: &[Nested]) -> usize
     lists
 }
 
-/// Whether a path has lists. No part is looked at behind its first list.
+/// Whether a path may have lists: `false` only where it has none. No part is looked at behind its first list.
 #[tactic(auto, using(crate::proofs::Maxima::repetition_step))]
 pub fn has_lists(nested: &[Nested]) -> bool
     ensures { result ≡ false → max_repetition (path_way (parts_of nested.now)) ≡ 0 }
