@@ -1,5 +1,5 @@
 //! A sink in memory that keeps large pieces as they are.
-ghost use Rattle.std.specs.Prelude.{◌≡◌, ◌≤◌, ◌⊎◌, Some, [], IfErr, IfOk, IsErrOf, OnOk, length};
+ghost use Rattle.std.specs.Prelude.{◌≡◌, ◌≤◌, ◌⊎◌, Some, [], IfErr, IfOk, IsErrOf, OnErr, OnOk, length};
 ghost use Rattle.std.specs.Io.KnownBytes.{Appends, WriteAppends};
 ghost use Rattle.columns_base.specs.declared.error.Error.{Error};
 ghost use Rattle.pq_io.specs.Causes.{Rose, raised};
@@ -91,7 +91,7 @@ impl Sink for PieceSink {
 
     ghost wants = { λ s. s.wants };
 
-    /// Takes the whole piece. Only `Memory` may come in its place.
+    /// Takes the whole piece. Only `Memory` may come in its place. Each want of memory counts one, and nothing else does.
     fn push(&mut self, piece: &[u8]) -> Result<usize, SinkFault>
         ensures bound { TakesSome result piece.now }
         ensures bytes { WriteAppends (Some (pieces_taken self.old)) (Some (pieces_taken self.new)) result piece.now }
@@ -100,6 +100,8 @@ impl Sink for PieceSink {
         ensures wants_later { self.old.wants ≤ self.new.wants }
         ensures wants_cause { IsErrOf result SinkFault.Memory → Rose self.old.wants self.new.wants }
         ensures takes { IfOk result (λ n. n ≡ length piece.now) }
+        ensures uncounted { OnOk result (self.new.wants ≡ self.old.wants) }
+        ensures counted { OnErr result (self.new.wants ≡ raised self.old.wants) }
     {
         match self.tail.extend_from_slice(piece) {
             Ok(()) => Ok(piece.len()),
@@ -110,7 +112,7 @@ impl Sink for PieceSink {
         }
     }
 
-    /// Keeps a large vector as it is. Only `Memory` may come in its place, and then it has taken nothing.
+    /// Keeps a large vector as it is. Only `Memory` may come in its place, and then it has taken nothing. Each want of memory counts one, and nothing else does.
     fn push_owned(&mut self, bytes: Vec<u8>) -> Result<(), SinkFault>
         ensures all { OnOk result (Appends (Some (pieces_taken self.old)) (Some (pieces_taken self.new)) bytes.items) }
         ensures front { AppendsFront (Some (pieces_taken self.old)) (Some (pieces_taken self.new)) bytes.items }
@@ -118,6 +120,8 @@ impl Sink for PieceSink {
         ensures cause { IsErrOf result SinkFault.Failed → Rose 0 0 }
         ensures wants_later { self.old.wants ≤ self.new.wants }
         ensures wants_cause { IsErrOf result SinkFault.Memory → Rose self.old.wants self.new.wants }
+        ensures uncounted { OnOk result (self.new.wants ≡ self.old.wants) }
+        ensures counted { OnErr result (self.new.wants ≡ raised self.old.wants) }
     {
         if bytes.len() < WHOLE {
             return self.push(&bytes).map(drop);

@@ -1,5 +1,5 @@
 //! Reads a source to its end.
-ghost use Rattle.std.specs.Prelude.{◌≡◌, ◌≤◌, ◌⊎◌, IfOk, IfErr, IsErrOf};
+ghost use Rattle.std.specs.Prelude.{◌≡◌, ◌≤◌, ◌++◌, ◌⊎◌, IfOk, IfErr, OnOk, IsErrOf};
 ghost use Rattle.columns_base.specs.declared.error.Error.{Error};
 ghost use Rattle.columns_base.specs.declared.error.Limit.{Limit};
 ghost use Rattle.pq_io.specs.Causes.{Rose};
@@ -11,6 +11,24 @@ use std::alloc::Global;
 
 /// The length in bytes of the buffer between a source and the vector.
 const BUFFER_LENGTH: usize = 65_536;
+
+/// The most bytes that are copied by one call: the C library copies longer stretches by one instruction that repeats (`rep movsb`).
+const PIECE_LENGTH: usize = 1024;
+
+// Appends bytes, some at a time.
+fn append_pieces(bytes: &mut Vec<u8>, more: &[u8]) -> Result<()>
+    ensures ok { OnOk result (bytes.new.items ≡ bytes.old.items ++ more.now) }
+    ensures err { IfErr result (λ e. e ≡ Error.Memory) }
+{
+    let mut rest = more;
+    while rest.len() > PIECE_LENGTH {
+        let (piece, behind) = rest.split_at(PIECE_LENGTH);
+        bytes.extend_from_slice(piece)?;
+        rest = behind;
+    }
+    bytes.extend_from_slice(rest)?;
+    Ok(())
+}
 
 /// Reads all the bytes that are left, or one more than the limit. The vector grows by what came, never by the limit.
 ///
@@ -32,7 +50,7 @@ pub fn read_all<S: Source>(alloc: Global, source: &mut S, byte_limit: usize) -> 
             .min(BUFFER_LENGTH);
         match source.pull(&mut buffer[..room]) {
             Ok(0) => return Ok(bytes),
-            Ok(count) => bytes.extend_from_slice(&buffer[..count])?,
+            Ok(count) => append_pieces(&mut bytes, &buffer[..count])?,
             Err(_) => return Err(Error::ReadFault),
         }
     }
