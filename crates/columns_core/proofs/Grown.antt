@@ -1,5 +1,5 @@
 -- Bits that grow by whole bytes.
-use Rattle.std.proofs.Common.{◌≡◌, ℕ, zero, suc, ◌+◌, ◌-◌, ◌*◌, ◌/◌, ◌%◌, ◌<◌, ◌≤◌, List, [], ◌∷◌, ◌++◌, length, replicate, slice_index_or, Bool, append_assoc, length-append, refl, ap, sym, ◌∙◌, arith}
+use Rattle.std.proofs.Common.{◌≡◌, ℕ, zero, suc, ◌+◌, ◌-◌, ◌*◌, ◌/◌, ◌%◌, ◌<◌, ◌≤◌, List, [], ◌∷◌, ◌++◌, length, replicate, slice_index_or, Bool, append_assoc, append-nil, length-append, refl, ap, sym, ◌∙◌, arith}
 use Rattle.std.proofs.lemmas.List.{replicate-append-replicate}
 use Rattle.columns_core.specs.Bits.{bit_of, bits_from}
 use Rattle.columns_core.proofs.Bits.{byte_more, length_bits}
@@ -36,6 +36,22 @@ copies_grown xs ys zs v i b e f g =
     let n : 8 * (i + 1) ≡ 8 * i + 8 = omega arith in
     let r : replicate (8 * i + 8) v ≡ replicate (8 * i) v ++ replicate 8 v = sym (replicate-append-replicate (8 * i) 8 v) in
     rw (n, r, g, e, f) (append_assoc xs (replicate (8 * i) v) (replicate 8 v))
+
+-- equal bytes behind whole bytes
+pub copies_more : (bs : List ℕ) (n count b : ℕ) (x : Bool) (v : List Bool) → (0 < count → n ≡ 8 * length bs) → bits_from bs 0 n ≡ v → bits_from (b ∷ []) 0 8 ≡ replicate 8 x → bits_from (bs ++ replicate count b) 0 (n + 8 * count) ≡ v ++ replicate (8 * count) x
+copies_more bs n zero b x v s is each =
+    let m : n + 8 * zero ≡ n = omega arith in
+    let z : 8 * zero ≡ 0 = omega arith in
+    rw (m, z, append-nil bs, append-nil v) is
+copies_more bs n (suc count) b x v s is each =
+    let m : n + 8 * suc count ≡ n + 8 + 8 * count = omega arith in
+    let t : 8 * suc count ≡ 8 + 8 * count = omega arith in
+    let whole : n ≡ 8 * length bs = s (omega arith) in
+    let size : n + 8 ≡ 8 * length (bs ++ b ∷ []) = omega (arith, whole, length-append bs (b ∷ [])) in
+    let first : bits_from (bs ++ b ∷ []) 0 (n + 8) ≡ v ++ replicate 8 x = eight_more bs (bs ++ b ∷ []) n b v refl whole is ∙ ap (λ (u : List Bool). v ++ u) each in
+    let parts : bs ++ replicate (suc count) b ≡ (bs ++ b ∷ []) ++ replicate count b = sym (append_assoc bs (b ∷ []) (replicate count b)) in
+    let copies : replicate (8 + 8 * count) x ≡ replicate 8 x ++ replicate (8 * count) x = sym (replicate-append-replicate 8 (8 * count) x) in
+    rw (m, t, parts, copies) (copies_more (bs ++ b ∷ []) (n + 8) count b x (v ++ replicate 8 x) (λ _. size) first each ∙ append_assoc v (replicate 8 x) (replicate (8 * count) x))
 
 pub still_whole : (ys zs ws : List Bool) → zs ≡ ys ++ ws → length ws ≡ 8 → length ys % 8 ≡ 0 → length zs % 8 ≡ 0
 still_whole ys zs ws e l h = omega (arith, ap length e, length-append ys ws, l, h)

@@ -1,5 +1,5 @@
 -- Bits of whole words.
-use Rattle.std.proofs.Common.{◌≡◌, ◌≢◌, ◌⊎◌, ℕ, zero, suc, ◌+◌, ◌-◌, ◌*◌, ◌/◌, ◌%◌, ◌^◌, ◌<◌, ◌≤◌, ◌==◌, replicate, ◌∷◌, List, ◌++◌, Bool, true, false, length, take, drop, slice_index_or, length-take, add-zero, zero-add, refl, ap, sym, ◌∙◌, inl, inr, arith}
+use Rattle.std.proofs.Common.{◌≡◌, ◌≢◌, ◌⊎◌, ℕ, zero, suc, ◌+◌, ◌-◌, ◌*◌, ◌/◌, ◌%◌, ◌^◌, ◌<◌, ◌≤◌, ◌==◌, replicate, ◌∷◌, List, ◌++◌, Bool, true, false, length, take, drop, slice_index_or, length-take, add-zero, zero-add, refl, ap, ap₂, sym, ◌∙◌, inl, inr, arith}
 use Rattle.columns_core.specs.Bits.{bit_of, bits_from, word_bits}
 use Rattle.std.specs.Int.{bit_at, bit_not, byte_at, bytes_low_first, trailing_ones, trailing_zeros, w64}
 use Rattle.std.specs.Int.Count.{count_trailing_zeros, trailing_of_zero}
@@ -29,6 +29,27 @@ nth_byte : (i k n j : ℕ) → j < k → slice_index_or (bytes_low_first i k n) 
 nth_byte i zero n j h = absurd (omega (arith, h))
 nth_byte i (suc k) n zero h = rw (add-zero i) refl
 nth_byte i (suc k) n (suc j) h = let e : suc i + j ≡ i + suc j = omega arith in nth_byte (suc i) k n j (omega (arith, h)) ∙ rw e refl
+
+-- sixteen bytes of a number are the eight of each half
+pub two_words : (n : ℕ) → bytes_low_first 0 16 n ≡ bytes_low_first 0 8 (n % 2 ^ 64) ++ bytes_low_first 0 8 (n / 2 ^ 64)
+two_words n =
+    let a0 : n % 256 ≡ n % 2 ^ 64 % 256 = omega arith in
+    let a1 : n / 256 ^ 1 % 256 ≡ n % 2 ^ 64 / 256 ^ 1 % 256 = omega arith in
+    let a2 : n / 256 ^ 2 % 256 ≡ n % 2 ^ 64 / 256 ^ 2 % 256 = omega arith in
+    let a3 : n / 256 ^ 3 % 256 ≡ n % 2 ^ 64 / 256 ^ 3 % 256 = omega arith in
+    let a4 : n / 256 ^ 4 % 256 ≡ n % 2 ^ 64 / 256 ^ 4 % 256 = omega arith in
+    let a5 : n / 256 ^ 5 % 256 ≡ n % 2 ^ 64 / 256 ^ 5 % 256 = omega arith in
+    let a6 : n / 256 ^ 6 % 256 ≡ n % 2 ^ 64 / 256 ^ 6 % 256 = omega arith in
+    let a7 : n / 256 ^ 7 % 256 ≡ n % 2 ^ 64 / 256 ^ 7 % 256 = omega arith in
+    let b0 : n / 256 ^ 8 % 256 ≡ n / 2 ^ 64 % 256 = omega arith in
+    let b1 : n / 256 ^ 9 % 256 ≡ n / 2 ^ 64 / 256 ^ 1 % 256 = omega arith in
+    let b2 : n / 256 ^ 10 % 256 ≡ n / 2 ^ 64 / 256 ^ 2 % 256 = omega arith in
+    let b3 : n / 256 ^ 11 % 256 ≡ n / 2 ^ 64 / 256 ^ 3 % 256 = omega arith in
+    let b4 : n / 256 ^ 12 % 256 ≡ n / 2 ^ 64 / 256 ^ 4 % 256 = omega arith in
+    let b5 : n / 256 ^ 13 % 256 ≡ n / 2 ^ 64 / 256 ^ 5 % 256 = omega arith in
+    let b6 : n / 256 ^ 14 % 256 ≡ n / 2 ^ 64 / 256 ^ 6 % 256 = omega arith in
+    let b7 : n / 256 ^ 15 % 256 ≡ n / 2 ^ 64 / 256 ^ 7 % 256 = omega arith in
+    ap₂ (λ (x : ℕ) (xs : List ℕ). x ∷ xs) a0 (ap₂ (λ (x : ℕ) (xs : List ℕ). x ∷ xs) a1 (ap₂ (λ (x : ℕ) (xs : List ℕ). x ∷ xs) a2 (ap₂ (λ (x : ℕ) (xs : List ℕ). x ∷ xs) a3 (ap₂ (λ (x : ℕ) (xs : List ℕ). x ∷ xs) a4 (ap₂ (λ (x : ℕ) (xs : List ℕ). x ∷ xs) a5 (ap₂ (λ (x : ℕ) (xs : List ℕ). x ∷ xs) a6 (ap₂ (λ (x : ℕ) (xs : List ℕ). x ∷ xs) a7 (ap₂ (λ (x : ℕ) (xs : List ℕ). x ∷ xs) b0 (ap₂ (λ (x : ℕ) (xs : List ℕ). x ∷ xs) b1 (ap₂ (λ (x : ℕ) (xs : List ℕ). x ∷ xs) b2 (ap₂ (λ (x : ℕ) (xs : List ℕ). x ∷ xs) b3 (ap₂ (λ (x : ℕ) (xs : List ℕ). x ∷ xs) b4 (ap₂ (λ (x : ℕ) (xs : List ℕ). x ∷ xs) b5 (ap₂ (λ (x : ℕ) (xs : List ℕ). x ∷ xs) b6 (ap₂ (λ (x : ℕ) (xs : List ℕ). x ∷ xs) b7 refl)))))))))))))))
 
 -- the bits of a number's bytes are the number's
 pub bytes_bit : (k n i : ℕ) → i < 8 * k → bit_of (bytes_low_first 0 k n) i ≡ (bit_at n i == 1)

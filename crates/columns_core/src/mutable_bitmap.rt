@@ -221,10 +221,10 @@ impl MutableBitmap {
         ensures same { self.new.0 ≡ self.old.0 ++ replicate (8 * count) value }
         ensures room { self.old.1 ≤ self.new.1 + 8 * count }
     {
-        let byte = full_byte(value);
-        for _i in 0..count {
-            self.push_eight(byte);
-        }
+        self.bytes
+            .resize(self.bytes.len() + count, full_byte(value))
+            .unwrap();
+        self.size += 8 * count;
     }
 
     fn push_single(&mut self, slice: &[u8], offset: usize, length: usize)
@@ -383,9 +383,12 @@ fn put_wide(bytes: &mut Vec<u8>, size: usize, word: u64, length: usize)
     let full = size / 8;
     let open = size % 8;
     let low = open_bits(bytes, size);
-    let joined = word_behind(word, low, open).to_le_bytes();
+    let joined = word_behind(word, low, open);
+    let first = (joined % (1 << 64)) as u64;
+    let second = (joined >> 64) as u64;
     bytes.truncate(full);
-    bytes.extend_from_slice(&joined).unwrap();
+    bytes.extend_from_slice(&first.to_le_bytes()).unwrap();
+    bytes.extend_from_slice(&second.to_le_bytes()).unwrap();
     bytes.truncate(full + bytes_for(open + length));
 }
 
