@@ -11,8 +11,8 @@ use pq_pages::{DataPage, DictPage, Page, VecPages};
 use pq_tree::{DataPageHeader, DataPageHeaderV1, Descriptor, PrimitiveType, Repetition};
 use std::alloc::Global;
 
-// The texts "a" and "bc" in PLAIN.
-const TWO: &[u8] = &[1, 0, 0, 0, 97, 2, 0, 0, 0, 98, 99];
+/// The texts "a" and "bc" in PLAIN.
+pub const TWO: &[u8] = &[1, 0, 0, 0, 97, 2, 0, 0, 0, 98, 99];
 
 // 0, null, 1, 1, 0: definition levels behind their length, and the indices 0, 1, 1, 0, packed in a bit each.
 const PACKED: &[u8] = &[2, 0, 0, 0, 3, 0b0001_1101, 1, 3, 0b0000_0110];
@@ -34,8 +34,10 @@ fn descriptor(alloc: Global, is_nested: bool) -> Descriptor
     }
 }
 
-// A page of so many pairs, whose values are indices.
-fn indices(alloc: Global, is_nested: bool, count: u8, body: &[u8]) -> Result<Page> {
+/// A page of so many pairs of a column, whose values are indices.
+pub fn page_of(alloc: Global, descriptor: Descriptor, count: u8, body: &[u8]) -> Result<Page>
+    requires { HasLevels descriptor }
+{
     let header = DataPageHeaderV1 {
         num_values: i32::from(count),
         encoding: 8,
@@ -44,12 +46,15 @@ fn indices(alloc: Global, is_nested: bool, count: u8, body: &[u8]) -> Result<Pag
         statistics: None,
     };
     let body = Vec::from_slice(alloc, body)?;
-    let descriptor = descriptor(alloc, is_nested);
     Ok(Page::Data(DataPage::new(DataPageHeader::V1(header), body, descriptor, None)))
 }
 
-// A dictionary page of so many entries, and nothing behind it yet.
-fn entries(alloc: Global, body: &[u8], count: usize) -> Result<Vec<Result<Page>>> {
+fn indices(alloc: Global, is_nested: bool, count: u8, body: &[u8]) -> Result<Page> {
+    page_of(alloc, descriptor(alloc, is_nested), count, body)
+}
+
+/// A dictionary page of so many entries, and nothing behind it yet.
+pub fn entries(alloc: Global, body: &[u8], count: usize) -> Result<Vec<Result<Page>>> {
     let mut pages = Vec::new(alloc);
     pages.push(Ok(Page::Dict(DictPage::new(Vec::from_slice(alloc, body)?, count, false))))?;
     Ok(pages)
@@ -64,8 +69,8 @@ fn named(alloc: Global, data_type: DataType, is_nullable: bool) -> Result<Field>
     })
 }
 
-// Entries of this type, by keys of 8 bits.
-fn keyed(alloc: Global, entries: DataType) -> Result<DataType> {
+/// Entries of this type, by keys of 8 bits.
+pub fn keyed(alloc: Global, entries: DataType) -> Result<DataType> {
     Ok(DataType::Dictionary(IntegerType::Int8, Box::new(alloc, entries)?, false))
 }
 
@@ -111,8 +116,8 @@ fn has_keys(keys: &DictionaryKeys, want: &[i8], nulls: usize) -> bool {
     }
 }
 
-// An array of these keys, 0 in the place of nulls, so many nulls, and both entries.
-fn is_of(array: &ArrayBox, keys: &[i8], nulls: usize) -> bool {
+/// An array of these keys, 0 in the place of nulls, so many nulls, and both entries.
+pub fn is_of(array: &ArrayBox, keys: &[i8], nulls: usize) -> bool {
     match array {
         ArrayBox::Dictionary(array) => {
             has_keys(array.keys(), keys, nulls) && has_entries(array.values())

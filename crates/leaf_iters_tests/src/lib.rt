@@ -4,11 +4,15 @@
 #[cfg(test)]
 mod dictionary_tests;
 #[cfg(test)]
+mod encoding_tests;
+#[cfg(test)]
 mod field_tests;
 #[cfg(test)]
 mod flat_tests;
 #[cfg(test)]
 mod nested_tests;
+#[cfg(test)]
+mod opened_tests;
 #[cfg(test)]
 mod pages;
 #[cfg(test)]

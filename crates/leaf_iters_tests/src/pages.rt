@@ -40,9 +40,35 @@ pub fn page(
     num_values: u8,
     body: &[u8],
 ) -> Result<DataPage> {
+    encoded(alloc, physical_type, is_nested, num_values, Form::Plain, body)
+}
+
+/// How the values of a page stand.
+#[derive(Clone, Copy)]
+pub enum Form {
+    Plain,
+    Deltas,
+    Lengths,
+    Indices,
+}
+
+/// A page of version 1 whose values stand so.
+pub fn encoded(
+    alloc: Global,
+    physical_type: PhysicalType,
+    is_nested: bool,
+    num_values: u8,
+    form: Form,
+    body: &[u8],
+) -> Result<DataPage> {
     let header = DataPageHeaderV1 {
         num_values: i32::from(num_values),
-        encoding: 0,
+        encoding: match form {
+            Form::Plain => 0,
+            Form::Deltas => 5,
+            Form::Lengths => 6,
+            Form::Indices => 8,
+        },
         definition_level_encoding: Some(3),
         repetition_level_encoding: Some(3),
         statistics: None,

@@ -13,11 +13,11 @@ use read_state::{InitNested, NestedState};
 use std::alloc::Global;
 use struct_iters::{NestedArrayIter, StructIterator, columns_to_iter_recursive};
 
-// A nullable number in a nullable struct: 1, beneath a null struct, and null.
-const LEFT: &[u8] = &[3, 0, 0, 0, 3, 0b01_0010, 0, 1, 0, 0, 0];
+/// A nullable number in a nullable struct: 1, beneath a null struct, and null.
+pub const LEFT: &[u8] = &[3, 0, 0, 0, 3, 0b01_0010, 0, 1, 0, 0, 0];
 
-// The same of 4, beneath a null struct, and 5.
-const RIGHT: &[u8] = &[3, 0, 0, 0, 3, 0b10_0010, 0, 4, 0, 0, 0, 5, 0, 0, 0];
+/// The same of 4, beneath a null struct, and 5.
+pub const RIGHT: &[u8] = &[3, 0, 0, 0, 3, 0b10_0010, 0, 4, 0, 0, 0, 5, 0, 0, 0];
 
 // Null, 6, and beneath a null struct.
 const OTHER: &[u8] = &[3, 0, 0, 0, 3, 0b00_1001, 0, 6, 0, 0, 0];
@@ -25,12 +25,12 @@ const OTHER: &[u8] = &[3, 0, 0, 0, 3, 0b00_1001, 0, 6, 0, 0, 0];
 // 1, and beneath a null struct.
 const SHORT: &[u8] = &[3, 0, 0, 0, 3, 0b0010, 0, 1, 0, 0, 0];
 
-// The column of a nullable number in a nullable struct.
-fn descriptor(alloc: Global) -> Descriptor
+/// The column of a nullable leaf in a nullable struct.
+pub fn descriptor(alloc: Global, physical_type: PhysicalType) -> Descriptor
     ensures { HasLevels result }
 {
     Descriptor {
-        primitive_type: leaf(alloc, Repetition::Optional, PhysicalType::Int32),
+        primitive_type: leaf(alloc, Repetition::Optional, physical_type),
         max_def_level: 2,
         max_rep_level: 0,
     }
@@ -46,7 +46,8 @@ fn source(alloc: Global, rows: u8, body: &[u8]) -> Result<VecPages> {
         statistics: None,
     };
     let body = Vec::from_slice(alloc, body)?;
-    let page = DataPage::new(DataPageHeader::V1(header), body, descriptor(alloc), None);
+    let descriptor = descriptor(alloc, PhysicalType::Int32);
+    let page = DataPage::new(DataPageHeader::V1(header), body, descriptor, None);
     let mut pages = Vec::new(alloc);
     pages.push(Ok(Page::Data(page)))?;
     Ok(VecPages::new(pages))
@@ -73,8 +74,8 @@ fn open(
     columns_to_iter_recursive(alloc, columns, types, field, init, rows, chunk_size)
 }
 
-// The child of a nullable struct, from one page.
-fn child(
+/// The child of a nullable struct, from one page.
+pub fn child(
     alloc: Global,
     rows: u8,
     body: &[u8],
