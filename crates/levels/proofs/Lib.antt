@@ -9,3 +9,4 @@ pub mod Stretches
 pub mod Flat
 pub mod Bounds
 pub mod ItemEnds
+pub mod Wholes

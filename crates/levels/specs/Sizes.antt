@@ -1,5 +1,5 @@
 -- The numbers of level pairs.
-use Rattle.std.specs.Prelude.{ℕ, zero, suc, ◌+◌, Bool, Option, cond, max, List, [], ◌∷◌}
+use Rattle.std.specs.Prelude.{◌≡◌, ℕ, zero, suc, ◌+◌, ◌-◌, Bool, Option, cond, max, List, [], ◌∷◌}
 use Rattle.columns_core.specs.Rising.{IsRising}
 use Rattle.shredding.specs.Parts.{Part, leaf_part, list_part, struct_part, is_present, item_start, item_count}
 
@@ -35,3 +35,14 @@ RisesIn (struct_part is_optional mask count) = Unit {0}
 abbrev pub AreRising : List Part → Type 0
 AreRising [] = Unit {0}
 AreRising (part ∷ parts) = RisesIn part × AreRising parts
+
+-- one where list i has no items
+abbrev pub empty_size : List ℕ → ℕ → ℕ
+empty_size offsets i = 1 - item_count offsets i
+
+-- no list beneath slot i has items, down to the first list
+abbrev pub HasNoItems : List Part → ℕ → Type 0
+HasNoItems [] i = Unit {0}
+HasNoItems (leaf_part is_optional mask count ∷ parts) i = Unit {0}
+HasNoItems (list_part is_optional mask offsets ∷ parts) i = item_count offsets i ≡ 0
+HasNoItems (struct_part is_optional mask count ∷ parts) i = HasNoItems parts i

@@ -9,6 +9,7 @@ ghost use Rattle.levels.specs.Sizes.{total, slot_size, list_size};
 use crate::here::{list_pairs, present_word};
 use crate::nested::{ListNested, Nested, has_lists, slot_count};
 use crate::walk::{Level, Stretch, stretch_at};
+use crate::whole::count_whole;
 use columns_core::{Offset, OffsetsBuffer};
 
 // The number of level pairs of up to 64 lists above a path without lists, or the largest number. A word tells which lists are there.
@@ -110,5 +111,9 @@ pub fn num_values(nested: &[Nested]) -> usize
     requires { IsPath (parts_of nested.now) }
     ensures { (values : ℕ → Value) → result ≡ min (length (nested_column values nested.now)) (2 ^ 64 - 1) }
 {
-    count(nested, 0, slot_count(nested))
+    let slots = slot_count(nested);
+    match count_whole(nested, 0, slots) {
+        Some(pairs) => pairs,
+        None => count(nested, 0, slots),
+    }
 }

@@ -18,6 +18,7 @@ fn have_items<O: Offset>(offsets: &OffsetsBuffer<O>, place: usize, end: usize) -
 }
 
 // The first list without items from a place on, or the end of the lists that are looked at.
+#[inline(always)]
 fn first_empty<O: Offset>(offsets: &OffsetsBuffer<O>, place: usize, to: usize) -> usize
     requires ordered { place ≤ to }
     requires within { to < length offsets.now }
@@ -44,7 +45,12 @@ pub fn items_end<O: Offset>(offsets: &OffsetsBuffer<O>, place: usize, to: usize)
     ensures within { result ≤ to }
     ensures full { HaveItems offsets.now place result }
 {
-    let mut end = place;
+    // most stretches are short
+    let near = place + (to - place).min(8);
+    let mut end = first_empty(offsets, place, near);
+    if end < near {
+        return end;
+    }
     while end < to {
         let next = end + (to - end).min(64);
         if !have_items(offsets, end, next) {

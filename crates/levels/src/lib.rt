@@ -15,6 +15,7 @@ mod ranges;
 mod shared;
 mod walk;
 mod well_formed;
+mod whole;
 
 pub use count::num_values;
 pub use equal::{is_same_list, is_same_nested};
