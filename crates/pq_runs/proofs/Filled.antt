@@ -17,7 +17,7 @@ zero_number (suc n) = omega (arith, zero_number n)
 pub number_of-zeros : (text : List ℕ) (n : ℕ) → number_of (text ++ replicate n 0) ≡ number_of text
 number_of-zeros text n = number_of-append text (replicate n 0) ∙ ap (λ (x : ℕ). number_of text + 2 ^ (8 * length text) * x) (zero_number n) ∙ omega arith
 
-word-below : (w : ℕ) (xs : List ℕ) → All (λ v. v < 2 ^ w) xs → word_of w xs < 2 ^ (w * length xs)
+pub word-below : (w : ℕ) (xs : List ℕ) → All (λ v. v < 2 ^ w) xs → word_of w xs < 2 ^ (w * length xs)
 word-below w [] h = let e : w * length {A = ℕ} [] ≡ 0 = omega arith in rw e (omega arith)
 word-below w (x ∷ xs) h =
     let e : w * length xs + w ≡ w * suc (length xs) = omega arith in

@@ -93,7 +93,7 @@ front_less at m n old new bytes room less e =
     ∙ ap (λ (k : ℕ). take (k + m) (take at old ++ bytes)) (sym size)
     ∙ take-append-add (take at old) bytes m
 
-length-none : (xs : List ℕ) → length xs ≡ 0 → xs ≡ []
+pub length-none : (xs : List ℕ) → length xs ≡ 0 → xs ≡ []
 length-none [] e = refl
 length-none (x ∷ xs) e = absurd (omega (arith, e))
 

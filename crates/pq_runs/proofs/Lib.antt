@@ -1,4 +1,5 @@
 pub mod BitNumbers
+pub mod Changing
 pub mod Complete
 pub mod Decoding
 pub mod DeltaComplete
@@ -14,6 +15,7 @@ pub mod Items
 pub mod Kept
 pub mod Mixed
 pub mod Packs
+pub mod Paired
 pub mod Settling
 pub mod Short
 pub mod Sound

@@ -45,7 +45,7 @@ first_twice (x ∷ xs) some =
     omega (arith, same)
 
 -- two stretches at most become one where lists meet
-stretches-append : (xs ys : List ℕ) → stretches xs + stretches ys ≤ stretches (xs ++ ys) + 1
+pub stretches-append : (xs ys : List ℕ) → stretches xs + stretches ys ≤ stretches (xs ++ ys) + 1
 stretches-append [] ys = omega arith
 stretches-append (x ∷ []) [] = omega arith
 stretches-append (x ∷ []) (y ∷ ys) = omega arith

@@ -7,14 +7,15 @@ ghost use Rattle.pq_runs.specs.Writing.{Extends};
 ghost use Rattle.pq_runs.specs.Words.{bit_numbers};
 
 use crate::bit_block::BitBlock;
+use crate::narrow::{NarrowNumbers, are_narrow};
 use crate::numbers::Numbers;
-use crate::runs::{push_bit_groups, push_groups};
-use crate::settle::front;
-use crate::words::{copies_of, numbers_of};
+use crate::runs::{push_bit_groups, push_groups, push_narrow_groups};
+use crate::settle::{front, narrow_front};
+use crate::words::{copies_of, narrow_numbers_of, numbers_of};
 use std::alloc::AllocError;
 use std::marker::Model;
 
-/// At most 63 groups of eight, so that the header of their run takes one byte. Those of a writer of one bit are packed as they come.
+/// At most 63 groups of eight, so that the header of their run takes one byte. Those of a writer of one bit are packed as they come, and those of at most eight bits are bytes.
 #[derive(Drop)]
 pub struct Block {
     store: Store,
@@ -25,6 +26,8 @@ pub struct Block {
 pub enum Store {
     /// Each is 0 or 1.
     Bits(BitBlock),
+    /// Each is below 256.
+    Narrow(NarrowNumbers),
     /// As they are.
     Others(Numbers),
 }
@@ -47,6 +50,10 @@ impl Block {
             Block {
                 store: Store::Bits(BitBlock::new()),
             }
+        } else if width <= 8 {
+            Block {
+                store: Store::Narrow(NarrowNumbers::new()),
+            }
         } else {
             Block {
                 store: Store::Others(Numbers::new()),
@@ -60,6 +67,7 @@ impl Block {
     {
         match &self.store {
             Store::Bits(bits) => bits.len(),
+            Store::Narrow(numbers) => numbers.len(),
             Store::Others(numbers) => numbers.len(),
         }
     }
@@ -72,6 +80,15 @@ impl Block {
         ensures { self.new ≡ self.old ++ replicate count number }
     {
         match &mut self.store {
+            Store::Narrow(narrow) => {
+                if number < 256 {
+                    narrow.push_few(number as u8, count);
+                } else {
+                    let mut numbers = Numbers::of_narrow(narrow);
+                    numbers.push_few(number, count);
+                    self.store = Store::Others(numbers);
+                }
+            }
             Store::Others(numbers) => numbers.push_few(number, count),
             Store::Bits(bits) => {
                 if number < 2 {
@@ -100,9 +117,35 @@ impl Block {
     {
         match &mut self.store {
             Store::Others(others) => others.append(numbers),
+            Store::Narrow(narrow) => {
+                if are_narrow(numbers) {
+                    narrow.append_wide(numbers);
+                } else {
+                    let mut others = Numbers::of_narrow(narrow);
+                    others.append(numbers);
+                    self.store = Store::Others(others);
+                }
+            }
             Store::Bits(bits) => {
                 let mut others = Numbers::of(bits);
                 others.append(numbers);
+                self.store = Store::Others(others);
+            }
+        }
+    }
+
+    // Appends numbers of at most eight bits.
+    #[inline(always)]
+    pub fn append_narrow(&mut self, numbers: &[u8])
+        requires { length self.old + length numbers.now ≤ 504 }
+        ensures { self.new ≡ self.old ++ numbers.now }
+    {
+        match &mut self.store {
+            Store::Narrow(narrow) => narrow.append(numbers),
+            Store::Others(others) => others.append_narrow(numbers),
+            Store::Bits(bits) => {
+                let mut others = Numbers::of(bits);
+                others.append_narrow(numbers);
                 self.store = Store::Others(others);
             }
         }
@@ -119,6 +162,15 @@ impl Block {
     {
         match &mut self.store {
             Store::Others(others) => append_spelled(others, low, word, count),
+            Store::Narrow(narrow) => {
+                if low < 255 {
+                    append_narrow_spelled(narrow, low as u8, word, count);
+                } else {
+                    let mut others = Numbers::of_narrow(narrow);
+                    append_spelled(&mut others, low, word, count);
+                    self.store = Store::Others(others);
+                }
+            }
             Store::Bits(bits) => {
                 if low == 0 {
                     bits.add_word(word, count as u32);
@@ -136,6 +188,7 @@ impl Block {
     {
         match &mut self.store {
             Store::Bits(bits) => bits.clear(),
+            Store::Narrow(numbers) => numbers.clear(),
             Store::Others(numbers) => numbers.clear(),
         }
     }
@@ -151,6 +204,13 @@ impl Block {
     {
         match &self.store {
             Store::Others(numbers) => push_groups(out, numbers.as_slice(), width),
+            Store::Narrow(numbers) => {
+                if width <= 8 {
+                    push_narrow_groups(out, numbers.as_slice(), width)
+                } else {
+                    push_groups(out, Numbers::of_narrow(numbers).as_slice(), width)
+                }
+            }
             Store::Bits(bits) => {
                 if width == 1 {
                     push_bit_groups(out, bits)
@@ -171,4 +231,15 @@ fn append_spelled(others: &mut Numbers, low: u32, word: u64, count: usize)
     ensures { others.new ≡ others.old ++ bit_numbers low word 0 count }
 {
     others.append(front(&numbers_of(low, word), count));
+}
+
+// The same of numbers of at most eight bits.
+#[inline(never)]
+fn append_narrow_spelled(narrow: &mut NarrowNumbers, low: u8, word: u64, count: usize)
+    requires few { count ≤ 64 }
+    requires low { low < 255 }
+    requires room { length narrow.old + count ≤ 504 }
+    ensures { narrow.new ≡ narrow.old ++ bit_numbers low word 0 count }
+{
+    narrow.append(narrow_front(&narrow_numbers_of(low, word), count));
 }

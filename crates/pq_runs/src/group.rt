@@ -4,46 +4,55 @@ ghost use Rattle.std.specs.Prelude.{◌≡◌, ◌<◌, ◌≤◌, ◌^◌, ◌+
 ghost use Rattle.pq_numbers.specs.Texts.{number_of};
 ghost use Rattle.pq_runs.specs.Packing.{ArePacked};
 ghost use Rattle.pq_runs.specs.Writing.{Extends};
-ghost use Rattle.pq_runs.specs.Words.{word_of};
+ghost use Rattle.pq_runs.specs.Words.{paired, word_of};
 
 use std::alloc::AllocError;
 
-// The numbers of a word above one more.
+// Eight numbers, two side by side in each part of sixteen bits.
 #[inline(always)]
-fn with_below(word: u64, bits: u32, number: u32, width: u32) -> u64
-    requires room { bits + width ≤ 64 }
-    requires some { width ≤ 8 }
-    requires small { word < 2 ^ bits }
-    requires low { number < 2 ^ width }
-    ensures value { result ≡ number + 2 ^ width * word }
-    ensures below { result < 2 ^ (bits + width) }
+fn pairs_of(numbers: [u8; 8], width: u32) -> u64
+    requires fits { width ≤ 8 }
+    requires below { All (λ v. v < 2 ^ width) numbers }
+    ensures { result ≡ word_of 16 (paired width numbers) }
 {
-    (word << width) + u64::from(number)
+    let [a, b, c, d, e, f, g, h] = numbers;
+    let first = u64::from_le_bytes([a, 0, c, 0, e, 0, g, 0]);
+    let second = u64::from_le_bytes([b, 0, d, 0, f, 0, h, 0]);
+    first.wrapping_add(second << width)
+}
+
+// Four pairs, two side by side in each half.
+#[inline(always)]
+fn fours_of(pairs: u64, width: u32) -> u64
+    requires fits { width ≤ 8 }
+    ensures { (xs : List ℕ) → length xs ≡ 4 → All (λ v. v < 2 ^ (2 * width)) xs → pairs ≡ word_of 16 xs → result ≡ word_of 32 (paired (2 * width) xs) }
+{
+    let [a, b, c, d, e, f, g, h] = pairs.to_le_bytes();
+    let first = u64::from_le_bytes([a, b, 0, 0, e, f, 0, 0]);
+    let second = u64::from_le_bytes([c, d, 0, 0, g, h, 0, 0]);
+    first.wrapping_add(second << (2 * width))
+}
+
+// Two halves side by side.
+#[inline(always)]
+fn joined(fours: u64, width: u32) -> u64
+    requires fits { width ≤ 8 }
+    ensures { (xs : List ℕ) → length xs ≡ 2 → All (λ v. v < 2 ^ (4 * width)) xs → fours ≡ word_of 32 xs → result ≡ word_of (4 * width) xs }
+{
+    (fours % (1 << 32)).wrapping_add((fours >> 32) << (4 * width))
 }
 
 // Eight numbers as one number.
 #[inline(always)]
-fn word_of(numbers: [u32; 8], width: u32) -> u64
+fn word_of(numbers: [u8; 8], width: u32) -> u64
     requires fits { width ≤ 8 }
     requires below { All (λ v. v < 2 ^ width) numbers }
     ensures value { result ≡ word_of width numbers }
     ensures below { result < 2 ^ (8 * width) }
 {
-    let [a, b, c, d, e, f, g, h] = numbers;
-    let two = width + width;
-    let three = two + width;
-    let four = three + width;
-    let five = four + width;
-    let six = five + width;
-    let seven = six + width;
-    let word = with_below(0, 0, h, width);
-    let word = with_below(word, width, g, width);
-    let word = with_below(word, two, f, width);
-    let word = with_below(word, three, e, width);
-    let word = with_below(word, four, d, width);
-    let word = with_below(word, five, c, width);
-    let word = with_below(word, six, b, width);
-    with_below(word, seven, a, width)
+    let pairs = pairs_of(numbers, width);
+    let fours = fours_of(pairs, width);
+    joined(fours, width)
 }
 
 // Eight bytes take their places, and those before them stay.
@@ -58,7 +67,7 @@ pub fn put_bytes(places: &mut [u8], at: usize, bytes: [u8; 8])
 
 // Eight numbers take their places, and the bytes before them stay. Some bytes behind them may change.
 #[inline(always)]
-fn put_group(places: &mut [u8], at: usize, numbers: [u32; 8], width: u32)
+fn put_group(places: &mut [u8], at: usize, numbers: [u8; 8], width: u32)
     requires fits { width ≤ 8 }
     requires room { at + 8 ≤ length places.old }
     requires below { All (λ v. v < 2 ^ width) numbers }
@@ -70,20 +79,19 @@ fn put_group(places: &mut [u8], at: usize, numbers: [u32; 8], width: u32)
 
 // The first eight numbers.
 #[inline(always)]
-fn first_eight(numbers: &[u32]) -> [u32; 8]
+fn first_eight(numbers: &[u8]) -> [u8; 8]
     requires { 8 ≤ length numbers.now }
     ensures eight { length result ≡ 8 }
     ensures front { numbers.now ≡ result ++ drop 8 numbers.now }
 {
-    [
-        numbers[0], numbers[1], numbers[2], numbers[3], numbers[4], numbers[5], numbers[6],
-        numbers[7],
-    ]
+    let mut eight = [0; 8];
+    eight.copy_from_slice(&numbers[..8]);
+    eight
 }
 
 // The numbers behind the first eight.
 #[inline(always)]
-fn behind_eight(numbers: &[u32]) -> &[u32]
+fn behind_eight(numbers: &[u8]) -> &[u8]
     requires { 8 ≤ length numbers.now }
     ensures { result.now ≡ drop 8 numbers.now }
 {
@@ -91,7 +99,8 @@ fn behind_eight(numbers: &[u32]) -> &[u32]
 }
 
 // Whole groups of numbers stand from the front on, in so many bytes.
-fn put_groups(places: &mut [u8], numbers: &[u32], width: u32) -> usize
+#[inline(always)]
+fn put_groups(places: &mut [u8], numbers: &[u8], width: u32) -> usize
     requires fits { width ≤ 8 }
     requires few { length numbers.now ≤ length places.old }
     requires whole { length numbers.now % 8 ≡ 0 }
@@ -109,8 +118,25 @@ fn put_groups(places: &mut [u8], numbers: &[u32], width: u32) -> usize
     at
 }
 
+// The same, by a loop of its own for each width that most levels have.
+fn put_all(places: &mut [u8], numbers: &[u8], width: u32) -> usize
+    requires fits { width ≤ 8 }
+    requires few { length numbers.now ≤ length places.old }
+    requires whole { length numbers.now % 8 ≡ 0 }
+    requires below { All (λ v. v < 2 ^ width) numbers.now }
+    ensures within { result ≤ length places.new }
+    ensures are { ArePacked width numbers.now (take result places.new) }
+{
+    match width {
+        2 => put_groups(places, numbers, 2),
+        3 => put_groups(places, numbers, 3),
+        4 => put_groups(places, numbers, 4),
+        _ => put_groups(places, numbers, width),
+    }
+}
+
 // Appends whole groups of numbers, which are spelled before they are appended, a word of eight at once.
-pub fn push_narrow(out: &mut Vec<u8>, numbers: &[u32], width: u32) -> Result<(), AllocError>
+pub fn push_narrow(out: &mut Vec<u8>, numbers: &[u8], width: u32) -> Result<(), AllocError>
     requires fits { width ≤ 8 }
     requires few { length numbers.now ≤ 504 }
     requires whole { length numbers.now % 8 ≡ 0 }
@@ -119,6 +145,6 @@ pub fn push_narrow(out: &mut Vec<u8>, numbers: &[u32], width: u32) -> Result<(),
     ensures kept { Extends out.old.items out.new.items }
 {
     let mut places = [0; 504];
-    let size = put_groups(&mut places, numbers, width);
+    let size = put_all(&mut places, numbers, width);
     out.extend_from_slice(&places[..size])
 }

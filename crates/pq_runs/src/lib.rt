@@ -5,12 +5,14 @@
 mod bit_block;
 mod bits;
 mod block;
+mod changes;
 mod decoder;
 mod encode;
 mod group;
 mod hybrid;
 pub mod hybrid_rle;
 mod laws;
+mod narrow;
 mod numbers;
 mod pack;
 mod plain;

@@ -3,6 +3,7 @@
 ghost use Rattle.std.specs.Prelude.{◌≡◌, ◌<◌, ◌≤◌, ◌+◌, ◌++◌, List, [], ◌∷◌, length, take, replicate};
 
 use crate::bit_block::BitBlock;
+use crate::narrow::NarrowNumbers;
 use std::marker::Model;
 
 /// At most 63 groups of eight, so that the header of their run takes one byte. Behind them are eight places more, so that eight copies are always put at once.
@@ -45,6 +46,16 @@ impl Numbers {
         }
     }
 
+    // The numbers of a block of narrow ones.
+    pub fn of_narrow(narrow: &NarrowNumbers) -> Self
+        ensures { result ≡ narrow.now }
+    {
+        let _count = narrow.len();
+        let mut numbers = Numbers::new();
+        numbers.append_narrow(narrow.as_slice());
+        numbers
+    }
+
     pub fn len(&self) -> usize
         ensures value { result ≡ length self.now }
         ensures most { result ≤ 504 }
@@ -79,6 +90,16 @@ impl Numbers {
     {
         put_numbers(&mut self.numbers, self.filled, numbers);
         self.filled += numbers.len();
+    }
+
+    // Appends numbers of at most eight bits.
+    pub fn append_narrow(&mut self, numbers: &[u8])
+        requires { length self.old + length numbers.now ≤ 504 }
+        ensures { self.new ≡ self.old ++ numbers.now }
+    {
+        for number in numbers {
+            self.push(u32::from(*number));
+        }
     }
 
     pub fn clear(&mut self)

@@ -12,22 +12,6 @@ use crate::pack::{push_packed, push_whole_bytes};
 use pq_numbers::push_varint;
 use std::alloc::AllocError;
 
-// Whole groups of packed numbers, by words of eight where they are narrow.
-fn push_body(out: &mut Vec<u8>, numbers: &[u32], width: u32) -> Result<(), AllocError>
-    requires fits { width ≤ 32 }
-    requires few { length numbers.now ≤ 504 }
-    requires whole { length numbers.now % 8 ≡ 0 }
-    requires below { All (λ v. v < 2 ^ width) numbers.now }
-    ensures ok { OnOk result ((text : List ℕ) × (out.new.items ≡ out.old.items ++ text) × ArePacked width numbers.now text) }
-    ensures kept { Extends out.old.items out.new.items }
-{
-    if width <= 8 {
-        push_narrow(out, numbers, width)
-    } else {
-        push_packed(out, numbers, width)
-    }
-}
-
 // A run of packed numbers, which are whole groups.
 pub fn push_groups(out: &mut Vec<u8>, numbers: &[u32], width: u32) -> Result<(), AllocError>
     requires fits { width ≤ 32 }
@@ -38,7 +22,21 @@ pub fn push_groups(out: &mut Vec<u8>, numbers: &[u32], width: u32) -> Result<(),
     ensures kept { Extends out.old.items out.new.items }
 {
     push_varint(out, 2 * (numbers.len() as u64 / 8) + 1)?;
-    push_body(out, numbers, width)
+    push_packed(out, numbers, width)
+}
+
+// The same of numbers of at most eight bits.
+pub fn push_narrow_groups(out: &mut Vec<u8>, numbers: &[u8], width: u32) -> Result<(), AllocError>
+    requires fits { width ≤ 8 }
+    requires few { length numbers.now ≤ 504 }
+    requires whole { length numbers.now % 8 ≡ 0 }
+    requires below { All (λ v. v < 2 ^ width) numbers.now }
+    ensures ok { OnOk result ((body : List ℕ) × (out.new.items ≡ out.old.items ++ (varint (2 * (length numbers.now / 8) + 1) ++ body)) × ArePacked width numbers.now body) }
+    ensures kept { Extends out.old.items out.new.items }
+{
+    let groups = numbers.len() as u64 / 8;
+    push_varint(out, 2 * groups + 1)?;
+    push_narrow(out, numbers, width)
 }
 
 // A run of packed numbers of one bit, which are whole groups.

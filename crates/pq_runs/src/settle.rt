@@ -107,6 +107,24 @@ fn behind(numbers: &[u32], count: usize) -> &[u32]
     &numbers[count..]
 }
 
+// The first numbers.
+#[inline(always)]
+pub fn narrow_front(numbers: &[u8], count: usize) -> &[u8]
+    requires { count ≤ length numbers.now }
+    ensures { result.now ≡ take count numbers.now }
+{
+    &numbers[..count]
+}
+
+// The numbers behind the first ones.
+#[inline(always)]
+fn narrow_behind(numbers: &[u8], count: usize) -> &[u8]
+    requires { count ≤ length numbers.now }
+    ensures { result.now ≡ drop count numbers.now }
+{
+    &numbers[count..]
+}
+
 // Takes numbers into the groups of the block, as they stand.
 pub fn pack(
     out: &mut Vec<u8>,
@@ -135,6 +153,37 @@ pub fn pack(
     block.append(front(numbers, room));
     flush(out, block, width)?;
     block.append(behind(numbers, room));
+    Ok(())
+}
+
+// Takes numbers of at most eight bits into the groups of the block, as they stand.
+pub fn pack_narrow(
+    out: &mut Vec<u8>,
+    block: &mut Block,
+    numbers: &[u8],
+    width: u32,
+) -> Result<(), AllocError>
+    requires some { 1 ≤ width }
+    requires fits { width ≤ 32 }
+    requires few { length numbers.now < 504 }
+    requires room { length block.old < 504 }
+    requires below { All (λ v. v < 2 ^ width) block.old }
+    requires numbers { All (λ v. v < 2 ^ width) numbers.now }
+    ensures room { OnOk result (length block.new < 504) }
+    ensures below { OnOk result (All (λ v. v < 2 ^ width) block.new) }
+    ensures wrote { OnOk result ((start xs : List ℕ) → Wrote width start out.old.items block.old xs → Wrote width start out.new.items block.new (xs ++ numbers.now)) }
+    ensures tight { OnOk result ((start done : ℕ) → IsTight width start (length out.old.items) done → (more : ℕ) × (done + length block.old + length numbers.now ≡ more + length block.new) × IsTight width start (length out.new.items) more) }
+    ensures short { OnOk result (Takes width out.old.items block.old out.new.items block.new (width * (length numbers.now + 7) + 8)) }
+    ensures kept { Extends out.old.items out.new.items }
+{
+    let room = 504 - block.len();
+    if numbers.len() < room {
+        block.append_narrow(numbers);
+        return Ok(());
+    }
+    block.append_narrow(narrow_front(numbers, room));
+    flush(out, block, width)?;
+    block.append_narrow(narrow_behind(numbers, room));
     Ok(())
 }
 

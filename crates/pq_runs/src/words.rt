@@ -18,6 +18,19 @@ pub fn numbers_of(low: u32, word: u64) -> [u32; 64]
     numbers
 }
 
+// The same of numbers of at most eight bits.
+#[inline(always)]
+pub fn narrow_numbers_of(low: u8, word: u64) -> [u8; 64]
+    requires { low < 255 }
+    ensures { (i : ℕ) → i < 64 → slice_index result i ≡ low + bit_at word i }
+{
+    let mut numbers = [low; 64];
+    for i in 0..64 {
+        numbers[i] = low + ((word >> i) & 1) as u8;
+    }
+    numbers
+}
+
 // So many copies of a number of one bit.
 #[inline(always)]
 pub fn copies_of(number: u32, count: usize) -> u64
@@ -38,6 +51,15 @@ pub fn low_bits(word: u64, count: usize) -> u64
     if count == 64 {
         return word;
     }
+    word % (1 << count)
+}
+
+// Some of the lowest bits of a word.
+#[inline(always)]
+pub fn lower_bits(word: u64, count: usize) -> u64
+    requires { count < 64 }
+    ensures { result ≡ word % 2 ^ count }
+{
     word % (1 << count)
 }
 
@@ -95,7 +117,7 @@ pub fn are_mixed_bits(word: u64, count: usize, are_bits: bool) -> bool
     requires few { count ≤ 64 }
     ensures { IsTrue result → (low : ℕ) → count + 34 ≤ 14 * stretches (bit_numbers low word 0 count) }
 {
-    let changes = low_bits(word ^ (word >> 1), count - 1).count_ones();
+    let changes = lower_bits(word ^ (word >> 1), count - 1).count_ones();
     let stretches = changes as usize + 1;
     if 14 * stretches < count + 34 {
         return false;

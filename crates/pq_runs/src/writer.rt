@@ -7,8 +7,9 @@ ghost use Rattle.pq_runs.specs.Stretches.{filled_up, stretches};
 ghost use Rattle.pq_runs.specs.Words.{bit_numbers};
 
 use crate::block::Block;
-use crate::settle::{front, pack, pack_bits, settle};
-use crate::words::{are_mixed_bits, behind_bit, low_bits, stretch_end};
+use crate::changes::{are_all_narrow, are_narrow_mixed};
+use crate::settle::{front, narrow_front, pack, pack_bits, pack_narrow, settle};
+use crate::words::{are_mixed_bits, behind_bit, lower_bits, stretch_end};
 use std::alloc::AllocError;
 use std::marker::Model;
 
@@ -178,6 +179,74 @@ impl RunWriter {
         self.push_others(out, numbers)
     }
 
+    // Numbers of at most eight bits one after another, not all of which are equal.
+    fn push_narrow_others(&mut self, out: &mut Vec<u8>, numbers: &[u8]) -> Result<(), AllocError>
+        requires low { All (λ v. v < 2 ^ self.old.width) numbers.now }
+        ensures width { self.new.width ≡ self.old.width }
+        ensures added { OnOk result ((start xs : List ℕ) → Keeps start out.old.items self.old xs → Keeps start out.new.items self.new (xs ++ numbers.now)) }
+        ensures kept { Extends out.old.items out.new.items }
+    {
+        for number in numbers {
+            self.push_some(out, u32::from(*number), 1)?;
+        }
+        Ok(())
+    }
+
+    // Numbers of at most eight bits in many short stretches, which are packed as they stand. The last one waits.
+    fn push_narrow_mixed(&mut self, out: &mut Vec<u8>, numbers: &[u8]) -> Result<(), AllocError>
+        requires low { All (λ v. v < 2 ^ self.old.width) numbers.now }
+        requires some { 1 ≤ length numbers.now }
+        requires few { length numbers.now ≤ 504 }
+        requires mixed { length numbers.now + 34 ≤ 14 * stretches numbers.now }
+        ensures width { self.new.width ≡ self.old.width }
+        ensures added { OnOk result ((start xs : List ℕ) → Keeps start out.old.items self.old xs → Keeps start out.new.items self.new (xs ++ numbers.now)) }
+        ensures kept { Extends out.old.items out.new.items }
+    {
+        let rest = numbers.len() - 1;
+        let settled = settle(out, &mut self.block, self.number, self.count, self.width);
+        if settled.is_err() {
+            self.block.clear();
+            return settled;
+        }
+        let packed = pack_narrow(
+            out,
+            &mut self.block,
+            narrow_front(numbers, rest),
+            self.width,
+        );
+        if packed.is_err() {
+            self.block.clear();
+            return packed;
+        }
+        self.number = u32::from(numbers[rest]);
+        self.count = 1;
+        Ok(())
+    }
+
+    /// Takes numbers of at most eight bits one after another.
+    ///
+    /// # Errors
+    ///
+    /// Want of memory; the writer is then of no more use, and `out` has what it had in front.
+    pub fn push_bytes(&mut self, out: &mut Vec<u8>, numbers: &[u8]) -> Result<(), AllocError>
+        requires low { All (λ v. v < 2 ^ self.old.width) numbers.now }
+        ensures width { self.new.width ≡ self.old.width }
+        ensures added { OnOk result ((start xs : List ℕ) → Keeps start out.old.items self.old xs → Keeps start out.new.items self.new (xs ++ numbers.now)) }
+        ensures kept { Extends out.old.items out.new.items }
+    {
+        if numbers.is_empty() {
+            return Ok(());
+        }
+        let first = numbers[0];
+        if are_narrow_mixed(numbers, first) {
+            return self.push_narrow_mixed(out, numbers);
+        }
+        if are_all_narrow(numbers, first) {
+            return self.push(out, u32::from(first), numbers.len());
+        }
+        self.push_narrow_others(out, numbers)
+    }
+
     // The same where one number waits that the word could tell too: it is packed before the others.
     #[inline(always)]
     fn push_behind_one(
@@ -201,7 +270,7 @@ impl RunWriter {
         let _width = &self.width;
         let rest = count - 1;
         let last = low + ((word >> rest) & 1) as u32;
-        let bits = behind_bit(low_bits(word, rest), self.number - low, rest);
+        let bits = behind_bit(lower_bits(word, rest), self.number - low, rest);
         let packed = pack_bits(out, &mut self.block, low, bits, count, self.width);
         if packed.is_err() {
             self.block.clear();
@@ -231,7 +300,7 @@ impl RunWriter {
     {
         let _width = &self.width;
         let rest = count - 1;
-        let front = low_bits(word, rest);
+        let front = lower_bits(word, rest);
         let last = low + ((word >> rest) & 1) as u32;
         let settled = settle(out, &mut self.block, self.number, self.count, self.width);
         if settled.is_err() {

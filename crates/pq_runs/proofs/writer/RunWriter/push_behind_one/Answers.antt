@@ -23,14 +23,14 @@ overflow_add-last c =
     record { fits = omega (arith, small, e, bits) }
 
 pub behind_bit-bits-requires-clause-low : goal.behind_bit-bits-requires-clause-low
-behind_bit-bits-requires-clause-low c = subst (λ (x : ℕ). x < 2 ^ (c.args.count - 1)) (sym c.low_bits.ensures) (mod_below c.args.word (2 ^ (c.args.count - 1)) (pow_pos (c.args.count - 1)))
+behind_bit-bits-requires-clause-low c = subst (λ (x : ℕ). x < 2 ^ (c.args.count - 1)) (sym c.lower_bits.ensures) (mod_below c.args.word (2 ^ (c.args.count - 1)) (pow_pos (c.args.count - 1)))
 
 pub pack_bits-packed-requires-clause-numbers : goal.pack_bits-packed-requires-clause-numbers
 pack_bits-packed-requires-clause-numbers c =
     let below = subst (λ (w : ℕ). All (λ v. v < 2 ^ w) (bit_numbers c.args.low c.args.word 0 c.args.count)) (sym (ap (λ (r : Waiting). r.width) c.self.view_is)) c.requires.low in
     let same : c.self.inside.number ≡ c.args.self.now.number = ap (λ (r : Waiting). r.number) c.self.view_is in
-    let behind = behind_one c.args.low c.low_bits.result c.args.count c.behind_bit-bits.result c.self.inside.number c.requires.some (omega (arith, same, c.requires.least)) (omega (arith, same, c.requires.near)) c.behind_bit-bits.ensures.value in
-    behind-below c.args.low c.low_bits.result c.args.count c.behind_bit-bits.result c.self.inside.number c.self.inside.width c.self.invariant.fits behind (front-below c.args.low c.args.word (c.args.count - 1) c.args.count c.self.inside.width c.low_bits.result (omega arith) c.low_bits.ensures below)
+    let behind = behind_one c.args.low c.lower_bits.result c.args.count c.behind_bit-bits.result c.self.inside.number c.requires.some (omega (arith, same, c.requires.least)) (omega (arith, same, c.requires.near)) c.behind_bit-bits.ensures.value in
+    behind-below c.args.low c.lower_bits.result c.args.count c.behind_bit-bits.result c.self.inside.number c.self.inside.width c.self.invariant.fits behind (front-below c.args.low c.args.word (c.args.count - 1) c.args.count c.self.inside.width c.lower_bits.result (omega arith) c.lower_bits.ensures below)
 
 pub invariant_of-self-2 : goal.invariant_of-self-2
 invariant_of-self-2 c =
@@ -50,13 +50,13 @@ pub returns-clause-added : goal.returns-clause-added
 returns-clause-added c =
     let rest : ℕ = c.args.count - 1 in
     let all = bit_numbers c.args.low c.args.word 0 c.args.count in
-    let front = bit_numbers c.args.low c.low_bits.result 0 rest in
+    let front = bit_numbers c.args.low c.lower_bits.result 0 rest in
     let last : ℕ = c.args.low + bit_and (c.args.word / 2 ^ rest) 1 in
     let number : last ≡ c.args.low + bit_at c.args.word rest = ap (λ (b : ℕ). c.args.low + b) (shr_and_one c.args.word rest) in
-    let e : all ≡ front ++ last ∷ [] = numbers-last c.args.low c.args.word c.args.count last c.requires.some number ∙ ap (λ (w : ℕ). bit_numbers c.args.low w 0 rest ++ last ∷ []) (sym c.low_bits.ensures) in
+    let e : all ≡ front ++ last ∷ [] = numbers-last c.args.low c.args.word c.args.count last c.requires.some number ∙ ap (λ (w : ℕ). bit_numbers c.args.low w 0 rest ++ last ∷ []) (sym c.lower_bits.ensures) in
     let mixed : length all + 34 ≤ 14 * stretches all = omega (arith, c.requires.mixed, length-bit_numbers c.args.low c.args.word 0 c.args.count) in
     let same : c.self.inside.number ≡ c.args.self.now.number = ap (λ (r : Waiting). r.number) c.self.view_is in
-    let behind = behind_one c.args.low c.low_bits.result c.args.count c.behind_bit-bits.result c.self.inside.number c.requires.some (omega (arith, same, c.requires.least)) (omega (arith, same, c.requires.near)) c.behind_bit-bits.ensures.value in
+    let behind = behind_one c.args.low c.lower_bits.result c.args.count c.behind_bit-bits.result c.self.inside.number c.requires.some (omega (arith, same, c.requires.least)) (omega (arith, same, c.requires.near)) c.behind_bit-bits.ensures.value in
     let old = c.args.out.now.items in
     let new = c.pack_bits-packed.new.out.items in
     let block = c.self.inside.block in

@@ -23,7 +23,7 @@ overflow_add-last c =
 pub pack_bits-packed-requires-clause-numbers : goal.pack_bits-packed-requires-clause-numbers
 pack_bits-packed-requires-clause-numbers c =
     let below = subst (λ (w : ℕ). All (λ v. v < 2 ^ w) (bit_numbers c.args.low c.args.word 0 c.args.count)) (sym (ap (λ (r : Waiting). r.width) c.self.view_is)) c.requires.low in
-    front-below c.args.low c.args.word (c.args.count - 1) c.args.count c.self.inside.width c.low_bits-front.result (omega arith) c.low_bits-front.ensures below
+    front-below c.args.low c.args.word (c.args.count - 1) c.args.count c.self.inside.width c.lower_bits-front.result (omega arith) c.lower_bits-front.ensures below
 
 pub invariant_of-self-2 : goal.invariant_of-self-2
 invariant_of-self-2 c =
@@ -43,10 +43,10 @@ pub returns-clause-added : goal.returns-clause-added
 returns-clause-added c =
     let rest : ℕ = c.args.count - 1 in
     let all = bit_numbers c.args.low c.args.word 0 c.args.count in
-    let front = bit_numbers c.args.low c.low_bits-front.result 0 rest in
+    let front = bit_numbers c.args.low c.lower_bits-front.result 0 rest in
     let last : ℕ = c.args.low + bit_and (c.args.word / 2 ^ rest) 1 in
     let number : last ≡ c.args.low + bit_at c.args.word rest = ap (λ (b : ℕ). c.args.low + b) (shr_and_one c.args.word rest) in
-    let e : all ≡ front ++ last ∷ [] = numbers-last c.args.low c.args.word c.args.count last c.requires.some number ∙ ap (λ (w : ℕ). bit_numbers c.args.low w 0 rest ++ last ∷ []) (sym c.low_bits-front.ensures) in
+    let e : all ≡ front ++ last ∷ [] = numbers-last c.args.low c.args.word c.args.count last c.requires.some number ∙ ap (λ (w : ℕ). bit_numbers c.args.low w 0 rest ++ last ∷ []) (sym c.lower_bits-front.ensures) in
     let mixed : length all + 34 ≤ 14 * stretches all = omega (arith, c.requires.mixed, length-bit_numbers c.args.low c.args.word 0 c.args.count) in
     λ start xs k.
     keeps_mixed start c.args.out.now.items c.settle-settled.new.out.items c.pack_bits-packed.new.out.items c.self.inside.width c.self.inside.block c.settle-settled.new.block c.pack_bits-packed.new.block c.self.inside.number c.self.inside.count last front all xs e mixed
