@@ -7,3 +7,5 @@ pub mod Texts
 pub mod Both
 pub mod Listed
 pub mod PlaneNumbers
+pub mod Bytes
+pub mod Full

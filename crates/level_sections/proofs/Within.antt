@@ -1,5 +1,5 @@
 -- No level passes its maximum.
-use Rattle.std.proofs.Common.{◌≡◌, ℕ, zero, suc, ◌+◌, ◌*◌, ◌<◌, ◌≤◌, Bool, true, false, cond, List, [], ◌∷◌, map, length, All, arith, sym, subst, get_or}
+use Rattle.std.proofs.Common.{◌≡◌, ℕ, zero, suc, ◌+◌, ◌*◌, ◌^◌, ◌<◌, ◌≤◌, Bool, true, false, cond, List, [], ◌∷◌, map, length, All, arith, sym, subst, get_or}
 use Rattle.std.proofs.lemmas.List.Elements.{All-append}
 use Rattle.shredding.specs.Parts.{Part, leaf_part, list_part, struct_part, is_present, item_start, item_count, slot_count, path_way, IsPath, FitTogether}
 use Rattle.shredding.specs.Shred.{up, max_repetition, max_definition}
@@ -8,7 +8,8 @@ use Rattle.levels.specs.Levels.{run, run_or, one_pair, slot_pairs, path_pairs, b
 use Rattle.levels.specs.declared.walk.Level.{Level}
 use Rattle.levels.specs.declared.walk.Level.TheVariants.{Repetition, Definition}
 use Rattle.levels.specs.Stretch.{level_of}
-use Rattle.level_sections.specs.Walk.{greatest}
+use Rattle.level_sections.specs.declared.walk.Above.{Above}
+use Rattle.level_sections.specs.Walk.{Holds, greatest, walked}
 
 -- ---- below 256
 
@@ -111,3 +112,22 @@ width-repetition parts w h few is = is.least 7 (omega (arith, most_repetition pa
 
 pub levels-most : (level : Level) (parts : List Part) (max : ℕ) → max ≡ greatest level parts → All (λ v. v ≤ max) (map (level_of level) (path_pairs parts))
 levels-most level parts max e = subst (λ (m : ℕ). All (λ v. v ≤ m) (map (level_of level) (path_pairs parts))) (sym e) (levels-below level parts)
+
+-- ---- the levels of a walk
+
+map-under : (r d most : ℕ) (f : ℕ × ℕ → ℕ) → ((p : ℕ × ℕ) → IsBelow r d p → f p < most) → (ps : List (ℕ × ℕ)) → All (IsBelow r d) ps → All (λ v. v < most) (map f ps)
+map-under r d most f g [] h = λ k e lt. absurd (omega (arith, lt))
+map-under r d most f g (p ∷ ps) h = All-append (λ v. v < most) (f p ∷ []) (map f ps) (one (f p) (g p (h 0 p (omega arith)))) (map-under r d most f g ps (λ i e' lt'. h (suc i) e' (omega (arith, lt'))))
+  where
+    one : (v : ℕ) → v < most → All (λ u. u < most) (v ∷ [])
+    one v le zero e lt = le
+    one v le (suc k) e lt = absurd (omega (arith, lt))
+
+slots-below : (parts : List Part) (above : Above) (place count : ℕ) → above.rep ≤ above.depth → All (IsBelow (above.depth + max_repetition (path_way parts)) (above.def + max_definition (path_way parts))) (run (slot_pairs parts above.def above.depth) above.rep above.depth place count)
+slots-below parts above place count first =
+    run-below _ _ (slot_pairs parts above.def above.depth) (λ rep i h. pairs-below _ _ parts above.def above.depth rep i h (omega arith) (omega arith)) above.rep above.depth place count (omega (arith, first)) (omega arith)
+
+-- a width that holds all levels of a path holds those of a walk
+pub walked-below : (level : Level) (parts : List Part) (above : Above) (place count width : ℕ) → above.rep ≤ above.depth → Holds level above (max_repetition (path_way parts)) (max_definition (path_way parts)) width → All (λ v. v < 2 ^ width) (walked level parts above place count)
+walked-below Repetition parts above place count width first holds = map-under _ _ (2 ^ width) (level_of Repetition) (λ p h. omega (arith, h.repetition, holds)) _ (slots-below parts above place count first)
+walked-below Definition parts above place count width first holds = map-under _ _ (2 ^ width) (level_of Definition) (λ p h. omega (arith, h.definition, holds)) _ (slots-below parts above place count first)

@@ -39,7 +39,7 @@ const NONE: Pending = Pending {
 // The place of the first item of list `i`, or behind all items, counted from the first offset.
 #[inline(always)]
 #[tactic(auto, using(levels::proofs::Rising::rising))]
-fn item_place<O: Offset>(offsets: &OffsetsBuffer<O>, i: usize) -> usize
+pub fn item_place<O: Offset>(offsets: &OffsetsBuffer<O>, i: usize) -> usize
     requires { i < length offsets.now }
     ensures start { result ≡ item_start offsets.now i }
     ensures within { result ≤ item_span offsets.now }

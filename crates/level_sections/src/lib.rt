@@ -4,11 +4,16 @@
 mod block;
 mod flat;
 mod items;
+mod level_bytes;
+mod list_stretch;
 mod lists;
 mod planes;
 mod prefix;
 mod section;
 mod sections;
+mod spans;
+mod tell;
+mod told_levels;
 mod walk;
 
 pub use flat::write_def_levels;

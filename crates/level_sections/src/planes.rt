@@ -177,7 +177,7 @@ pub fn with_others(pending: Pending, planes: BitPlanes) -> Pending
 
 // The number at a place.
 #[inline(always)]
-fn number_at(planes: BitPlanes, i: usize) -> u32
+pub fn number_at(planes: BitPlanes, i: usize) -> u32
     requires { i < 64 }
     ensures value { result ≡ plane_number planes i }
     ensures most { result ≤ 7 }

@@ -11,8 +11,12 @@ ghost use Rattle.levels.specs.declared.walk.Level.{Level};
 
 use crate::block::push_flat;
 use crate::items::{mixed_end, walk_items};
+use crate::level_bytes::LevelBytes;
 use crate::lists::walk_lists;
-use levels::{Level, ListNested, Nested, Stretch, has_lists, stretch_at};
+use crate::spans::{block_end, is_long_stretch};
+use crate::tell::tell_block;
+use crate::told_levels::push_told;
+use levels::{Level, ListNested, Nested, Stretch, has_lists, max_rep_level, stretch_at};
 use pq_runs::RunWriter;
 use std::alloc::AllocError;
 
@@ -39,7 +43,8 @@ pub enum Shape<'a> {
 }
 
 // How the levels of a path are told.
-fn shape_of(level: Level, parts: &[Nested]) -> Shape<'_>
+#[inline(always)]
+pub fn shape_of(level: Level, parts: &[Nested]) -> Shape<'_>
     ensures { IsShape level (parts_of parts.now) result }
 {
     let Some((part, rest)) = parts.split_first() else {
@@ -299,6 +304,96 @@ fn walk_lists_of_items(
     Ok(())
 }
 
+// The levels of some slots at a place, and the place behind them. Few pairs are told as bytes first, long stretches and long lists are not.
+#[cycle(walk)]
+fn walk_block(
+    out: &mut Vec<u8>,
+    writer: &mut RunWriter,
+    told: &mut LevelBytes,
+    level: Level,
+    parts: &[Nested],
+    above: Above,
+    place: usize,
+    to: usize,
+) -> Result<usize, AllocError>
+    requires well { IsPath (parts_of parts.now) }
+    requires some { place < to }
+    requires within { to ≤ slot_count (parts_of parts.now) }
+    requires low { IsLow above (length parts.now) }
+    requires holds { Holds level above (max_repetition (path_way (parts_of parts.now))) (max_definition (path_way (parts_of parts.now))) writer.old.width }
+    ensures width { writer.new.width ≡ writer.old.width }
+    ensures after { IfOk result (λ next. (place < next) × (next ≤ to)) }
+    ensures added { IfOk result (λ next. (start xs : List ℕ) → Keeps start out.old.items writer.old xs → Keeps start out.new.items writer.new (xs ++ walked level (parts_of parts.now) above place (next - place))) }
+    ensures kept { Extends out.old.items out.new.items }
+{
+    if is_long_stretch(parts, level, place, to) {
+        return step(out, writer, level, parts, above, place, to);
+    }
+    let next = block_end(parts, place, to);
+    if tell_block(told, level, parts, above, place, next) {
+        push_told(out, writer, told.as_slice())?;
+        return Ok(next);
+    }
+    walk_stretches(out, writer, level, parts, above, place, next)?;
+    Ok(next)
+}
+
+// The levels of lists above lists, some slots at once.
+#[cycle(walk)]
+fn walk_blocks(
+    out: &mut Vec<u8>,
+    writer: &mut RunWriter,
+    level: Level,
+    parts: &[Nested],
+    above: Above,
+    from: usize,
+    to: usize,
+) -> Result<(), AllocError>
+    requires well { IsPath (parts_of parts.now) }
+    requires ordered { from ≤ to }
+    requires within { to ≤ slot_count (parts_of parts.now) }
+    requires low { IsLow above (length parts.now) }
+    requires holds { Holds level above (max_repetition (path_way (parts_of parts.now))) (max_definition (path_way (parts_of parts.now))) writer.old.width }
+    ensures width { writer.new.width ≡ writer.old.width }
+    ensures added { OnOk result ((start xs : List ℕ) → Keeps start out.old.items writer.old xs → Keeps start out.new.items writer.new (xs ++ walked level (parts_of parts.now) above from (to - from))) }
+    ensures kept { Extends out.old.items out.new.items }
+{
+    let mut told = LevelBytes::new();
+    let mut place = from;
+    let mut front = above;
+    while place < to {
+        place = walk_block(out, writer, &mut told, level, parts, front, place, to)?;
+        front.rep = front.depth;
+    }
+    Ok(())
+}
+
+// The levels of a path of several parts: of lists above lists some slots at once, else stretch by stretch.
+#[cycle(walk)]
+fn walk_others(
+    out: &mut Vec<u8>,
+    writer: &mut RunWriter,
+    level: Level,
+    parts: &[Nested],
+    above: Above,
+    from: usize,
+    to: usize,
+) -> Result<(), AllocError>
+    requires well { IsPath (parts_of parts.now) }
+    requires ordered { from ≤ to }
+    requires within { to ≤ slot_count (parts_of parts.now) }
+    requires low { IsLow above (length parts.now) }
+    requires holds { Holds level above (max_repetition (path_way (parts_of parts.now))) (max_definition (path_way (parts_of parts.now))) writer.old.width }
+    ensures width { writer.new.width ≡ writer.old.width }
+    ensures added { OnOk result ((start xs : List ℕ) → Keeps start out.old.items writer.old xs → Keeps start out.new.items writer.new (xs ++ walked level (parts_of parts.now) above from (to - from))) }
+    ensures kept { Extends out.old.items out.new.items }
+{
+    if max_rep_level(parts) < 2 {
+        return walk_stretches(out, writer, level, parts, above, from, to);
+    }
+    walk_blocks(out, writer, level, parts, above, from, to)
+}
+
 // The levels of the slots from one place to another.
 #[cycle(walk)]
 pub fn walk(
@@ -324,6 +419,6 @@ pub fn walk(
         Shape::Lists(list) => walk_lists(out, writer, list, above, from, to),
         Shape::LargeLists(list) => walk_lists(out, writer, list, above, from, to),
         Shape::Items => walk_lists_of_items(out, writer, level, parts, above, from, to),
-        Shape::Stretches => walk_stretches(out, writer, level, parts, above, from, to),
+        Shape::Stretches => walk_others(out, writer, level, parts, above, from, to),
     }
 }
