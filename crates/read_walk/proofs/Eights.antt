@@ -1,8 +1,11 @@
 -- Packed numbers from a bit of the first byte on.
-use Rattle.std.proofs.Common.{◌≡◌, ℕ, zero, suc, ◌+◌, ◌-◌, ◌*◌, ◌/◌, ◌^◌, ◌<◌, ◌≤◌, List, [], ◌∷◌, ◌++◌, set, length, take, drop, refl, sym, ap, ◌∙◌, arith, append_assoc, ◌%◌}
+use Rattle.std.proofs.Common.{◌≡◌, ℕ, zero, suc, ◌+◌, ◌-◌, ◌*◌, ◌/◌, ◌^◌, ◌<◌, ◌≤◌, List, [], ◌∷◌, ◌++◌, set, length, take, drop, refl, sym, ap, ◌∙◌, arith, append_assoc, ◌%◌, replicate}
 use Rattle.std.proofs.Math.Nat.{add-mul-div_left, mul_assoc}
 use Rattle.std.proofs.lemmas.Nat.{pow-add, pow_pos, shr-shr}
-use Rattle.std.proofs.lemmas.List.{length-take, take-append-drop, take-append-le, take_all, length-drop}
+use Rattle.std.proofs.lemmas.List.{length-take, take-append-drop, take-append-le, take_all, length-drop, length-append}
+use Rattle.std.proofs.Math.Seq.{drop-append_seam}
+use Rattle.pq_numbers.proofs.Numbers.{number_stands}
+use Rattle.pq_runs.specs.Taking.{IsPackedRun}
 use lib.Lanes.{put_chunk}
 use Rattle.pq_numbers.specs.Bits.{digits_of}
 use Rattle.pq_numbers.specs.Texts.{number_of}
@@ -28,6 +31,45 @@ few-are w s n xs enough =
     let e : s + (w * n + r) ≡ 8 * length (take 8 xs) = omega (arith, enough) in
     let whole : number_of xs ≡ a + 2 ^ (s + (w * n + r)) * c = ap number_of (sym (take-append-drop 8 xs)) ∙ (number_of-append (take 8 xs) (drop 8 xs) ∙ ap (λ (j : ℕ). a + 2 ^ j * c) (sym e)) in
     sym (ap (λ (x : ℕ). digits_of (2 ^ w) n (x / 2 ^ s)) whole ∙ (ap (digits_of (2 ^ w) n) (high a c s (w * n + r)) ∙ digits-high w n (a / 2 ^ s) r c))
+
+-- what lies behind their bytes does not matter for the numbers in front
+pub front-are : (w n : ℕ) (xs ys : List ℕ) → w * n ≤ 8 * length xs → digits_of (2 ^ w) n (number_of (xs ++ ys) / 1) ≡ digits_of (2 ^ w) n (number_of xs / 1)
+front-are w n xs ys enough =
+    let r : ℕ = 8 * length xs - w * n in
+    let e : w * n + r ≡ 8 * length xs = omega (arith, enough) in
+    let a : number_of xs / 1 ≡ number_of xs = omega arith in
+    let b : number_of (xs ++ ys) / 1 ≡ number_of (xs ++ ys) = omega arith in
+    let whole : number_of (xs ++ ys) ≡ number_of xs + 2 ^ (w * n + r) * number_of ys = number_of-append xs ys ∙ ap (λ (j : ℕ). number_of xs + 2 ^ j * number_of ys) (sym e) in
+    rw (a, b) (ap (digits_of (2 ^ w) n) whole ∙ digits-high w n (number_of xs) r (number_of ys))
+
+-- a run's numbers, read from all bytes from its body on
+pub begins-whole : (w left copies number j : ℕ) (body rest : List ℕ) → w * j ≤ 8 * length body → items_of w left copies number j (number_of (body ++ rest) / 1) rest ≡ items_of w left copies number j (number_of body / 1) rest
+begins-whole w left copies number j body rest enough = ap (λ (xs : List ℕ). given (replicate copies number) ++ (given xs ++ runs_items (length rest) w (left - (copies + j)) rest)) (front-are w j body rest enough)
+
+pub are-both : (xs ys : List ℕ) → AreBytes xs → AreBytes ys → AreBytes (xs ++ ys)
+are-both [] ys a b = b
+are-both (x ∷ xs) ys a b = more (are-both xs ys (λ k. a (suc k)) b)
+  where
+    more : AreBytes (xs ++ ys) → AreBytes (x ∷ (xs ++ ys))
+    more rest zero = a 0
+    more rest (suc k) = rest k
+
+-- a run stands in the bytes with those behind it
+pub body-size : (w : ℕ) (bytes body rest : List ℕ) → IsPackedRun w bytes body rest → length body + length rest ≤ length bytes
+body-size w bytes body rest run =
+    let s = number_stands bytes _ run.tail run.head in
+    let both : body ++ rest ≡ run.tail = rw (run.is, run.behind) (take-append-drop (w * run.groups) run.tail) in
+    omega (arith, ap length s.1 ∙ length-append s.0 run.tail, ap length both, length-append body rest)
+
+-- the bytes from a run's body on
+pub body-on : (w : ℕ) (bytes body rest : List ℕ) → IsPackedRun w bytes body rest → drop (length bytes - length rest - length body) bytes ≡ body ++ rest
+body-on w bytes body rest run =
+    let s = number_stands bytes _ run.tail run.head in
+    let both : body ++ rest ≡ run.tail = rw (run.is, run.behind) (take-append-drop (w * run.groups) run.tail) in
+    let whole : bytes ≡ s.0 ++ (body ++ rest) = s.1 ∙ ap (λ (t : List ℕ). s.0 ++ t) (sym both) in
+    let size : length bytes ≡ length s.0 + (length body + length rest) = ap length whole ∙ (length-append s.0 (body ++ rest) ∙ ap (λ (k : ℕ). length s.0 + k) (length-append body rest)) in
+    let place : length bytes - length rest - length body ≡ length s.0 = omega (arith, size) in
+    ap (λ (k : ℕ). drop k bytes) place ∙ (ap (λ (t : List ℕ). drop (length s.0) t) whole ∙ drop-append_seam s.0 (body ++ rest))
 
 -- the bits behind so many numbers
 pub behind : (w s n : ℕ) (xs : List ℕ) → AreBytes xs → number_of xs / 2 ^ s / 2 ^ (w * n) ≡ number_of (drop ((s + w * n) / 8) xs) / 2 ^ ((s + w * n) % 8)

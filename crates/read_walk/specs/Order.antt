@@ -34,6 +34,10 @@ abbrev pub EndedAt : Option ℕ → List Kept → Type 0
 EndedAt None ks = Unit {0}
 EndedAt (Some level) ks = Ended level 0 ks
 
+-- the greatest levels of a way, and the definition level from which pairs lie inside its innermost list
+abbrev pub AreLevels : Way → ℕ → ℕ → ℕ → Type 0
+AreLevels w lists top floor = (lists ≡ max_repetition w) × (top ≡ max_definition w) × (floor ≡ inside w lists) × (floor ≤ top)
+
 -- ---- what is wrong with a pair
 
 -- a level is above its greatest

@@ -3,16 +3,16 @@ ghost use Rattle.std.specs.Prelude.{◌≡◌, ◌⊎◌, ℕ, ◌*◌, ◌<◌,
 ghost use Rattle.read_laws.specs.State.{kept_way, leaf_count, StateFits};
 ghost use Rattle.read_state.specs.Ticks.{TicksAtMost};
 ghost use Rattle.read_walk.specs.Blocks.{TookBlock, CannotTake};
-ghost use Rattle.read_walk.specs.Order.{zipped, last_level, Follows, EndedAt, OneMayNot};
+ghost use Rattle.read_walk.specs.Order.{zipped, last_level, Follows, EndedAt, OneMayNot, AreLevels};
 ghost use Rattle.read_walk.specs.Walk.{Extends, Refuses};
 ghost use Rattle.read_walk.specs.Pairs.{TakesBlock, rows_in};
 ghost use Rattle.read_walk.specs.Steps.{TakesStep, CannotStep};
 ghost use Rattle.read_walk.specs.Ticks.{TicksEach};
 
 use crate::block::PairBlock;
-use crate::order::{check_copies, check_order};
+use crate::order::{WayLevels, check_copies, check_pairs, way_levels};
 use crate::page::NestedPage;
-use crate::take::{take_block, take_copies};
+use crate::take::{take_copies, take_pairs};
 use crate::traits::NestedDecoder;
 use columns_base::Result;
 use read_state::{NestedState, Steps};
@@ -24,11 +24,13 @@ fn walk_block<'a, D: NestedDecoder<'a>, L: Ledger>(
     nested: &mut NestedState,
     decoded: &mut D::DecodedState,
     decoder: &D,
+    levels: WayLevels,
     before: Option<usize>,
     reps: &[u32],
     defs: &[u32],
     steps: &mut Steps<L>,
 ) -> Result<()>
+    requires levels { AreLevels (kept_way nested.old) levels.lists levels.top levels.floor }
     requires reps { length reps.now ≤ 64 }
     requires defs { length defs.now ≡ length reps.now }
     requires fits { StateFits nested.old }
@@ -38,8 +40,10 @@ fn walk_block<'a, D: NestedDecoder<'a>, L: Ledger>(
     ensures err { IfErr result (λ e. OneMayNot (kept_way nested.old) before (zipped reps.now defs.now) e ⊎ CannotTake D.byte_limit reps.now defs.now nested.old (D.left decoder.now values.old) (D.slots decoded.old) e) }
     ensures ticked { TicksAtMost (length nested.old) steps.old steps.new }
 {
-    match check_order(nested, before, reps, defs) {
-        Ok(()) => take_block(values, nested, decoded, decoder, before, reps, defs, steps),
+    match check_pairs(nested, levels, before, reps, defs) {
+        Ok(()) => take_pairs(
+            values, nested, decoded, decoder, levels, before, reps, defs, steps,
+        ),
         Err(error) => Err(error),
     }
 }
@@ -61,12 +65,14 @@ fn walk_copies<'a, D: NestedDecoder<'a>, L: Ledger>(
     nested: &mut NestedState,
     decoded: &mut D::DecodedState,
     decoder: &D,
+    levels: WayLevels,
     before: Option<usize>,
     rep: usize,
     level: usize,
     count: usize,
     steps: &mut Steps<L>,
 ) -> Result<()>
+    requires levels { AreLevels (kept_way nested.old) levels.lists levels.top levels.floor }
     requires some { 0 < count }
     requires few { count ≤ 2 ^ 31 }
     requires fits { StateFits nested.old }
@@ -76,9 +82,9 @@ fn walk_copies<'a, D: NestedDecoder<'a>, L: Ledger>(
     ensures err { IfErr result (λ e. OneMayNot (kept_way nested.old) before (zipped (replicate count rep) (replicate count level)) e ⊎ CannotTake D.byte_limit (replicate count rep) (replicate count level) nested.old (D.left decoder.now values.old) (D.slots decoded.old) e) }
     ensures ticked { TicksAtMost (length nested.old) steps.old steps.new }
 {
-    match check_copies(nested, before, rep, level, count) {
+    match check_copies(nested, levels, before, rep, level, count) {
         Ok(()) => take_copies(
-            values, nested, decoded, decoder, before, rep, level, count, steps,
+            values, nested, decoded, decoder, levels, before, rep, level, count, steps,
         ),
         Err(error) => Err(error),
     }
@@ -98,11 +104,13 @@ fn step_block<'a, 'b, D: NestedDecoder<'b>, L: Ledger>(
     nested: &mut NestedState,
     decoded: &mut D::DecodedState,
     decoder: &D,
+    levels: WayLevels,
     block: &mut PairBlock,
     before: &mut Option<usize>,
     rows: &mut usize,
     steps: &mut Steps<L>,
 ) -> Result<bool>
+    requires levels { AreLevels (kept_way nested.old) levels.lists levels.top levels.floor }
     requires fits { StateFits nested.old }
     requires ended { EndedAt before.old nested.old }
     requires decoded { length (D.slots decoded.old) ≡ leaf_count nested.old }
@@ -121,6 +129,7 @@ fn step_block<'a, 'b, D: NestedDecoder<'b>, L: Ledger>(
         nested,
         decoded,
         decoder,
+        levels,
         *before,
         block.reps(),
         block.defs(),
@@ -141,11 +150,13 @@ fn step_pairs<'a, 'b, D: NestedDecoder<'b>, L: Ledger>(
     nested: &mut NestedState,
     decoded: &mut D::DecodedState,
     decoder: &D,
+    levels: WayLevels,
     block: &mut PairBlock,
     before: &mut Option<usize>,
     rows: &mut usize,
     steps: &mut Steps<L>,
 ) -> Result<bool>
+    requires levels { AreLevels (kept_way nested.old) levels.lists levels.top levels.floor }
     requires fits { StateFits nested.old }
     requires ended { EndedAt before.old nested.old }
     requires decoded { length (D.slots decoded.old) ≡ leaf_count nested.old }
@@ -156,11 +167,11 @@ fn step_pairs<'a, 'b, D: NestedDecoder<'b>, L: Ledger>(
 {
     let Some((rep, level, count)) = page.next_copies(*rows) else {
         return step_block(
-            page, values, nested, decoded, decoder, block, before, rows, steps,
+            page, values, nested, decoded, decoder, levels, block, before, rows, steps,
         );
     };
     match walk_copies(
-        values, nested, decoded, decoder, *before, rep, level, count, steps,
+        values, nested, decoded, decoder, levels, *before, rep, level, count, steps,
     ) {
         Ok(()) => {}
         Err(error) => return Err(error),
@@ -198,6 +209,7 @@ pub fn extend_levels<'a, 'b, D: NestedDecoder<'b>, L: Ledger>(
     let mut block = PairBlock::new();
     let mut rows = additional;
     let mut before = None;
+    let levels = way_levels(nested);
     'pairs: loop {
         match step_pairs(
             page,
@@ -205,6 +217,7 @@ pub fn extend_levels<'a, 'b, D: NestedDecoder<'b>, L: Ledger>(
             nested,
             decoded,
             decoder,
+            levels,
             &mut block,
             &mut before,
             &mut rows,

@@ -4,11 +4,31 @@ ghost use Rattle.std.specs.Int.{bit_at};
 ghost use Rattle.shredding.specs.Shred.{max_definition, max_repetition};
 ghost use Rattle.shredding.specs.Local.{inside};
 ghost use Rattle.read_laws.specs.State.{kept_way};
-ghost use Rattle.read_walk.specs.Order.{zipped, Follows, MayCome, WhyNot, OneMayNot, PlainlyFollow, IsInside, level_before, MayComeAt};
+ghost use Rattle.read_walk.specs.Order.{zipped, Follows, MayCome, WhyNot, OneMayNot, PlainlyFollow, IsInside, level_before, MayComeAt, AreLevels};
 
 use crate::folds::{all_bits, are_from, are_within};
 use columns_base::{Error, Result, S};
 use read_state::{NestedState, levels_at, levels_from};
+
+/// The greatest levels of the way to a leaf, and the definition level from which pairs lie inside its innermost list.
+#[derive(Clone, Copy, Drop)]
+pub struct WayLevels {
+    pub lists: usize,
+    pub top: usize,
+    pub floor: usize,
+}
+
+/// Those of a state's way.
+pub fn way_levels(nested: &NestedState) -> WayLevels
+    ensures { AreLevels (kept_way nested.now) result.lists result.top result.floor }
+{
+    let lists = nested.max_repetition();
+    WayLevels {
+        lists,
+        top: nested.max_definition(),
+        floor: nested.inside(lists),
+    }
+}
 
 // Whether a pair that repeats and the one before it lie inside the list that it repeats in.
 fn check_repeated(nested: &NestedState, before: usize, rep: usize, level: usize) -> Result<()>
@@ -97,18 +117,18 @@ fn check_each(
 /// As `check_order`.
 pub fn check_copies(
     nested: &NestedState,
+    levels: WayLevels,
     before: Option<usize>,
     rep: usize,
     level: usize,
     count: usize,
 ) -> Result<()>
+    requires levels { AreLevels (kept_way nested.now) levels.lists levels.top levels.floor }
     requires some { 0 < count }
     ensures ok { OnOk result (Follows (kept_way nested.now) before (zipped (replicate count rep) (replicate count level))) }
     ensures err { IfErr result (OneMayNot (kept_way nested.now) before (zipped (replicate count rep) (replicate count level))) }
 {
-    let lists = nested.max_repetition();
-    let top = nested.max_definition();
-    let floor = nested.inside(lists);
+    let (lists, top, floor) = (levels.lists, levels.top, levels.floor);
     match check_pair(nested, before, rep, level, lists, top, floor) {
         Ok(()) => {}
         Err(error) => return Err(error),
@@ -255,6 +275,34 @@ fn plainly_follow(
     are_from(defs, floor) && reaches(before, floor)
 }
 
+/// Whether the pairs may come behind one of the definition level `before`, one after another, by the levels of the way.
+///
+/// # Errors
+///
+/// As `check_order`.
+pub fn check_pairs(
+    nested: &NestedState,
+    levels: WayLevels,
+    before: Option<usize>,
+    reps: &[u32],
+    defs: &[u32],
+) -> Result<()>
+    requires levels { AreLevels (kept_way nested.now) levels.lists levels.top levels.floor }
+    requires defs { length defs.now ≡ length reps.now }
+    ensures ok { OnOk result (Follows (kept_way nested.now) before (zipped reps.now defs.now)) }
+    ensures err { IfErr result (OneMayNot (kept_way nested.now) before (zipped reps.now defs.now)) }
+{
+    let (lists, top, floor) = (levels.lists, levels.top, levels.floor);
+    if reps.len() == 64 && 0 < lists && lists < 0x1_0000_0000 {
+        if may_follow(nested, before, reps, defs, lists, top, floor) {
+            return Ok(());
+        }
+    } else if plainly_follow(before, reps, defs, lists, top, floor) {
+        return Ok(());
+    }
+    check_each(nested, before, reps, defs, lists, top, floor)
+}
+
 /// Whether the pairs may come behind one of the definition level `before`, one after another.
 ///
 /// # Errors
@@ -271,15 +319,5 @@ pub fn check_order(
     ensures ok { OnOk result (Follows (kept_way nested.now) before (zipped reps.now defs.now)) }
     ensures err { IfErr result (OneMayNot (kept_way nested.now) before (zipped reps.now defs.now)) }
 {
-    let lists = nested.max_repetition();
-    let top = nested.max_definition();
-    let floor = nested.inside(lists);
-    if reps.len() == 64 && lists < 0x1_0000_0000 {
-        if may_follow(nested, before, reps, defs, lists, top, floor) {
-            return Ok(());
-        }
-    } else if plainly_follow(before, reps, defs, lists, top, floor) {
-        return Ok(());
-    }
-    check_each(nested, before, reps, defs, lists, top, floor)
+    check_pairs(nested, way_levels(nested), before, reps, defs)
 }

@@ -45,7 +45,11 @@ fn standing_in(body: &[u8], width: u32, left: usize) -> usize
     requires { 0 < width }
     ensures { result ≡ min left (8 * length body.now / width) }
 {
-    let all = 8 * body.len() as u128 / u128::from(width);
+    let there = body.len();
+    if there < 0x1_0000_0000 {
+        return left.min(8 * there / width as usize);
+    }
+    let all = 8 * there as u128 / u128::from(width);
     if all < left as u128 {
         all as usize
     } else {
@@ -82,6 +86,14 @@ fn begin_copies<'a>(levels: &mut LevelRuns<'a>, value: &'a [u8], count: usize, r
     levels.runs.values = rest;
 }
 
+// The bytes from the body of a run of packed numbers on, those behind it too: eight at a time can then be read of nearly all of them.
+fn from_body<'a>(bytes: &'a [u8], width: u32, body: &'a [u8], rest: &'a [u8]) -> &'a [u8]
+    requires { IsPackedRun width bytes.now body.now rest.now }
+    ensures { result.now ≡ body.now ++ rest.now }
+{
+    skip(bytes, bytes.len() - rest.len() - body.len())
+}
+
 // Begins a run of packed numbers.
 fn begin_packed<'a>(levels: &mut LevelRuns<'a>, body: &'a [u8], rest: &'a [u8])
     requires is { IsReading levels.old }
@@ -94,7 +106,7 @@ fn begin_packed<'a>(levels: &mut LevelRuns<'a>, body: &'a [u8], rest: &'a [u8])
     ensures bytes { levels.new.runs.values.now ≡ rest.now }
 {
     levels.standing = standing_in(body, levels.runs.num_bits, levels.left);
-    levels.packed = body;
+    levels.packed = from_body(levels.runs.values, levels.runs.num_bits, body, rest);
     levels.shift = 0;
     levels.runs.values = rest;
 }

@@ -1,6 +1,7 @@
-use Rattle.std.proofs.Common.{◌≡◌, ℕ, ◌≤◌, inl, inr, length, replicate, sym, ◌∙◌, arith}
+use Rattle.std.proofs.Common.{◌≡◌, ℕ, ◌≤◌, inl, inr, length, replicate, sym, ◌∙◌, ap, arith}
 use Rattle.std.proofs.lemmas.List.{length-replicate}
 use Rattle.std.proofs.lemmas.Result.{IfErr-weaker}
+use Rattle.shredding.specs.Local.{inside}
 use Rattle.shredding.specs.Shred.{max_definition}
 use Rattle.read_laws.specs.Column.{slot_of}
 use Rattle.read_laws.specs.State.{kept_way}
@@ -23,7 +24,7 @@ push_equal-requires-clause-fits g c = all-fit c.args.count c.args.before (replic
 
 pub returns-in-Ok-clause-ok : goal.returns-in-Ok-clause-ok
 returns-in-Ok-clause-ok g c =
-    both_ok c.push_equal.result (λ made short. took-block c.args.count c.args.before c.leaf_levels-floor.result.0 c.leaf_levels-floor.result.1 (replicate c.args.count c.args.rep) (replicate c.args.count c.args.level) c.args.nested.now c.push_equal.new.self (g.D.NestedDecoder.slots c.args.decoded.now) (g.D.NestedDecoder.slots c.decode_copies.new.decoded) (g.D.NestedDecoder.left c.args.decoder.now c.args.values.now) (g.D.NestedDecoder.left c.args.decoder.now c.decode_copies.new.values) (enough c.args.count c.args.rep) (same-size c.args.count c.args.rep c.args.level) c.requires.fits c.requires.follow c.requires.ended c.requires.decoded c.leaf_levels-floor.ensures.floor c.leaf_levels-floor.ensures.top made short c.in-Ok.ensures.ok) c.push_equal.ensures.ok c.push_equal.ensures.counted
+    both_ok c.push_equal.result (λ made short. took-block c.args.count c.args.before c.args.levels.floor c.args.levels.top (replicate c.args.count c.args.rep) (replicate c.args.count c.args.level) c.args.nested.now c.push_equal.new.self (g.D.NestedDecoder.slots c.args.decoded.now) (g.D.NestedDecoder.slots c.decode_copies.new.decoded) (g.D.NestedDecoder.left c.args.decoder.now c.args.values.now) (g.D.NestedDecoder.left c.args.decoder.now c.decode_copies.new.values) (enough c.args.count c.args.rep) (same-size c.args.count c.args.rep c.args.level) c.requires.fits c.requires.follow c.requires.ended c.requires.decoded (c.requires.levels.2 ∙ ap (inside (kept_way c.args.nested.now)) c.requires.levels.0) c.requires.levels.1 made short c.in-Ok.ensures.ok) c.push_equal.ensures.ok c.push_equal.ensures.counted
 
 pub returns-in-Ok-clause-err : goal.returns-in-Ok-clause-err
 returns-in-Ok-clause-err g c =
@@ -36,7 +37,7 @@ returns-in-Ok-clause-err g c =
       values = given d.gives;
       rest = g.D.NestedDecoder.left c.args.decoder.now c.decode_copies.new.values;
       next = d.values;
-      size = rw (← c.leaf_levels-floor.ensures.top) (given-called c.leaf_levels-floor.result.0 c.leaf_levels-floor.result.1 (length slots) (slot_of (g.D.NestedDecoder.slots c.decode_copies.new.decoded)) (replicate c.args.count c.args.level) d.gives d.each);
+      size = rw (← c.requires.levels.1) (given-called c.args.levels.floor c.args.levels.top (length slots) (slot_of (g.D.NestedDecoder.slots c.decode_copies.new.decoded)) (replicate c.args.count c.args.level) d.gives d.each);
     } in
     IfErr-weaker c.push_equal.result _ (CannotTake most (replicate c.args.count c.args.rep) (replicate c.args.count c.args.level) c.args.nested.now left slots) (λ e h. elim h [
       | inl memory ↦ inr (inl memory)
@@ -44,4 +45,4 @@ returns-in-Ok-clause-err g c =
     ]) c.push_equal.ensures.err
 
 pub returns-in-Err-clause-err : goal.returns-in-Err-clause-err
-returns-in-Err-clause-err g c = inr (rw c.leaf_levels-floor.ensures.top at c.in-Err.ensures.err)
+returns-in-Err-clause-err g c = inr (rw c.requires.levels.1 at c.in-Err.ensures.err)

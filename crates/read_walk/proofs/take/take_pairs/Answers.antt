@@ -1,5 +1,6 @@
-use Rattle.std.proofs.Common.{inl, inr, length}
+use Rattle.std.proofs.Common.{inl, inr, length, ap, ◌∙◌}
 use Rattle.std.proofs.lemmas.Result.{IfErr-weaker}
+use Rattle.shredding.specs.Local.{inside}
 use Rattle.shredding.specs.Shred.{max_definition}
 use Rattle.read_laws.specs.Column.{slot_of}
 use Rattle.read_laws.specs.State.{kept_way}
@@ -9,14 +10,14 @@ use Rattle.read_walk.specs.Blocks.{CannotTake}
 use Rattle.pq_runs.proofs.Kept.{both_ok}
 use Rattle.read_walk.proofs.BlocksTaken.{took-block, all-fit, long-walk}
 use Rattle.read_walk.proofs.Walking.{given-called}
-use Rattle.read_walk.proofs.take.take_block.Goals as goal
+use Rattle.read_walk.proofs.take.take_pairs.Goals as goal
 
 pub push_levels-requires-clause-fits : goal.push_levels-requires-clause-fits
 push_levels-requires-clause-fits g c = all-fit 64 c.args.before c.args.reps.now c.args.defs.now c.args.nested.now c.requires.defs c.requires.reps c.requires.fits c.requires.follow c.requires.ended
 
 pub returns-in-Ok-clause-ok : goal.returns-in-Ok-clause-ok
 returns-in-Ok-clause-ok g c =
-    both_ok c.push_levels.result (λ made short. took-block 64 c.args.before c.leaf_levels-floor.result.0 c.leaf_levels-floor.result.1 c.args.reps.now c.args.defs.now c.args.nested.now c.push_levels.new.self (g.D.NestedDecoder.slots c.args.decoded.now) (g.D.NestedDecoder.slots c.decode_levels.new.decoded) (g.D.NestedDecoder.left c.args.decoder.now c.args.values.now) (g.D.NestedDecoder.left c.args.decoder.now c.decode_levels.new.values) c.requires.reps c.requires.defs c.requires.fits c.requires.follow c.requires.ended c.requires.decoded c.leaf_levels-floor.ensures.floor c.leaf_levels-floor.ensures.top made short c.in-Ok.ensures.ok) c.push_levels.ensures.ok c.push_levels.ensures.counted
+    both_ok c.push_levels.result (λ made short. took-block 64 c.args.before c.args.levels.floor c.args.levels.top c.args.reps.now c.args.defs.now c.args.nested.now c.push_levels.new.self (g.D.NestedDecoder.slots c.args.decoded.now) (g.D.NestedDecoder.slots c.decode_levels.new.decoded) (g.D.NestedDecoder.left c.args.decoder.now c.args.values.now) (g.D.NestedDecoder.left c.args.decoder.now c.decode_levels.new.values) c.requires.reps c.requires.defs c.requires.fits c.requires.follow c.requires.ended c.requires.decoded (c.requires.levels.2 ∙ ap (inside (kept_way c.args.nested.now)) c.requires.levels.0) c.requires.levels.1 made short c.in-Ok.ensures.ok) c.push_levels.ensures.ok c.push_levels.ensures.counted
 
 pub returns-in-Ok-clause-err : goal.returns-in-Ok-clause-err
 returns-in-Ok-clause-err g c =
@@ -29,7 +30,7 @@ returns-in-Ok-clause-err g c =
       values = given d.gives;
       rest = g.D.NestedDecoder.left c.args.decoder.now c.decode_levels.new.values;
       next = d.values;
-      size = rw (← c.leaf_levels-floor.ensures.top) (given-called c.leaf_levels-floor.result.0 c.leaf_levels-floor.result.1 (length slots) (slot_of (g.D.NestedDecoder.slots c.decode_levels.new.decoded)) c.args.defs.now d.gives d.each);
+      size = rw (← c.requires.levels.1) (given-called c.args.levels.floor c.args.levels.top (length slots) (slot_of (g.D.NestedDecoder.slots c.decode_levels.new.decoded)) c.args.defs.now d.gives d.each);
     } in
     IfErr-weaker c.push_levels.result _ (CannotTake most c.args.reps.now c.args.defs.now c.args.nested.now left slots) (λ e h. elim h [
       | inl memory ↦ inr (inl memory)
@@ -37,4 +38,4 @@ returns-in-Ok-clause-err g c =
     ]) c.push_levels.ensures.err
 
 pub returns-in-Err-clause-err : goal.returns-in-Err-clause-err
-returns-in-Err-clause-err g c = inr (rw c.leaf_levels-floor.ensures.top at c.in-Err.ensures.err)
+returns-in-Err-clause-err g c = inr (rw c.requires.levels.1 at c.in-Err.ensures.err)
