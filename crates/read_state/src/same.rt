@@ -7,12 +7,27 @@ use crate::boxes::NestedBox;
 use crate::kinds::Nested;
 use columns_core::MutableBitmap;
 
+// Whether as many lengths are the same: true only where they are. No length ends the loop, so that several are compared by one instruction.
+fn all_lengths(a: &[i64], b: &[i64]) -> bool
+    requires { length a.now ≡ length b.now }
+    ensures { IsTrue result → starts_of a.now ≡ starts_of b.now }
+{
+    let mut same = true;
+    for i in 0..a.len() {
+        same &= a[i].cast_unsigned() == b[i].cast_unsigned();
+    }
+    same
+}
+
 // Whether two lists keep the same lengths.
 fn same_lengths(a: &[i64], b: &[i64]) -> bool
     ensures { IsTrue result ↔ starts_of a.now ≡ starts_of b.now }
 {
     if a.len() != b.len() {
         return false;
+    }
+    if all_lengths(a, b) {
+        return true;
     }
     for i in 0..a.len() {
         if a[i].cast_unsigned() != b[i].cast_unsigned() {
@@ -38,13 +53,37 @@ fn agree(x: bool, y: bool) -> bool
     x == y
 }
 
+// Whether the first bytes are the same: true only where they are, as with lengths.
+fn all_bytes(a: &[u8], b: &[u8], count: usize) -> bool
+    requires left { count ≤ length a.now }
+    requires right { count ≤ length b.now }
+    ensures { IsTrue result → bits_from a.now 0 (8 * count) ≡ bits_from b.now 0 (8 * count) }
+{
+    let mut same = true;
+    for i in 0..count {
+        same &= a[i] == b[i];
+    }
+    same
+}
+
+// How many of the first bits are known to be the same, by whole bytes.
+fn known_bits(a: &[u8], b: &[u8], count: usize) -> usize
+    requires left { count ≤ 8 * length a.now }
+    requires right { count ≤ 8 * length b.now }
+    ensures within { result ≤ count }
+    ensures same { bits_from a.now 0 result ≡ bits_from b.now 0 result }
+{
+    let whole = count / 8;
+    if all_bytes(a, b, whole) { 8 * whole } else { 0 }
+}
+
 // Whether the first bits are the same.
 fn same_bits(a: &[u8], b: &[u8], count: usize) -> bool
     requires left { count ≤ 8 * length a.now }
     requires right { count ≤ 8 * length b.now }
     ensures { IsTrue result ↔ bits_from a.now 0 count ≡ bits_from b.now 0 count }
 {
-    for i in 0..count {
+    for i in known_bits(a, b, count)..count {
         if !agree(bit_in(a, i), bit_in(b, i)) {
             return false;
         }
