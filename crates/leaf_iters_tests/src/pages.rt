@@ -40,7 +40,14 @@ pub fn page(
     num_values: u8,
     body: &[u8],
 ) -> Result<DataPage> {
-    encoded(alloc, physical_type, is_nested, num_values, Form::Plain, body)
+    encoded(
+        alloc,
+        physical_type,
+        is_nested,
+        num_values,
+        Form::Plain,
+        body,
+    )
 }
 
 /// How the values of a page stand.
