@@ -210,7 +210,7 @@ four-bytes sum a b c d ha hb hc hd e =
     at_3 : slice_index (to_le_bytes w32 sum) 3 ≡ d
     at_3 = omega (arith, e, ha, hb, hc, hd)
 
-number-most : (planes : BitPlanes) (i : ℕ) → plane_number planes i ≤ 7
+pub number-most : (planes : BitPlanes) (i : ℕ) → plane_number planes i ≤ 7
 number-most planes i = omega (arith, bit-most planes.ones i, bit-most planes.twos i, bit-most planes.fours i)
 
 pub four-numbers : (planes : BitPlanes) (at sum : ℕ) → sum ≡ plane_number planes at + 256 * plane_number planes (at + 1) + 65536 * plane_number planes (at + 2) + 16777216 * plane_number planes (at + 3) → to_le_bytes w32 sum ≡ plane_numbers 0 planes at 4
@@ -230,6 +230,16 @@ four-more planes i before after bytes h e is =
     let n : 4 * (i + 1) ≡ 4 * i + 4 = omega arith in
     let z : 4 * i ≡ 0 + 4 * i = omega arith in
     rw n (e ∙ (ap (λ ys. ys ++ bytes) h ∙ (ap (λ ys. plane_numbers 0 planes 0 (4 * i) ++ ys) (is ∙ ap (λ p. plane_numbers 0 planes p 4) z) ∙ sym (planes-add 0 planes 0 (4 * i) 4))))
+
+-- no number has a highest bit
+pub no-four : (planes : BitPlanes) (i : ℕ) → planes.fours ≡ 0 → bit_at planes.fours i ≡ 0
+no-four planes i e = ap (λ w. bit_at w i) e ∙ bit_at-zero i
+
+-- the numbers of all places as bytes
+pub byte-at : (planes : BitPlanes) (bytes : List ℕ) (i : ℕ) → bytes ≡ plane_numbers 0 planes 0 64 → i < 64 → slice_index bytes i ≡ plane_number planes i
+byte-at planes bytes i e h =
+    let here : 0 + i ≡ i = omega arith in
+    ap (λ (ys : List ℕ). slice_index ys i) e ∙ (planes-at 0 planes 0 64 i h ∙ (ap (λ (k : ℕ). 0 + plane_number planes k) here ∙ omega arith))
 
 -- ---- the levels of slots that go on beneath where their bit is set
 

@@ -228,6 +228,31 @@ fn put_four(places: &mut [u8], at: usize, bytes: [u8; 4])
     places[at..at + 4].copy_from_slice(&bytes);
 }
 
+// Four numbers without a highest bit from a place on as four bytes, the first lowest.
+#[inline(always)]
+fn low_four_at(planes: BitPlanes, at: usize) -> u32
+    requires place { at < 64 }
+    requires low { planes.fours ≡ 0 }
+    ensures { to_le_bytes w32 result ≡ plane_numbers 0 planes at 4 }
+{
+    let ones = spread_at(planes.ones, at) as u32;
+    let twos = spread_at(planes.twos, at) as u32;
+    ones + 2 * twos
+}
+
+// The numbers of all places, none of which has a highest bit.
+#[inline(always)]
+fn low_bytes_in(planes: BitPlanes) -> [u8; 64]
+    requires { planes.fours ≡ 0 }
+    ensures { result ≡ plane_numbers 0 planes 0 64 }
+{
+    let mut bytes = [0; 64];
+    for i in 0..16 {
+        put_four(&mut bytes, 4 * i, low_four_at(planes, 4 * i).to_le_bytes());
+    }
+    bytes
+}
+
 // The numbers of all places.
 #[inline(always)]
 fn bytes_in(planes: BitPlanes) -> [u8; 64]
@@ -242,29 +267,61 @@ fn bytes_in(planes: BitPlanes) -> [u8; 64]
 
 // Numbers, each with so much more.
 #[inline(always)]
-fn raised(low: u32, bytes: [u8; 64]) -> [u32; 64]
-    requires { low ≤ 256 }
+fn raised(low: u8, bytes: [u8; 64]) -> [u8; 64]
+    requires low { low ≤ 248 }
+    requires small { (i : ℕ) → i < 64 → slice_index bytes i ≤ 7 }
     ensures { (i : ℕ) → i < 64 → slice_index result i ≡ low + slice_index bytes i }
 {
     let mut numbers = [low; 64];
     for i in 0..64 {
-        numbers[i] = low + u32::from(bytes[i]);
+        numbers[i] = low + bytes[i];
     }
     numbers
 }
 
 // The numbers of all places, each with so much more.
 #[inline(always)]
-fn all_numbers_in(low: u32, planes: BitPlanes) -> [u32; 64]
-    requires { low ≤ 256 }
+fn all_numbers_in(low: u8, planes: BitPlanes) -> [u8; 64]
+    requires { low ≤ 248 }
     ensures { (i : ℕ) → i < 64 → slice_index result i ≡ low + plane_number planes i }
 {
-    raised(low, bytes_in(planes))
+    if planes.fours == 0 {
+        raised(low, low_bytes_in(planes))
+    } else {
+        raised(low, bytes_in(planes))
+    }
 }
 
 // The numbers of so many places, each with so much more.
 #[inline(never)]
-fn some_numbers_in(low: u32, planes: BitPlanes, count: usize) -> [u32; 64]
+fn some_numbers_in(low: u8, planes: BitPlanes, count: usize) -> [u8; 64]
+    requires low { low ≤ 248 }
+    requires few { count ≤ 64 }
+    ensures { (i : ℕ) → i < count → slice_index result i ≡ low + plane_number planes i }
+{
+    let mut numbers = [low; 64];
+    for i in 0..count {
+        numbers[i] = low + number_at(planes, i) as u8;
+    }
+    numbers
+}
+
+// The numbers of so many places, each with so much more. Many are spelled four at a time.
+#[inline(always)]
+fn numbers_in(low: u8, planes: BitPlanes, count: usize) -> [u8; 64]
+    requires low { low ≤ 248 }
+    requires few { count ≤ 64 }
+    ensures { (i : ℕ) → i < count → slice_index result i ≡ low + plane_number planes i }
+{
+    if count <= 24 {
+        return some_numbers_in(low, planes, count);
+    }
+    all_numbers_in(low, planes)
+}
+
+// The same of numbers that may have more than eight bits.
+#[cold]
+fn wide_numbers_in(low: u32, planes: BitPlanes, count: usize) -> [u32; 64]
     requires low { low ≤ 256 }
     requires few { count ≤ 64 }
     ensures { (i : ℕ) → i < count → slice_index result i ≡ low + plane_number planes i }
@@ -274,19 +331,6 @@ fn some_numbers_in(low: u32, planes: BitPlanes, count: usize) -> [u32; 64]
         numbers[i] = low + number_at(planes, i);
     }
     numbers
-}
-
-// The numbers of so many places, each with so much more. Many are spelled four at a time.
-#[inline(always)]
-fn numbers_in(low: u32, planes: BitPlanes, count: usize) -> [u32; 64]
-    requires low { low ≤ 256 }
-    requires few { count ≤ 64 }
-    ensures { (i : ℕ) → i < count → slice_index result i ≡ low + plane_number planes i }
-{
-    if count <= 24 {
-        return some_numbers_in(low, planes, count);
-    }
-    all_numbers_in(low, planes)
 }
 
 // The numbers of so many places are told to a writer, each with so much more.
@@ -309,6 +353,10 @@ pub fn push_planes(
             return writer.push_bits(out, low, planes.ones, count);
         }
     }
-    let numbers = numbers_in(low, planes, count);
-    writer.push_each(out, &numbers[..count])
+    if low > 248 {
+        let numbers = wide_numbers_in(low, planes, count);
+        return writer.push_each(out, &numbers[..count]);
+    }
+    let numbers = numbers_in(low as u8, planes, count);
+    writer.push_bytes(out, &numbers[..count])
 }
