@@ -83,21 +83,42 @@ impl Block {
             Store::Narrow(narrow) => {
                 if number < 256 {
                     narrow.push_few(number as u8, count);
-                } else {
-                    let mut numbers = Numbers::of_narrow(narrow);
-                    numbers.push_few(number, count);
-                    self.store = Store::Others(numbers);
+                    return;
                 }
             }
-            Store::Others(numbers) => numbers.push_few(number, count),
             Store::Bits(bits) => {
                 if number < 2 {
                     bits.add(copies_of(number, count), count as u32);
-                } else {
-                    let mut numbers = Numbers::of(bits);
-                    numbers.push_few(number, count);
-                    self.store = Store::Others(numbers);
+                    return;
                 }
+            }
+            Store::Others(numbers) => {
+                numbers.push_few(number, count);
+                return;
+            }
+        }
+        self.push_few_wide(number, count);
+    }
+
+    // The same where they do not fit the others, which are kept as they are from now on.
+    #[cold]
+    #[inline(never)]
+    fn push_few_wide(&mut self, number: u32, count: usize)
+        requires few { count ≤ 8 }
+        requires room { length self.old + count ≤ 504 }
+        ensures { self.new ≡ self.old ++ replicate count number }
+    {
+        match &mut self.store {
+            Store::Others(numbers) => numbers.push_few(number, count),
+            Store::Narrow(narrow) => {
+                let mut numbers = Numbers::of_narrow(narrow);
+                numbers.push_few(number, count);
+                self.store = Store::Others(numbers);
+            }
+            Store::Bits(bits) => {
+                let mut numbers = Numbers::of(bits);
+                numbers.push_few(number, count);
+                self.store = Store::Others(numbers);
             }
         }
     }
@@ -143,6 +164,20 @@ impl Block {
         match &mut self.store {
             Store::Narrow(narrow) => narrow.append(numbers),
             Store::Others(others) => others.append_narrow(numbers),
+            Store::Bits(_) => self.append_narrow_to_bits(numbers),
+        }
+    }
+
+    // The same to bits, which are kept as they are from now on.
+    #[cold]
+    #[inline(never)]
+    fn append_narrow_to_bits(&mut self, numbers: &[u8])
+        requires { length self.old + length numbers.now ≤ 504 }
+        ensures { self.new ≡ self.old ++ numbers.now }
+    {
+        match &mut self.store {
+            Store::Narrow(narrow) => narrow.append(numbers),
+            Store::Others(others) => others.append_narrow(numbers),
             Store::Bits(bits) => {
                 let mut others = Numbers::of(bits);
                 others.append_narrow(numbers);
@@ -161,24 +196,46 @@ impl Block {
         ensures { self.new ≡ self.old ++ bit_numbers low word 0 count }
     {
         match &mut self.store {
-            Store::Others(others) => append_spelled(others, low, word, count),
             Store::Narrow(narrow) => {
                 if low < 255 {
                     append_narrow_spelled(narrow, low as u8, word, count);
-                } else {
-                    let mut others = Numbers::of_narrow(narrow);
-                    append_spelled(&mut others, low, word, count);
-                    self.store = Store::Others(others);
+                    return;
                 }
             }
             Store::Bits(bits) => {
                 if low == 0 {
                     bits.add_word(word, count as u32);
-                } else {
-                    let mut others = Numbers::of(bits);
-                    append_spelled(&mut others, low, word, count);
-                    self.store = Store::Others(others);
+                    return;
                 }
+            }
+            Store::Others(others) => {
+                append_spelled(others, low, word, count);
+                return;
+            }
+        }
+        self.append_bits_wide(low, word, count);
+    }
+
+    // The same where they do not fit the others, which are kept as they are from now on.
+    #[cold]
+    #[inline(never)]
+    fn append_bits_wide(&mut self, low: u32, word: u64, count: usize)
+        requires few { count ≤ 64 }
+        requires low { All (λ v. v < 2 ^ 32) (bit_numbers low word 0 count) }
+        requires room { length self.old + count ≤ 504 }
+        ensures { self.new ≡ self.old ++ bit_numbers low word 0 count }
+    {
+        match &mut self.store {
+            Store::Others(others) => append_spelled(others, low, word, count),
+            Store::Narrow(narrow) => {
+                let mut others = Numbers::of_narrow(narrow);
+                append_spelled(&mut others, low, word, count);
+                self.store = Store::Others(others);
+            }
+            Store::Bits(bits) => {
+                let mut others = Numbers::of(bits);
+                append_spelled(&mut others, low, word, count);
+                self.store = Store::Others(others);
             }
         }
     }
