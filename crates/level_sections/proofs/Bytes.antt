@@ -1,6 +1,5 @@
 -- Levels that are told as bytes.
-use Rattle.std.proofs.Common.{◌≡◌, ℕ, ◌+◌, ◌==◌, cond, List, [], ◌∷◌, ◌++◌, suc, ◌-◌, ◌<◌, ◌≤◌, drop, take, length, refl, arith, ap, sym, ◌∙◌, append_assoc, append-nil}
-use Rattle.std.specs.Prelude.{slice_index}
+use Rattle.std.proofs.Common.{◌≡◌, ℕ, ◌+◌, ◌==◌, cond, List, [], ◌++◌, ◌-◌, ◌≤◌, drop, take, refl, arith, ap, sym, ◌∙◌, append_assoc, append-nil}
 use Rattle.std.proofs.lemmas.List.{drop-drop, take-append-drop}
 use Rattle.std.specs.Int.{bit_at}
 use Rattle.shredding.specs.Parts.{Part}
@@ -24,12 +23,6 @@ flat-zero parts def n word i place z b =
     rw (one_bit word i b, e) refl
 
 -- ---- bytes that go to a writer
-
-pub same-bytes : (bytes numbers : List ℕ) → length bytes ≤ length numbers → ((k : ℕ) → k < length bytes → slice_index numbers k ≡ slice_index bytes k) → take (length bytes) numbers ≡ bytes
-same-bytes [] numbers few each = refl
-same-bytes (b ∷ bytes) [] few each = absurd (omega (arith, few))
-same-bytes (b ∷ bytes) (n ∷ numbers) few each =
-    ap (λ (x : ℕ). x ∷ take (length bytes) numbers) (each 0 (omega arith)) ∙ ap (λ (t : List ℕ). b ∷ t) (same-bytes bytes numbers (omega (arith, few)) (λ k h. each (suc k) (omega (arith, h))))
 
 pub bytes-step : (bytes : List ℕ) (at next : ℕ) → at ≤ next → drop at bytes ≡ take (next - at) (drop at bytes) ++ drop next bytes
 bytes-step bytes at next le =

@@ -14,19 +14,6 @@ fn part(bytes: &[u8], at: usize, count: usize) -> &[u8]
     &bytes[at..at + count]
 }
 
-// Up to 64 bytes as numbers.
-#[inline(always)]
-fn widened(bytes: &[u8]) -> [u32; 64]
-    requires { length bytes.now ≤ 64 }
-    ensures { take (length bytes.now) result ≡ bytes.now }
-{
-    let mut numbers = [0; 64];
-    for i in 0..bytes.len() {
-        numbers[i] = u32::from(bytes[i]);
-    }
-    numbers
-}
-
 // The levels of up to 64 bytes from a place on, and the place behind them.
 fn push_some(
     out: &mut Vec<u8>,
@@ -42,9 +29,7 @@ fn push_some(
     ensures kept { Extends out.old.items out.new.items }
 {
     let count = (bytes.len() - at).min(64);
-    let some = part(bytes, at, count);
-    let numbers = widened(some);
-    writer.push_each(out, &numbers[..some.len()])?;
+    writer.push_bytes(out, part(bytes, at, count))?;
     Ok(at + count)
 }
 
