@@ -177,7 +177,7 @@ pub fn with_others(pending: Pending, planes: BitPlanes) -> Pending
 
 // The number at a place.
 #[inline(always)]
-pub fn number_at(planes: BitPlanes, i: usize) -> u32
+fn number_at(planes: BitPlanes, i: usize) -> u32
     requires { i < 64 }
     ensures value { result ≡ plane_number planes i }
     ensures most { result ≤ 7 }
@@ -199,7 +199,7 @@ fn spread(bits: u64) -> u64
 
 // A word's bits from a place on as the lowest bits of four bytes.
 #[inline(always)]
-fn spread_at(word: u64, at: usize) -> u64
+pub fn spread_at(word: u64, at: usize) -> u64
     requires { at < 64 }
     ensures { result ≡ bit_at word at + 256 * bit_at word (at + 1) + 65536 * bit_at word (at + 2) + 16777216 * bit_at word (at + 3) }
 {
@@ -220,7 +220,7 @@ fn four_at(planes: BitPlanes, at: usize) -> u32
 
 // Four bytes take their places, and those before them stay.
 #[inline(always)]
-fn put_four(places: &mut [u8], at: usize, bytes: [u8; 4])
+pub fn put_four(places: &mut [u8], at: usize, bytes: [u8; 4])
     requires { at + 4 ≤ length places.old }
     ensures len { length places.new ≡ length places.old }
     ensures front { take (at + 4) places.new ≡ take at places.old ++ bytes }

@@ -1,5 +1,6 @@
 //! Levels of lists above lists, some slots at once, as bytes.
-ghost use Rattle.std.specs.Prelude.{◌≡◌, ℕ, ◌+◌, ◌-◌, ◌<◌, ◌≤◌, ◌++◌, IfSome, IsTrue, length, map, slice_index, take};
+ghost use Rattle.std.specs.Prelude.{◌≡◌, ℕ, ◌+◌, ◌-◌, ◌<◌, ◌≤◌, ◌++◌, IfSome, IsTrue, length, map, take};
+ghost use Rattle.std.specs.Int.{to_le_bytes, w32};
 ghost use Rattle.shredding.specs.Parts.{IsPath, MaskFits, path_way, slot_count};
 ghost use Rattle.shredding.specs.Shred.{max_repetition};
 ghost use Rattle.levels.specs.Nested.{parts_of};
@@ -7,27 +8,44 @@ ghost use Rattle.levels.specs.Sizes.{list_size};
 ghost use Rattle.levels.specs.Stretch.{level_of, like_pairs};
 ghost use Rattle.level_sections.specs.Blocks.{Reaches, flat_level, levels_from};
 ghost use Rattle.level_sections.specs.Lists.{reps_from};
-ghost use Rattle.level_sections.specs.Planes.{plane_number};
+ghost use Rattle.level_sections.specs.Planes.{plane_numbers};
 ghost use Rattle.level_sections.specs.Walk.{IsLow, walked};
 
 use crate::level_bytes::LevelBytes;
 use crate::list_stretch::{is_there, next_stretch};
-use crate::planes::{BitPlanes, number_at, one_plane, with_parts};
+use crate::planes::{BitPlanes, one_plane, put_four, spread_at, with_parts};
 use crate::spans::are_short;
 use crate::walk::{Above, Shape, shape_of};
 use columns_core::Offset;
 use levels::{Level, ListNested, Nested, Stretch, full_word, list_pairs};
 
-// The numbers of so many places as bytes, each with so much more.
+// Four numbers from a place on as four bytes, each with so much more, the first lowest.
+#[inline(always)]
+fn four_levels(low: u32, planes: BitPlanes, at: usize) -> u32
+    requires place { at < 64 }
+    requires low { low ≤ 248 }
+    ensures { to_le_bytes w32 result ≡ plane_numbers low planes at 4 }
+{
+    let ones = spread_at(planes.ones, at) as u32;
+    let twos = spread_at(planes.twos, at) as u32;
+    let fours = spread_at(planes.fours, at) as u32;
+    low * 0x0101_0101 + (ones + 2 * twos + 4 * fours)
+}
+
+// The numbers of so many places as bytes, each with so much more, four at a time.
 #[inline(always)]
 fn bytes_of(low: u32, planes: BitPlanes, count: usize) -> [u8; 64]
-    requires low { low + 7 < 256 }
+    requires low { low ≤ 248 }
     requires few { count ≤ 64 }
-    ensures { (i : ℕ) → i < count → slice_index result i ≡ low + plane_number planes i }
+    ensures { take count result ≡ plane_numbers low planes 0 count }
 {
     let mut bytes = [0; 64];
-    for i in 0..count {
-        bytes[i] = (low + number_at(planes, i)) as u8;
+    for i in 0..(count + 3) / 4 {
+        put_four(
+            &mut bytes,
+            4 * i,
+            four_levels(low, planes, 4 * i).to_le_bytes(),
+        );
     }
     bytes
 }
@@ -39,7 +57,7 @@ fn flat_bytes(parts: &[Nested], def: u32, place: usize, count: usize) -> [u8; 64
     requires some { 0 < count }
     requires few { count ≤ 64 }
     requires parts { length parts.now ≤ 7 }
-    requires low { def + 7 < 256 }
+    requires low { def ≤ 248 }
     ensures { take count result ≡ levels_from (flat_level (parts_of parts.now) def) place count }
 {
     let planes = with_parts(one_plane(0), parts, full_word(count), place, count);
@@ -50,7 +68,7 @@ fn flat_bytes(parts: &[Nested], def: u32, place: usize, count: usize) -> [u8; 64
 fn tell_levels(told: &mut LevelBytes, parts: &[Nested], def: u32, from: usize, to: usize) -> bool
     requires reaches { Reaches to (parts_of parts.now) }
     requires parts { length parts.now ≤ 7 }
-    requires low { def + 7 < 256 }
+    requires low { def ≤ 248 }
     requires ordered { from ≤ to }
     ensures { IsTrue result → told.new ≡ told.old ++ levels_from (flat_level (parts_of parts.now) def) from (to - from) }
 {

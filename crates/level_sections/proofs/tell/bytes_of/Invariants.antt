@@ -1,10 +1,9 @@
-use Rattle.std.proofs.Common.{◌≡◌, ℕ, ◌+◌, ◌<◌, length}
-use Rattle.std.specs.Prelude.{slice_index}
-use Rattle.level_sections.specs.Planes.{plane_number}
+use Rattle.std.proofs.Common.{◌≡◌, ◌*◌, length, take}
+use Rattle.level_sections.specs.Planes.{plane_numbers}
 use Rattle.level_sections.proofs.tell.bytes_of.Given as goal
 
 abbrev pub invariant-loop-i : goal.invariant-loop-i
 invariant-loop-i l = record {
   size : length l.bytes ≡ 64;
-  done : (k : ℕ) → k < l.i → slice_index l.bytes k ≡ l.low + plane_number l.planes k;
+  front : take (4 * l.i) l.bytes ≡ plane_numbers l.low l.planes 0 (4 * l.i);
 }
