@@ -9,4 +9,5 @@ pub mod Levels
 pub mod CutLeaves
 mod Merged
 mod Values
+mod Sames
 mod Lasts

@@ -1,6 +1,7 @@
 //! The nulls of a leaf array in the mask of its path.
 ghost use Rattle.std.specs.Prelude.{◌≡◌, ◌↔◌, IsTrue, false, Some, IfOk, IfErr, OnOk, map, replicate};
 ghost use Rattle.columns_base.specs.declared.error.Error.TheVariants.{Memory};
+ghost use Rattle.columns_core.specs.Bits.{bits_eq};
 ghost use Rattle.shredding.specs.Parts.{slot_count, path_way, MaskFits};
 ghost use Rattle.columns_slots.specs.Slots.{tree_len, mask_of};
 ghost use Rattle.columns_array.specs.Boxed.{boxed};
@@ -18,6 +19,35 @@ use columns_core::{Bitmap, MutableBitmap};
 use levels::Nested;
 use std::alloc::Global;
 
+// Whether two masks are the same, word by word: true only where they are.
+fn same_words(a: &Bitmap, b: &Bitmap) -> bool
+    ensures { IsTrue result → a.now ≡ b.now }
+{
+    let size = a.len();
+    if size != b.len() {
+        return false;
+    }
+    let mut place = 0;
+    while place < size {
+        let count = (size - place).min(64);
+        if a.word_at(place, count) != b.word_at(place, count) {
+            return false;
+        }
+        place += count;
+    }
+    true
+}
+
+// Whether two masks are the same.
+fn same_masks(a: &Bitmap, b: &Bitmap) -> bool
+    ensures { result ≡ bits_eq a.now b.now }
+{
+    if same_words(a, b) {
+        return true;
+    }
+    *a == *b
+}
+
 // Whether both masks, of as many positions, keep the same ones.
 fn keep_alike(mask: &Option<Bitmap>, array: &ArrayBox) -> bool
     requires { MaskFits mask.now (tree_len (boxed array.now)) }
@@ -32,7 +62,7 @@ fn keep_alike(mask: &Option<Bitmap>, array: &ArrayBox) -> bool
     };
     match array.validity() {
         None => mask.unset_bits() == 0,
-        Some(other) => *mask == *other,
+        Some(other) => same_masks(mask, other),
     }
 }
 

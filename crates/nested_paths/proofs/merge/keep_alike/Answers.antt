@@ -13,4 +13,4 @@ returns-in-None-validity c =
 
 pub returns-in-Some-validity-2 : goal.returns-in-Some-validity-2
 returns-in-Some-validity-2 c =
-    some_some _ _ _ c.in-Some.mask c.in-Some-validity-2.other.now c.eq.result c.in-Some.is c.in-Some-validity-2.ensures c.requires (sound_mask (boxed c.args.array.now) c.know.ensures) c.eq.ensures
+    some_some _ _ _ c.in-Some.mask c.in-Some-validity-2.other.now c.same_masks.result c.in-Some.is c.in-Some-validity-2.ensures c.requires (sound_mask (boxed c.args.array.now) c.know.ensures) c.same_masks.ensures
