@@ -9,6 +9,7 @@ pub mod FrontsRead
 pub mod EqualBits
 pub mod SetBits
 pub mod MixedNumbers
+pub mod Grouped
 pub mod MixedStrings
 pub mod Stretches
 pub mod CutTexts

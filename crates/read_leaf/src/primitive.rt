@@ -1,5 +1,5 @@
 //! Numbers of fixed size.
-ghost use Rattle.std.specs.Prelude.{◌≡◌, ◌⊎◌, ℕ, ℤ, List, ◌+◌, ◌*◌, ◌/◌, ◌<◌, ◌≤◌, ◌++◌, [], true, IfOk, OnOk, IfErr, MatchOption, Some, None, map, replicate, length as list_length, take, drop};
+ghost use Rattle.std.specs.Prelude.{◌≡◌, ◌⊎◌, ℕ, ℤ, List, ◌+◌, ◌*◌, ◌/◌, ◌<◌, ◌≤◌, ◌^◌, ◌++◌, [], true, IfOk, OnOk, IfErr, IsTrue, MatchOption, Some, None, map, replicate, length as list_length, take, drop};
 ghost use Rattle.columns_base.specs.declared.error.Error.{Error};
 ghost use Rattle.columns_base.specs.declared.error.S.{S};
 ghost use Rattle.columns_core.specs.Bits.{word_bits};
@@ -7,9 +7,9 @@ ghost use Rattle.shredding.specs.Slot.{null};
 ghost use Rattle.read_walk.specs.Values.{Decodes, DecodesMixed, ones, CannotDecode};
 ghost use Rattle.read_leaf.specs.Numbers.{TookNumbers, TookOne, TookMixed, OneIsOutside, number_slots, stored_numbers};
 
-use crate::cut::skip;
+use crate::cut::{front, skip};
 use crate::room::want_room;
-use crate::set_bits::count_set;
+use crate::set_bits::{bits_behind, count_set, first_run};
 use crate::stored::{FromStored, StoredNumber};
 use columns_base::{Error, Result, S};
 use columns_core::MutableBitmap;
@@ -218,7 +218,7 @@ fn append_numbers<'a, T: FromStored<P>, P: StoredNumber>(
 
 // Writes the next numbers to the places of which the bits are set, the lowest first, and gives the bytes behind them; none where one of them is
 // none of the leaf. It goes from one set bit to the next, so that no branch depends on which are set.
-fn fill_mixed<'a, T: FromStored<P>, P: StoredNumber>(
+fn fill_each<'a, T: FromStored<P>, P: StoredNumber>(
     places: &mut [T],
     bytes: &'a [u8],
     valid: u64,
@@ -241,6 +241,100 @@ fn fill_mixed<'a, T: FromStored<P>, P: StoredNumber>(
         bits = bits & (bits - 1);
     }
     Some(rest)
+}
+
+// Eight slots: each takes the number that is next where its bit is set, and what stands there is right or of no account, so that no branch and
+// no step before it decides where a slot's number stands.
+#[inline(always)]
+fn spread_eight<T: FromStored<P>, P: StoredNumber>(
+    places: &mut [T],
+    source: &[u8],
+    word: u64,
+) -> bool
+    requires eight { list_length places.old ≡ 8 }
+    requires enough { P.byte_count * 8 ≤ list_length source.now }
+    ensures { IsTrue result → TookMixed T.loaded P.spelled P.byte_count (word_bits word 8) source.now (drop (P.byte_count * ones (word_bits word 8)) source.now) [] (map T.loaded_number places.new) }
+{
+    for i in 0..8 {
+        let at = count_set(word, i);
+        match load::<T, P>(skip(source, P::width() * at)) {
+            Some(number) => places[i] = number,
+            None => return false,
+        }
+    }
+    true
+}
+
+// Slots at the front of the places, by the low bits of a word: those of a run of sixteen set bits or more, or else eight; and how many. None where there are
+// less than eight slots, or the page has less than eight numbers, or one of the next eight numbers is none of the leaf.
+#[inline(always)]
+fn fill_front<T: FromStored<P>, P: StoredNumber>(places: &mut [T], bytes: &[u8], word: u64) -> usize
+    ensures within { result ≤ list_length places.new }
+    ensures few { result ≤ 64 }
+    ensures enough { P.byte_count * result ≤ list_length bytes.now }
+    ensures took { TookMixed T.loaded P.spelled P.byte_count (word_bits word result) bytes.now (drop (P.byte_count * ones (word_bits word result)) bytes.now) [] (map T.loaded_number (take result places.new)) }
+{
+    let room = places.len().min(bytes.len() / P::width()).min(64);
+    if room < 8 {
+        return 0;
+    }
+    if word % 65536 == 65535 {
+        let run = first_run(word, room);
+        let part = &mut places[..run];
+        return match fill_numbers::<T, P>(part, bytes) {
+            Some(_) => run,
+            None => 0,
+        };
+    }
+    let source = front(bytes, P::width() * 8);
+    let part = &mut places[..8];
+    if spread_eight::<T, P>(part, source, word) {
+        return 8;
+    }
+    0
+}
+
+// Slots by eights and by runs, as many as there are; how many these are, the bits of the others, and the bytes behind.
+fn fill_fronts<'a, T: FromStored<P>, P: StoredNumber>(
+    places: &mut [T],
+    bytes: &'a [u8],
+    valid: u64,
+) -> (usize, u64, &'a [u8])
+    ensures within { result.0 ≤ list_length places.new }
+    ensures word { result.1 ≡ valid / 2 ^ result.0 }
+    ensures took { TookMixed T.loaded P.spelled P.byte_count (word_bits valid result.0) bytes.now result.2.now [] (map T.loaded_number (take result.0 places.new)) }
+{
+    let mut rest = bytes;
+    let mut word = valid;
+    let mut done = 0;
+    while done < places.len() {
+        let part = &mut places[done..];
+        let some = fill_front::<T, P>(part, rest, word);
+        if some == 0 {
+            return (done, word, rest);
+        }
+        rest = skip(rest, P::width() * count_set(word, some));
+        word = bits_behind(word, some);
+        done += some;
+    }
+    (done, word, rest)
+}
+
+// The same, by eights and by runs first.
+fn fill_mixed<'a, T: FromStored<P>, P: StoredNumber>(
+    places: &mut [T],
+    bytes: &'a [u8],
+    valid: u64,
+) -> Option<&'a [u8]>
+    requires enough { P.byte_count * ones (word_bits valid (list_length places.old)) ≤ list_length bytes.now }
+    ensures { MatchOption result (OneIsOutside T.loaded P.spelled P.byte_count (ones (word_bits valid (list_length places.old))) bytes.now) (λ rest. TookMixed T.loaded P.spelled P.byte_count (word_bits valid (list_length places.old)) bytes.now rest.now [] (map T.loaded_number places.new)) }
+{
+    let (done, word, rest) = fill_fronts::<T, P>(places, bytes, valid);
+    let part = &mut places[done..];
+    match fill_each::<T, P>(part, rest, word) {
+        Some(behind) => Some(behind),
+        None => None,
+    }
 }
 
 // Appends a slot for each of the low bits: the next number where it is set. Gives the bytes behind the numbers.
