@@ -11,6 +11,7 @@ pub mod IntervalPlaces
 pub mod Made
 pub mod NullPlaces
 pub mod NumberPlaces
+pub mod NumberRuns
 pub mod Picked
 pub mod ServedTypes
 pub mod StringPlaces

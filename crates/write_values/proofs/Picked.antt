@@ -1,5 +1,5 @@
 -- Values at picked places, one behind the other.
-use Rattle.std.proofs.Common.{◌≡◌, ℕ, suc, ◌+◌, ◌-◌, ◌*◌, ◌^◌, ◌<◌, ◌≤◌, List, [], ◌∷◌, ◌++◌, length, map, get_or, false, refl, ap, sym, subst, ◌∙◌, arith, append-nil, append_assoc}
+use Rattle.std.proofs.Common.{◌≡◌, ℕ, suc, ◌+◌, ◌-◌, ◌^◌, ◌<◌, ◌≤◌, List, [], ◌∷◌, ◌++◌, length, map, get_or, false, refl, ap, sym, subst, ◌∙◌, arith, append-nil, append_assoc}
 use Rattle.std.proofs.lemmas.List.{get_or-map}
 use Rattle.std.proofs.lemmas.Nat.{ones-le}
 use Rattle.shredding.specs.Slot.{Value, truth}
@@ -45,17 +45,6 @@ few_picked word from count h = omega (arith, length_picked word from count h, on
 
 pub one_less : (word left from count t : ℕ) → IsNext word left from count t → length (picked word from count) ≡ suc (length (picked left from count))
 one_less word left from count t n = ap length n.places
-
--- room for the values that are left, once one more stands
-pub room_for : (at w k size more : ℕ) (word left from count t : ℕ) → IsNext word left from count t → at + length (picked word from count) * w ≤ size → k ≡ w → more ≡ size → at + k + length (picked left from count) * w ≤ more
-room_for at w k size more word left from count t n h e s =
-    let room : at + suc (length (picked left from count)) * w ≤ size = subst (λ (j : ℕ). at + j * w ≤ size) (one_less word left from count t n) h in
-    omega (arith, room, e, s)
-
-pub one_fits : (at w size n m : ℕ) → n ≡ suc m → at + n * w ≤ size → at + w ≤ size
-one_fits at w size n m e h =
-    let room : at + suc m * w ≤ size = subst (λ (j : ℕ). at + j * w ≤ size) e h in
-    omega (arith, room)
 
 -- a number as the value at its place
 pub number_here : {A : Type 0} (f : A → Value) (xs : List A) (i : ℕ) (x : A) → i < length xs → x ≡ get_or xs i x → f x ≡ at_place (map f xs) i

@@ -12,7 +12,7 @@ use Rattle.write_places.proofs.Bits.{run_is, full_bits}
 use Rattle.write_places.proofs.Gather.{gather-alike, gather-nothing, gather-split}
 
 -- whether a place is picked
-abbrev chosen : ℕ → ℕ → ℕ → List ℕ
+abbrev pub chosen : ℕ → ℕ → ℕ → List ℕ
 chosen word from i = cond (bit_at word (i - from) == 1) (i ∷ []) []
 
 -- a word whose low bits are set picks all
@@ -23,7 +23,7 @@ all_picked word from count e few low = by_order (cases_lt count 64)
     by_order (inl h) = absurd (omega (arith, e, low, pow_below count 64 h))
     by_order (inr h) = gather-alike (chosen word from) (λ i. i ∷ []) from count (λ i l g. ap (λ (b : Bool). cond b (i ∷ []) []) (full_bits word 64 (i - from) e (omega (arith, l, g, few))))
 
-shifted : (v g i : ℕ) → bit_at (v / 2 ^ g) i ≡ bit_at v (g + i)
+pub shifted : (v g i : ℕ) → bit_at (v / 2 ^ g) i ≡ bit_at v (g + i)
 shifted v g i = ap (λ (j : ℕ). j % 2) (shr-shr v g i)
 
 -- the places that are picked side by side first, and those behind them

@@ -1,11 +1,12 @@
 //! Numbers that are stored as numbers of 32 or 64 bits.
-ghost use Rattle.std.specs.Prelude.{◌≡◌, ◌<◌, ◌≤◌, ◌+◌, ◌*◌, ◌^◌, ◌∷◌, [], true, length, take, map, OnOk, IfErr};
+ghost use Rattle.std.specs.Prelude.{◌≡◌, ◌<◌, ◌≤◌, ◌+◌, ◌*◌, ◌^◌, ◌∷◌, [], true, ℕ, length, take, map, OnOk, IfErr};
 ghost use Rattle.columns_base.specs.declared.error.Error.TheVariants.{Memory};
 ghost use Rattle.shredding.specs.Slot.{number};
 ghost use Rattle.columns_core.specs.Shapes.{base, leaf_type};
 ghost use Rattle.pq_tree.specs.Views.{physical_view};
 ghost use Rattle.pq_files.specs.Statistics.{has_order};
-ghost use Rattle.write_places.specs.Places.{picked};
+ghost use Rattle.std.specs.Int.{bit_at};
+ghost use Rattle.write_places.specs.Places.{picked, range};
 ghost use Rattle.write_values.specs.Numbers.{at_place};
 ghost use Rattle.write_values.specs.Rows.{AppendsRow};
 
@@ -256,7 +257,65 @@ fn push_numbers<T: AlwaysStored<P>, P: StoredNumber>(out: &mut Vec<u8>, values: 
     }
 }
 
-// The numbers at picked places stand one behind the other from the front on, in so many bytes.
+// How many of the lowest bits of a word are set side by side, at most eight.
+#[inline(always)]
+fn few_ones(word: u64) -> usize
+    ensures few { result ≤ 8 }
+    ensures set { (i : ℕ) → i < result → bit_at word i ≡ 1 }
+    ensures some { bit_at word 0 ≡ 1 → 0 < result }
+{
+    (word & 255).trailing_ones() as usize
+}
+
+// Numbers take their places one behind the other, and the bytes before them stay. Answers where the first so many of them end.
+#[inline(always)]
+fn put_first<T: AlwaysStored<P>, P: StoredNumber>(
+    places: &mut [u8],
+    at: usize,
+    values: &[T],
+    few: usize,
+) -> usize
+    requires few { few ≤ 8 }
+    requires within { few ≤ length values.now }
+    requires room { at + length values.now * P.byte_count ≤ length places.old }
+    requires eight { at + 8 * P.byte_count ≤ length places.old }
+    ensures at { result ≡ at + few * P.byte_count }
+    ensures len { length places.new ≡ length places.old }
+    ensures are { AppendsRow (physical_view P.physical) (take at places.old) (take result places.new) (map (λ x. number (T.stored_number x)) (take few values.now)) }
+{
+    let mut next = at;
+    for value in values {
+        put_number::<T, P>(places, next, *value);
+        next += P::width();
+    }
+    at + few * P::width()
+}
+
+// At most eight numbers side by side take their places, and the bytes before them stay. Answers where they end. Where there are eight, all are put
+// without a count.
+#[inline(always)]
+fn put_run<T: AlwaysStored<P>, P: StoredNumber>(
+    places: &mut [u8],
+    at: usize,
+    values: &[T],
+    from: usize,
+    few: usize,
+) -> usize
+    requires few { few ≤ 8 }
+    requires within { from + few ≤ length values.now }
+    requires room { at + 8 * P.byte_count ≤ length places.old }
+    ensures at { result ≡ at + few * P.byte_count }
+    ensures len { length places.new ≡ length places.old }
+    ensures are { AppendsRow (physical_view P.physical) (take at places.old) (take result places.new) (map (at_place (map (λ x. number (T.stored_number x)) values.now)) (range from few)) }
+{
+    if values.len() - from < 8 {
+        put_first::<T, P>(places, at, &values[from..from + few], few)
+    } else {
+        put_first::<T, P>(places, at, &values[from..from + 8], few)
+    }
+}
+
+// The numbers at picked places stand one behind the other from the front on, in so many bytes. They are put by runs, with room for eight more.
 fn put_some<T: AlwaysStored<P>, P: StoredNumber>(
     places: &mut [u8],
     values: &[T],
@@ -267,18 +326,20 @@ fn put_some<T: AlwaysStored<P>, P: StoredNumber>(
     requires few { count ≤ 64 }
     requires low { bits < 2 ^ count }
     requires within { from + count ≤ length values.now }
-    requires room { count * P.byte_count ≤ length places.old }
+    requires room { (count + 8) * P.byte_count ≤ length places.old }
     ensures len { length places.new ≡ length places.old }
     ensures within { result ≤ length places.new }
     ensures are { AppendsRow (physical_view P.physical) [] (take result places.new) (map (at_place (map (λ x. number (T.stored_number x)) values.now)) (picked bits from count)) }
 {
     let mut left = bits;
+    let mut place = from;
     let mut at = 0;
     while left != 0 {
-        let i = left.trailing_zeros() as usize;
-        put_number::<T, P>(places, at, values[from + i]);
-        at += P::width();
-        left ^= 1 << i;
+        let gap = left.trailing_zeros() as usize;
+        let few = few_ones(left >> gap);
+        at = put_run::<T, P>(places, at, values, place + gap, few);
+        left = (left >> gap) >> few;
+        place += gap + few;
     }
     at
 }
@@ -297,7 +358,7 @@ fn push_picked<T: AlwaysStored<P>, P: StoredNumber>(
     ensures ok { OnOk result (AppendsRow (physical_view P.physical) out.old.items out.new.items (map (at_place (map (λ x. number (T.stored_number x)) values.now)) (picked bits from count))) }
     ensures err { IfErr result (λ e. e ≡ Memory) }
 {
-    let mut block = [0; 512];
+    let mut block = [0; 576];
     let size = put_some::<T, P>(&mut block, values, from, bits, count);
     out.extend_from_slice(&block[..size])?;
     Ok(())
