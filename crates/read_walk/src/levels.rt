@@ -5,7 +5,7 @@ ghost use Rattle.read_walk.specs.Levels.{levels_left, IsLevels};
 ghost use Rattle.read_walk.specs.Pairs.{TakesBlock, TakesCopies, TakesRun, is_within, rows_in, is_row};
 
 use crate::block::PairBlock;
-use crate::folds::{are_within, count_zeros};
+use crate::folds::{all_bits, are_within, count_zeros};
 use crate::runs::{LevelRuns, drop_copies, fill, stop_runs};
 use columns_base::{Error, Result, S};
 
@@ -129,14 +129,20 @@ fn first_rows(reps: &[u32], rows: usize) -> (usize, usize)
     (reps.len(), begun)
 }
 
-// How many of the pairs come before one that begins a row too many, and how many of them begin a row.
-fn cut_rows(reps: &[u32], rows: usize) -> (usize, usize)
+// How many of the pairs come before one that begins a row too many, and how many of them begin a row. Flat pairs all begin one.
+fn cut_rows(reps: &[u32], rows: usize, flat: bool) -> (usize, usize)
     requires short { length reps.now ≤ 64 }
     ensures within { result.0 ≤ length reps.now }
     ensures begun { result.1 ≡ rows_in (take result.0 reps.now) }
     ensures few { result.1 ≤ rows }
     ensures stops { result.0 < length reps.now → (slice_index reps.now result.0 ≡ 0) × (result.1 ≡ rows) }
 {
+    if flat {
+        if all_bits(reps) == 0 {
+            let count = reps.len().min(rows);
+            return (count, count);
+        }
+    }
     let begun = count_zeros(reps);
     if begun <= rows {
         return (reps.len(), begun);
@@ -175,7 +181,7 @@ pub fn next_block<'a>(
         return None;
     }
     let reps = part_of(&levels.rep_block, levels.at, levels.end);
-    let (count, begun) = cut_rows(reps, rows);
+    let (count, begun) = cut_rows(reps, rows, levels.max_rep == 0);
     if count == 0 {
         return None;
     }
