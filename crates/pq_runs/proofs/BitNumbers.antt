@@ -35,20 +35,6 @@ pub first_bits : (xs numbers : List ℕ) (low word count w : ℕ) → w ≤ 32 �
 first_bits xs numbers low word count w fits size few e each below =
     e ∙ front_bits xs low word 0 count w fits (omega (arith, size, few)) (λ i h. each i (omega (arith, h, few)) ∙ ap (λ (p : ℕ). (low + bit_at word p) % 2 ^ 32) (omega arith)) below
 
-narrow_front_bits : (xs : List ℕ) (low word place count : ℕ) → count ≤ length xs → ((i : ℕ) → i < count → slice_index xs i ≡ low + bit_at word (place + i)) → take count xs ≡ bit_numbers low word place count
-unfolding bit_numbers
-narrow_front_bits xs low word place zero few each = refl
-narrow_front_bits [] low word place (suc count) few each = absurd (omega (arith, few))
-narrow_front_bits (x ∷ xs) low word place (suc count) few each =
-    let here : place + 0 ≡ place = omega arith in
-    let first : x ≡ low + bit_at word place = each 0 (omega arith) ∙ ap (λ (p : ℕ). low + bit_at word p) here in
-    let next : (i : ℕ) → i < count → slice_index xs i ≡ low + bit_at word (place + 1 + i) = λ i h. each (suc i) (omega (arith, h)) ∙ ap (λ (p : ℕ). low + bit_at word p) (omega arith) in
-    ap (λ (y : ℕ). y ∷ take count xs) first ∙ ap (λ (ys : List ℕ). (low + bit_at word place) ∷ ys) (narrow_front_bits xs low word (place + 1) count (omega (arith, few)) next)
-
-pub first_narrow_bits : (xs numbers : List ℕ) (low word count : ℕ) → length xs ≡ 64 → count ≤ 64 → numbers ≡ take count xs → ((i : ℕ) → i < 64 → slice_index xs i ≡ low + bit_at word i) → numbers ≡ bit_numbers low word 0 count
-first_narrow_bits xs numbers low word count size few e each =
-    e ∙ narrow_front_bits xs low word 0 count (omega (arith, size, few)) (λ i h. each i (omega (arith, h, few)) ∙ ap (λ (p : ℕ). low + bit_at word p) (omega arith))
-
 -- ---- parts of a word
 
 pub numbers-add : (low word place m n : ℕ) → bit_numbers low word place (m + n) ≡ bit_numbers low word place m ++ bit_numbers low word (place + m) n

@@ -19,6 +19,7 @@ pub mod Paired
 pub mod Settling
 pub mod Short
 pub mod Sound
+pub mod SpreadBits
 pub mod Steps
 pub mod Taken
 pub mod Tight

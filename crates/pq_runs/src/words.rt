@@ -1,10 +1,10 @@
 //! Numbers by the bits of a word.
 
-ghost use Rattle.std.specs.Prelude.{◌≡◌, ◌<◌, ◌≤◌, ◌+◌, ◌%◌, ◌^◌, ℕ, ◌-◌, ◌*◌, ◌/◌, length, replicate, slice_index, IsTrue};
+ghost use Rattle.std.specs.Prelude.{◌≡◌, ◌<◌, ◌≤◌, ◌+◌, ◌%◌, ◌^◌, ℕ, ◌-◌, ◌*◌, ◌/◌, ◌++◌, length, replicate, take, slice_index, IsTrue};
 ghost use Rattle.pq_runs.specs.Stretches.{stretches};
 ghost use Rattle.pq_runs.specs.Words.{bit_numbers};
 ghost use Rattle.pq_numbers.specs.Bits.{digits_of};
-ghost use Rattle.std.specs.Int.{bit_at};
+ghost use Rattle.std.specs.Int.{bit_at, to_le_bytes, w32};
 
 // One number for each bit of a word: `low` where it is 0, and one more where it is 1.
 #[inline(always)]
@@ -18,15 +18,45 @@ pub fn numbers_of(low: u32, word: u64) -> [u32; 64]
     numbers
 }
 
-// The same of numbers of at most eight bits.
+// Four bits as the lowest bits of four bytes.
+#[inline(always)]
+fn spread(bits: u64) -> u64
+    requires { bits < 16 }
+    ensures { result ≡ bit_at bits 0 + 256 * bit_at bits 1 + 65536 * bit_at bits 2 + 16777216 * bit_at bits 3 }
+{
+    (bits * 0x0020_4081) & 0x0101_0101
+}
+
+// Four numbers by a word's bits from a place on, as four bytes.
+#[inline(always)]
+fn four_at(low: u8, word: u64, at: usize) -> u32
+    requires low { low < 255 }
+    requires place { at < 64 }
+    ensures { to_le_bytes w32 result ≡ bit_numbers low word at 4 }
+{
+    let ones = spread((word >> at) % 16) as u32;
+    ones + u32::from(low) * 0x0101_0101
+}
+
+// Four bytes take their places, and those before them stay.
+#[inline(always)]
+fn put_four(places: &mut [u8], at: usize, bytes: [u8; 4])
+    requires { at + 4 ≤ length places.old }
+    ensures len { length places.new ≡ length places.old }
+    ensures front { take (at + 4) places.new ≡ take at places.old ++ bytes }
+{
+    places[at..at + 4].copy_from_slice(&bytes);
+}
+
+// The same of numbers of at most eight bits, four at once.
 #[inline(always)]
 pub fn narrow_numbers_of(low: u8, word: u64) -> [u8; 64]
     requires { low < 255 }
-    ensures { (i : ℕ) → i < 64 → slice_index result i ≡ low + bit_at word i }
+    ensures { result ≡ bit_numbers low word 0 64 }
 {
-    let mut numbers = [low; 64];
-    for i in 0..64 {
-        numbers[i] = low + ((word >> i) & 1) as u8;
+    let mut numbers = [0; 64];
+    for i in 0..16 {
+        put_four(&mut numbers, 4 * i, four_at(low, word, 4 * i).to_le_bytes());
     }
     numbers
 }

@@ -1,8 +1,8 @@
-use Rattle.std.proofs.Common.{◌++◌, ◌∙◌, ap, arith, List, ℕ}
-use Rattle.pq_runs.proofs.BitNumbers.{first_narrow_bits}
+use Rattle.std.proofs.Common.{◌++◌, ◌∙◌, ap, take, List, ℕ}
+use Rattle.pq_runs.proofs.SpreadBits.{numbers-front}
 use Rattle.pq_runs.proofs.block.append_narrow_spelled.Goals as goal
 
 pub returns : goal.returns
 returns c =
-    let is = first_narrow_bits c.narrow_numbers_of.result c.narrow_front.result.now c.args.low c.args.word c.args.count (omega arith) c.requires.few c.narrow_front.ensures c.narrow_numbers_of.ensures in
+    let is = c.narrow_front.ensures ∙ (ap (take c.args.count) c.narrow_numbers_of.ensures ∙ numbers-front c.args.low c.args.word c.args.count c.requires.few) in
     c.append.ensures ∙ ap (λ (t : List ℕ). c.args.narrow.now ++ t) is
