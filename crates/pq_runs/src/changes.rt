@@ -72,7 +72,7 @@ fn are_mixed_ends(numbers: &[u8]) -> bool
     if 14 * first.max(last) < numbers.len() + 34 {
         return false;
     }
-    if 7 * (first + last) < numbers.len() + 41 {
+    if 7 * (first + last) < numbers.len() + 48 {
         return false;
     }
     true
