@@ -65,6 +65,7 @@ fn flat_bytes(parts: &[Nested], def: u32, place: usize, count: usize) -> [u8; 64
 }
 
 // The definition levels of the slots of a path without lists, which has few parts.
+#[inline(never)]
 fn tell_levels(told: &mut LevelBytes, parts: &[Nested], def: u32, from: usize, to: usize) -> bool
     requires reaches { Reaches to (parts_of parts.now) }
     requires parts { length parts.now ≤ 7 }
@@ -143,6 +144,7 @@ fn pairs_at<O: Offset>(list: &ListNested<O>, i: usize) -> usize
 }
 
 // The repetition levels of lists above a path without lists.
+#[inline(never)]
 fn tell_lists<O: Offset>(
     told: &mut LevelBytes,
     list: &ListNested<O>,
@@ -225,6 +227,7 @@ fn tell_stretch(
 
 // The levels of the slots from one place to another, stretch by stretch.
 #[cycle(tell)]
+#[inline(always)]
 fn tell_stretches(
     told: &mut LevelBytes,
     level: Level,
@@ -271,8 +274,7 @@ pub fn tell(
         Shape::Flat => tell_flat(told, level, parts, above, from, to),
         Shape::Lists(list) => tell_lists(told, list, above, from, to),
         Shape::LargeLists(list) => tell_lists(told, list, above, from, to),
-        Shape::Items => tell_stretches(told, level, parts, above, from, to),
-        Shape::Stretches => tell_stretches(told, level, parts, above, from, to),
+        Shape::Items | Shape::Stretches => tell_stretches(told, level, parts, above, from, to),
     }
 }
 
