@@ -1,7 +1,7 @@
 //! Which slots of a path are there, 64 at once.
-ghost use Rattle.std.specs.Prelude.{◌≡◌, ℕ, ◌+◌, ◌-◌, ◌^◌, ◌<◌, ◌≤◌, ◌==◌, IsTrue, true};
+ghost use Rattle.std.specs.Prelude.{◌≡◌, ℕ, ◌+◌, ◌-◌, ◌^◌, ◌<◌, ◌≤◌, ◌==◌, ◌∷◌, IsTrue, true, length, Some};
 ghost use Rattle.std.specs.Int.{bit_at};
-ghost use Rattle.shredding.specs.Parts.{IsPath, MaskFits, is_present, slot_count};
+ghost use Rattle.shredding.specs.Parts.{IsPath, MaskFits, is_present, slot_count, struct_part};
 ghost use Rattle.levels.specs.Nested.{parts_of};
 ghost use Rattle.write_places.specs.Reach.{IsRun};
 ghost use Rattle.write_places.specs.There.{is_there, TellThere};
@@ -16,6 +16,8 @@ pub enum Masks<'a> {
     Nowhere,
     /// One.
     Sole(&'a Bitmap),
+    /// Two at once.
+    Both(&'a Bitmap, &'a Bitmap),
     /// Those of the parts in front.
     InFront,
 }
@@ -111,6 +113,24 @@ pub fn is_full(parts: &[Nested]) -> bool
     }
 }
 
+// The masks of a struct that may have nulls and of what stands beneath it.
+fn masks_under<'a>(mask: &'a Bitmap, rest: &'a [Nested]) -> Masks<'a>
+    requires well { IsPath (parts_of rest.now) }
+    requires fits { length mask.now ≡ slot_count (parts_of rest.now) }
+    ensures { (count : ℕ) → length mask.entry.now ≡ count → TellThere (struct_part true (Some mask.entry.now) count ∷ parts_of rest.entry.now) result }
+{
+    if is_full(rest) {
+        return Masks::Sole(mask);
+    }
+    let Some((first, _)) = rest.split_first() else {
+        unreachable!()
+    };
+    match first {
+        Nested::Primitive(Some(other), true, _) => Masks::Both(mask, other),
+        _ => Masks::InFront,
+    }
+}
+
 /// The masks that tell which slots of a path are there.
 pub fn masks_of(parts: &[Nested]) -> Masks<'_>
     requires { IsPath (parts_of parts.now) }
@@ -119,7 +139,10 @@ pub fn masks_of(parts: &[Nested]) -> Masks<'_>
     if is_full(parts) {
         return Masks::Nowhere;
     }
-    match &parts[0] {
+    let Some((part, rest)) = parts.split_first() else {
+        unreachable!()
+    };
+    match part {
         Nested::Primitive(Some(mask), true, _) => Masks::Sole(mask),
         Nested::List(
             ListNested {
@@ -135,6 +158,8 @@ pub fn masks_of(parts: &[Nested]) -> Masks<'_>
                 validity: Some(mask),
             },
         ) => Masks::Sole(mask),
+        Nested::Struct(Some(mask), true, _) => masks_under(mask, rest),
+        Nested::Struct(_, false, _) => masks_of(rest),
         _ => Masks::InFront,
     }
 }
@@ -153,6 +178,10 @@ pub fn masked_word(masks: Masks<'_>, parts: &[Nested], from: usize, count: usize
     match masks {
         Masks::Nowhere => full_word(count),
         Masks::Sole(mask) => mask.word_at(from, count),
+        Masks::Both(mask, beneath) => {
+            let word = mask.word_at(from, count);
+            word & beneath.word_at(from, count)
+        }
         Masks::InFront => there_word(parts, from, count),
     }
 }
