@@ -1,8 +1,8 @@
 -- Starts as offsets.
-use Rattle.std.proofs.Common.{◌≡◌, ℕ, ℤ, zero, suc, pos, ◌+◌, ◌*◌, ◌/◌, ◌<◌, ◌≤◌, Option, Some, List, [], ◌∷◌, ◌++◌, map, take, length, get_or, Bool, refl, arith, ap, sym, ◌∙◌, subst, add-one, length-append, ◌⊎◌, inl, inr, Result, Ok, Err, IfErr}
-use Rattle.std.proofs.lemmas.List.{map-append, take_all, length-map}
+use Rattle.std.proofs.Common.{◌≡◌, ℕ, ℤ, zero, suc, pos, ◌+◌, ◌*◌, ◌/◌, ◌<◌, ◌≤◌, Option, Some, List, [], ◌∷◌, ◌++◌, map, take, drop, set, length, get_or, ◌-◌, append_assoc, Bool, refl, arith, ap, sym, ◌∙◌, subst, add-one, length-append, ◌⊎◌, inl, inr, Result, Ok, Err, IfErr}
+use Rattle.std.proofs.lemmas.List.{map-append, take_all, take_more_set, length-map}
 use Rattle.std.proofs.Math.Nat.{mul-div_cancel}
-use Rattle.std.proofs.Math.Seq.{take-suc}
+use Rattle.std.proofs.Math.Seq.{take-suc, take-add}
 use Rattle.std.proofs.Math.ListN.{get_or-append}
 use Rattle.columns_base.specs.declared.error.Error.{Error}
 use Rattle.columns_base.specs.declared.error.Error.TheVariants.{Memory, InvalidArgumentError}
@@ -26,10 +26,30 @@ offsets-more number now old o starts i n h start is so before =
     let more : take (i + 1) starts ≡ take i starts ++ get_or starts i (pos 0) ∷ [] = rw add-one (take-suc starts i (pos 0) h) in
     rw (so, map-append number old (o ∷ []), before, is, start, more, map-append start_of (take i starts) (get_or starts i (pos 0) ∷ [])) (sym (map-append pos (starts_of (take i starts)) (start_of (get_or starts i (pos 0)) ∷ [])))
 
+-- a place more that is written
+pub filled-more : {O : Type 0} (number : O → ℤ) (places : List O) (o : O) (starts : List ℤ) (i n : ℕ) → i < length places → i < length starts → n ≡ start_of (get_or starts i (pos 0)) → number o ≡ pos n → map number (take i places) ≡ map pos (starts_of (take i starts)) → map number (take (i + 1) (set places i o)) ≡ map pos (starts_of (take (i + 1) starts))
+filled-more number places o starts i n there h start is before = offsets-more number (take (i + 1) (set places i o)) (take i places) o starts i n h start is (take_more_set places i o there) before
+
+-- offsets behind those that are there
+pub filled-behind : {O : Type 0} (number : O → ℤ) (old now written : List O) (starts : List ℤ) → now ≡ old ++ written → map number written ≡ map pos (starts_of starts) → map number now ≡ map number old ++ map pos (starts_of starts)
+filled-behind number old now written starts so is = rw (so, map-append number old written, is) refl
+
+-- a block of starts more
+pub blocks-more : (old now next : List ℤ) (starts : List ℤ) (at end : ℕ) → at ≤ end → now ≡ old ++ map pos (starts_of (take at starts)) → next ≡ now ++ map pos (starts_of (take (end - at) (drop at starts))) → next ≡ old ++ map pos (starts_of (take end starts))
+blocks-more old now next starts at end o so more =
+    let place : at + (end - at) ≡ end = omega (arith, o) in
+    let split : take end starts ≡ take at starts ++ take (end - at) (drop at starts) = rw place at (take-add at (end - at) starts) in
+    let all : map pos (starts_of (take end starts)) ≡ map pos (starts_of (take at starts)) ++ map pos (starts_of (take (end - at) (drop at starts))) = rw (split, map-append start_of (take at starts) (take (end - at) (drop at starts)), map-append pos (starts_of (take at starts)) (starts_of (take (end - at) (drop at starts)))) refl in
+    rw (more, so, all) (append_assoc old (map pos (starts_of (take at starts))) (map pos (starts_of (take (end - at) (drop at starts)))))
+
 -- the offsets with the end of the last
 pub offsets-numbers : {O : Type 0} (number : O → ℤ) (now old : List O) (last : O) (starts : List ℤ) (i end : ℕ) → length starts ≤ i → number last ≡ pos end → now ≡ old ++ last ∷ [] → map number old ≡ map pos (starts_of (take i starts)) → map number now ≡ map pos (starts_of starts ++ end ∷ [])
 offsets-numbers number now old last starts i end h is so before =
     rw (so, map-append number old (last ∷ []), before, is, take_all i starts h) (sym (map-append pos (starts_of starts) (end ∷ [])))
+
+pub offsets-done : {O : Type 0} (number : O → ℤ) (now old : List O) (last : O) (starts : List ℤ) (end : ℕ) → number last ≡ pos end → now ≡ old ++ last ∷ [] → map number old ≡ map pos (starts_of starts) → map number now ≡ map pos (starts_of starts ++ end ∷ [])
+offsets-done number now old last starts end is so before =
+    rw (so, map-append number old (last ∷ []), before, is) (sym (map-append pos (starts_of starts) (end ∷ [])))
 
 whole-pos : (xs : List ℕ) → map whole (map pos xs) ≡ xs
 whole-pos [] = refl

@@ -1,5 +1,5 @@
 //! The innermost part of a state: its offsets, mask and size.
-ghost use Rattle.std.specs.Prelude.{◌≡◌, ◌⊎◌, ◌<◌, ◌≤◌, ◌++◌, ◌∷◌, [], pos, Some, IfOk, IfErr, MatchOption, option_map};
+ghost use Rattle.std.specs.Prelude.{◌≡◌, ◌⊎◌, ◌<◌, ◌≤◌, ◌++◌, ◌∷◌, [], pos, length, map, Some, IsTrue, IfOk, IfErr, MatchOption, option_map};
 ghost use Rattle.columns_base.specs.declared.error.Error.{Error};
 ghost use Rattle.columns_base.specs.declared.error.A.{A};
 ghost use Rattle.columns_base.specs.declared.error.V.{V};
@@ -32,6 +32,87 @@ pub(crate) fn mask_of(validity: Option<MutableBitmap>) -> Result<Option<Bitmap>>
     }
 }
 
+// How many places are made at once, few enough that they are still at hand when they are written.
+const BLOCK: usize = 256;
+
+// The offset of a number, and whether it fits.
+#[inline(always)]
+fn offset_of<O: Offset>(n: usize) -> (O, bool)
+    ensures { IsTrue result.1 → O.number result.0 ≡ pos n }
+{
+    match O::from_usize(n) {
+        Some(offset) => (offset, true),
+        None => (O::zero(), false),
+    }
+}
+
+// Writes starts as offsets to the places, and tells whether all fit. No start ends the loop, so that several are written by one instruction.
+fn fill_offsets<O: Offset>(places: &mut [O], starts: &[i64]) -> bool
+    requires { length places.old ≡ length starts.now }
+    ensures { IsTrue result → map O.number places.new ≡ map pos (starts_of starts.now) }
+{
+    let mut fits = true;
+    for i in 0..starts.len() {
+        let (offset, here) = offset_of::<O>(starts[i].cast_unsigned() as usize);
+        places[i] = offset;
+        fits &= here;
+    }
+    fits
+}
+
+// Appends starts as offsets, and tells whether all fit.
+fn append_block<O: Offset>(offsets: &mut Vec<O>, starts: &[i64]) -> Result<bool>
+    ensures ok { IfOk result (λ fits. IsTrue fits → map O.number offsets.new.items ≡ map O.number offsets.old.items ++ map pos (starts_of starts.now)) }
+    ensures err { IfErr result (λ e. e ≡ Error.Memory) }
+{
+    let before = offsets.len();
+    let Some(size) = before.checked_add(starts.len()) else {
+        return Err(Error::Memory);
+    };
+    offsets.resize(size, O::zero())?;
+    Ok(fill_offsets(&mut offsets[before..], starts))
+}
+
+// The same block by block.
+fn append_blocks<O: Offset>(offsets: &mut Vec<O>, starts: &[i64]) -> Result<bool>
+    ensures ok { IfOk result (λ fits. IsTrue fits → map O.number offsets.new.items ≡ map O.number offsets.old.items ++ map pos (starts_of starts.now)) }
+    ensures err { IfErr result (λ e. e ≡ Error.Memory) }
+{
+    let mut at = 0;
+    while at < starts.len() {
+        let end = at + (starts.len() - at).min(BLOCK);
+        if !append_block(offsets, &starts[at..end])? {
+            return Ok(false);
+        }
+        at = end;
+    }
+    Ok(true)
+}
+
+// The starts of a list's items as offsets, one by one up to the first that does not fit.
+#[inline(never)]
+fn offsets_each<O: Offset>(
+    alloc: Global,
+    starts: &[i64],
+    end: usize,
+    last: O,
+) -> Result<OffsetsBuffer<O>>
+    requires last { O.number last ≡ pos end }
+    requires fits { end < O.limit }
+    ensures ok { IfOk result (λ os. os ≡ starts_of starts.now ++ end ∷ []) }
+    ensures err { IfErr result (λ e. (e ≡ Error.Memory) ⊎ ((e ≡ Error.InvalidArgumentError A.A8) × ¬ (IsPlaces (starts_of starts.now ++ end ∷ []) end))) }
+{
+    let mut made: Vec<O> = Vec::with_capacity(alloc, starts.len())?;
+    for i in 0..starts.len() {
+        let Some(offset) = O::from_usize(starts[i].cast_unsigned() as usize) else {
+            return Err(Error::InvalidArgumentError(A::A8));
+        };
+        made.push(offset)?;
+    }
+    made.push(last)?;
+    OffsetsBuffer::try_from_vec(made)
+}
+
 // The starts of a list's items as offsets, with the end of the last. A8 where they fall or pass the end.
 fn offsets_of<O: Offset>(
     alloc: Global,
@@ -44,12 +125,9 @@ fn offsets_of<O: Offset>(
     ensures ok { IfOk result (λ os. os ≡ starts_of starts.now ++ end ∷ []) }
     ensures err { IfErr result (λ e. (e ≡ Error.Memory) ⊎ ((e ≡ Error.InvalidArgumentError A.A8) × ¬ (IsPlaces (starts_of starts.now ++ end ∷ []) end))) }
 {
-    let mut offsets: Vec<O> = Vec::with_capacity(alloc, starts.len())?;
-    for i in 0..starts.len() {
-        let Some(offset) = O::from_usize(starts[i].cast_unsigned() as usize) else {
-            return Err(Error::InvalidArgumentError(A::A8));
-        };
-        offsets.push(offset)?;
+    let mut offsets: Vec<O> = Vec::with_capacity(alloc, starts.len().saturating_add(1))?;
+    if !append_blocks(&mut offsets, starts)? {
+        return offsets_each(alloc, starts, end, last);
     }
     offsets.push(last)?;
     OffsetsBuffer::try_from_vec(offsets)

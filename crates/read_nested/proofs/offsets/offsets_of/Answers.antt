@@ -1,21 +1,19 @@
-use Rattle.std.proofs.Common.{◌≤◌, ◌++◌, ◌∷◌, [], inr, refl, ◌∙◌, arith, length}
+use Rattle.std.proofs.Common.{◌≡◌, ◌++◌, ◌∷◌, [], map, pos, ap, ◌∙◌}
 use Rattle.std.proofs.lemmas.Result.{IfOk-weaker}
 use Rattle.read_state.specs.Kinds.{starts_of}
-use Rattle.read_nested.proofs.Places.{offsets-numbers, offsets-whole, places-refused, refused-err, start-refused}
+use Rattle.read_nested.proofs.Places.{offsets-done, offsets-whole, places-refused, refused-err}
 use Rattle.read_nested.proofs.offsets.offsets_of.Goals as goal
-
-pub returns-in_default-clause-err : goal.returns-in_default-clause-err
-returns-in_default-clause-err g c =
-    inr (refl, start-refused c.args.starts.now c.args.end c.loop-i.i _ g.O.Offset.limit (omega (arith, c.loop-i-test.true)) c.cast_unsigned.ensures c.in_default.ensures c.requires.fits)
 
 pub returns-clause-ok : goal.returns-clause-ok
 returns-clause-ok g c =
-    let past : length c.args.starts.now ≤ c.loop-i.i = omega (arith, c.loop-i-test.false) in
-    let numbers = offsets-numbers g.O.Offset.number c.push-2.new.self.items c.loop-i.offsets.items c.args.last c.args.starts.now c.loop-i.i c.args.end past c.requires.last c.in_ok-push-2.ensures.items c.loop-i.invariant in
-    IfOk-weaker c.try_from_vec.result _ _ (λ os made. made ∙ offsets-whole g.O.Offset.number c.push-2.new.self.items (starts_of c.args.starts.now ++ c.args.end ∷ []) numbers) c.try_from_vec.ensures.ok
+    let filled = c.in_ok-append_blocks.ensures.ok c.if-not-branch.false in
+    let all : map g.O.Offset.number c.append_blocks.new.offsets.items ≡ map pos (starts_of c.args.starts.now) = filled ∙ ap (λ xs. map g.O.Offset.number xs ++ map pos (starts_of c.args.starts.now)) c.in_ok-offsets.ensures.items in
+    let made = offsets-done g.O.Offset.number c.push.new.self.items c.append_blocks.new.offsets.items c.args.last c.args.starts.now c.args.end c.requires.last c.in_ok-push.ensures.items all in
+    IfOk-weaker c.try_from_vec.result _ _ (λ os are. are ∙ offsets-whole g.O.Offset.number c.push.new.self.items (starts_of c.args.starts.now ++ c.args.end ∷ []) made) c.try_from_vec.ensures.ok
 
 pub returns-clause-err : goal.returns-clause-err
 returns-clause-err g c =
-    let past : length c.args.starts.now ≤ c.loop-i.i = omega (arith, c.loop-i-test.false) in
-    let numbers = offsets-numbers g.O.Offset.number c.push-2.new.self.items c.loop-i.offsets.items c.args.last c.args.starts.now c.loop-i.i c.args.end past c.requires.last c.in_ok-push-2.ensures.items c.loop-i.invariant in
-    refused-err _ c.try_from_vec.result c.try_from_vec.ensures.err (λ is. places-refused g.O.Offset.number c.push-2.new.self.items (starts_of c.args.starts.now ++ c.args.end ∷ []) c.args.end numbers (c.try_from_vec.ensures.refused.0 is))
+    let filled = c.in_ok-append_blocks.ensures.ok c.if-not-branch.false in
+    let all : map g.O.Offset.number c.append_blocks.new.offsets.items ≡ map pos (starts_of c.args.starts.now) = filled ∙ ap (λ xs. map g.O.Offset.number xs ++ map pos (starts_of c.args.starts.now)) c.in_ok-offsets.ensures.items in
+    let made = offsets-done g.O.Offset.number c.push.new.self.items c.append_blocks.new.offsets.items c.args.last c.args.starts.now c.args.end c.requires.last c.in_ok-push.ensures.items all in
+    refused-err _ c.try_from_vec.result c.try_from_vec.ensures.err (λ is. places-refused g.O.Offset.number c.push.new.self.items (starts_of c.args.starts.now ++ c.args.end ∷ []) c.args.end made (c.try_from_vec.ensures.refused.0 is))
