@@ -1,4 +1,4 @@
-//! NarrowNumbers of at most eight bits that wait to be packed.
+//! Numbers of at most eight bits that wait to be packed.
 
 ghost use Rattle.std.specs.Prelude.{◌≡◌, ◌<◌, ◌≤◌, ◌+◌, ◌++◌, [], ◌∷◌, All, IsTrue, length, take, replicate};
 
