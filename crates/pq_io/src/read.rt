@@ -1,33 +1,53 @@
 //! Reads a source to its end.
-ghost use Rattle.std.specs.Prelude.{◌≡◌, ◌≤◌, ◌++◌, ◌⊎◌, IfOk, IfErr, OnOk, IsErrOf};
+ghost use Rattle.std.specs.Prelude.{ℕ, List, ◌≡◌, ◌≤◌, ◌<◌, ◌+◌, ◌++◌, ◌⊎◌, length, take, replicate, IfOk, IfErr, OnOk, OnErr, IsErrOf};
+ghost use Rattle.std.specs.Io.KnownBytes.{Consumes, IsAtEnd, Keeps};
 ghost use Rattle.columns_base.specs.declared.error.Error.{Error};
 ghost use Rattle.columns_base.specs.declared.error.Limit.{Limit};
 ghost use Rattle.pq_io.specs.Causes.{Rose};
 ghost use Rattle.pq_io.specs.Reading.{GaveAll, GaveSome, GavePast};
 
-use crate::Source;
+use crate::{Failed, Source};
 use columns_base::{Error, Limit, Result};
 use std::alloc::Global;
 
-/// The length in bytes of the buffer between a source and the vector.
-const BUFFER_LENGTH: usize = 65_536;
+/// The most bytes that a source is asked for at once.
+const PULL_LENGTH: usize = 65_536;
 
-/// The most bytes that are copied by one call: the C library copies longer stretches by one instruction that repeats (`rep movsb`).
+/// The most bytes that are cleared by one call: the C library clears longer stretches by one instruction that repeats (`rep stosb`).
 const PIECE_LENGTH: usize = 1024;
 
-// Appends bytes, some at a time.
-fn append_pieces(bytes: &mut Vec<u8>, more: &[u8]) -> Result<()>
-    ensures ok { OnOk result (bytes.new.items ≡ bytes.old.items ++ more.now) }
+// Appends so many zeros, some at a time.
+fn append_zeros(bytes: &mut Vec<u8>, count: usize) -> Result<()>
+    ensures ok { OnOk result (bytes.new.items ≡ bytes.old.items ++ replicate count 0) }
     ensures err { IfErr result (λ e. e ≡ Error.Memory) }
 {
-    let mut rest = more;
-    while rest.len() > PIECE_LENGTH {
-        let (piece, behind) = rest.split_at(PIECE_LENGTH);
-        bytes.extend_from_slice(piece)?;
-        rest = behind;
+    let mut rest = count;
+    while rest > 0 {
+        let piece = rest.min(PIECE_LENGTH);
+        let Some(size) = bytes.len().checked_add(piece) else {
+            return Err(Error::Memory);
+        };
+        bytes.resize(size, 0)?;
+        rest -= piece;
     }
-    bytes.extend_from_slice(rest)?;
     Ok(())
+}
+
+// Moves the first bytes that are left to the places from `filled` on, and answers how many.
+fn pull_behind<S: Source>(
+    source: &mut S,
+    places: &mut [u8],
+    filled: usize,
+) -> std::result::Result<usize, Failed>
+    requires { filled ≤ length places.old }
+    ensures len { length places.new ≡ length places.old }
+    ensures gave { IfOk result (λ n. (filled + n ≤ length places.new) × ((bs : List ℕ) × Consumes (S.left source.old) (S.left source.new) bs × (take (filled + n) places.new ≡ take filled places.old ++ bs))) }
+    ensures end { IfOk result (λ n. n ≡ 0 → filled < length places.old → IsAtEnd (S.left source.new)) }
+    ensures failed { IfErr result (λ _. Keeps (S.left source.old) (S.left source.new)) }
+    ensures later { S.faults source.old ≤ S.faults source.new }
+    ensures cause { OnErr result (Rose (S.faults source.old) (S.faults source.new)) }
+{
+    source.pull(&mut places[filled..])
 }
 
 /// Reads all the bytes that are left, or one more than the limit. The vector grows by what came, never by the limit.
@@ -43,14 +63,18 @@ pub fn read_all<S: Source>(alloc: Global, source: &mut S, byte_limit: usize) -> 
     ensures only { IfErr result (λ e. (e ≡ Error.ReadFault) ⊎ (e ≡ Error.InputLimit Limit.Bytes) ⊎ (e ≡ Error.Memory)) }
 {
     let mut bytes = Vec::new(alloc);
-    let mut buffer = [0u8; BUFFER_LENGTH];
-    'reading: while bytes.len() <= byte_limit {
-        let room = (byte_limit - bytes.len())
-            .saturating_add(1)
-            .min(BUFFER_LENGTH);
-        match source.pull(&mut buffer[..room]) {
-            Ok(0) => return Ok(bytes),
-            Ok(count) => append_pieces(&mut bytes, &buffer[..count])?,
+    let mut filled = 0;
+    'reading: while filled <= byte_limit {
+        if filled == bytes.len() {
+            let room = (byte_limit - filled).saturating_add(1).min(PULL_LENGTH);
+            append_zeros(&mut bytes, room)?;
+        }
+        match pull_behind(source, &mut bytes, filled) {
+            Ok(0) => {
+                bytes.truncate(filled);
+                return Ok(bytes);
+            }
+            Ok(count) => filled += count,
             Err(_) => return Err(Error::ReadFault),
         }
     }
