@@ -24,6 +24,10 @@ KEEPING_CLANG = """#!/bin/sh
 case "$*" in *fsanitize*) cp module.bc "{kept}.part" && mv "{kept}.part" "{kept}"; exit 1;; esac
 exec {kit}/toolchain/bin/clang "$@"
 """
+# The check that runs beside a try is of no use here.
+NO_CHECK = """#!/bin/sh
+exec sleep 600
+"""
 # As `rattle build` calls clang.
 FLAGS = """-mllvm -no-trap-after-noreturn -ffunction-sections -fdata-sections -mllvm -trap-unreachable -mllvm -no-x86-call-frame-opt
     -mllvm -disable-machine-licm -mllvm -disable-postra-machine-licm -mllvm -sink-common-insts=false --no-default-config
@@ -55,9 +59,22 @@ def make_kit(folder, kept):
     for it in os.listdir(f"{KIT}/toolchain/bin"):
         if it != "clang":
             os.symlink(f"{KIT}/toolchain/bin/{it}", f"{folder}/toolchain/bin/{it}")
-    with open(f"{folder}/toolchain/bin/clang", "w") as it:
-        it.write(KEEPING_CLANG.format(kept=kept, kit=KIT))
-    os.chmod(f"{folder}/toolchain/bin/clang", 0o755)
+    os.remove(f"{folder}/bin/rattle")
+    for name, text in (("toolchain/bin/clang", KEEPING_CLANG.format(kept=kept, kit=KIT)), ("bin/rattle", NO_CHECK)):
+        with open(f"{folder}/{name}", "w") as it:
+            it.write(text)
+        os.chmod(f"{folder}/{name}", 0o755)
+
+
+def share_alike(folder):
+    """Gives the sessions that `rt` starts the share of the processors that this one has (a session's share is told by its autogroup)."""
+    for it in subprocess.run(["pgrep", "-f", f"{folder}/kit"], capture_output=True, text=True).stdout.split():
+        try:
+            share = open("/proc/self/autogroup").read().split()[-1]
+            open(f"/proc/{it}/autogroup", "w").write(share)
+        except OSError:
+            # No such groups here, or it ended meanwhile.
+            pass
 
 
 def keep_module(crate, folder):
@@ -74,7 +91,8 @@ def keep_module(crate, folder):
         start_new_session=True,
     )
     while run.poll() is None and not os.path.exists(kept):
-        time.sleep(0.2)
+        share_alike(folder)
+        time.sleep(0.5)
     # The interpreter and the check beside it would go on.
     run.send_signal(signal.SIGTERM)
     run.wait()

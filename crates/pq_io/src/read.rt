@@ -14,7 +14,7 @@ use std::alloc::Global;
 const PULL_LENGTH: usize = 65_536;
 
 /// The most bytes that are cleared by one call: the C library clears longer stretches by one instruction that repeats (`rep stosb`).
-const PIECE_LENGTH: usize = 1024;
+const PIECE_LENGTH: usize = 2048;
 
 // Appends so many zeros, some at a time.
 fn append_zeros(bytes: &mut Vec<u8>, count: usize) -> Result<()>
