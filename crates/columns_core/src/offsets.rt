@@ -267,9 +267,41 @@ impl<O: Offset> OffsetsBuffer<O> {
     }
 }
 
+// Whether the second place is not below the first, and neither is negative: true only where it is so.
+#[inline(always)]
+fn is_step<O: Offset>(before: O, here: O) -> bool
+    ensures { IsTrue result → IsWhole (O.number before) × IsWhole (O.number here) × (whole (O.number before) ≤ whole (O.number here)) }
+{
+    if before.is_negative() {
+        return false;
+    }
+    if here.is_negative() {
+        return false;
+    }
+    before.to_usize() <= here.to_usize()
+}
+
+// Whether no place is negative and none below the one before it: true only where it is so. No place ends the loop, so that several are compared by
+// one instruction.
+fn surely_rise<O: Offset>(places: &[O]) -> bool
+    ensures { IsTrue result → AreFrom 0 (map O.number places.now) }
+{
+    if places.len() < 2 {
+        return false;
+    }
+    let mut rise = true;
+    for i in 1..places.len() {
+        rise &= is_step(places[i - 1], places[i]);
+    }
+    rise
+}
+
 fn never_falls<O: Offset>(places: &[O]) -> bool
     ensures { IsTrue result ↔ AreFrom 0 (map O.number places.now) }
 {
+    if surely_rise(places) {
+        return true;
+    }
     let mut before = 0;
     for place in places {
         if place.is_negative() {
