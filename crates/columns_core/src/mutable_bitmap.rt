@@ -1,7 +1,7 @@
 //! Truth values that grow.
-ghost use Rattle.std.specs.Prelude.{◌≡◌, ◌+◌, ◌-◌, ◌*◌, ◌/◌, ◌%◌, ◌<◌, ◌≤◌, ◌^◌, ◌==◌, ◌≢◌, ℕ, [], ◌∷◌, ◌++◌, IfOk, IfErr, IsOk, replicate, slice_index_or, vec_len, vec_capacity, length as list_length, IsTrue};
+ghost use Rattle.std.specs.Prelude.{◌≡◌, ◌+◌, ◌-◌, ◌*◌, ◌/◌, ◌%◌, ◌<◌, ◌≤◌, ◌^◌, ◌==◌, ◌≢◌, ℕ, [], ◌∷◌, ◌++◌, IfOk, IfErr, IsOk, replicate, slice_index_or, vec_len, vec_capacity, length as list_length, IsTrue, false};
 ghost use Rattle.columns_core.specs.Bits.{bits_from, bit_of, word_bits};
-ghost use Rattle.std.specs.Int.{bit_at};
+ghost use Rattle.std.specs.Int.{bit_at, bytes_low_first};
 
 use crate::bit_runs::{bit_in, eight_bits};
 use crate::bitmap::Bitmap;
@@ -152,6 +152,7 @@ impl MutableBitmap {
     /// # Errors
     ///
     /// `Memory`; the truth values are then as before.
+    #[inline(always)]
     pub fn extend_from_word(&mut self, word: u64, length: usize) -> Result<()>
         requires { length ≤ 64 }
         ensures ok { IfOk result (λ _. self.new.0 ≡ self.old.0 ++ word_bits word length) }
@@ -164,10 +165,28 @@ impl MutableBitmap {
             self.size += length;
             return Ok(());
         }
-        self.reserve(length)?;
+        if !self.extend_narrow(word, length) {
+            return Err(Error::Memory);
+        }
+        Ok(())
+    }
+
+    // The same where there may be little room. Tells whether there was memory.
+    #[cold]
+    #[inline(never)]
+    fn extend_narrow(&mut self, word: u64, length: usize) -> bool
+        requires { length ≤ 64 }
+        ensures ok { IsTrue result → self.new.0 ≡ self.old.0 ++ word_bits word length }
+        ensures err { result ≡ false → self.new.0 ≡ self.old.0 }
+        ensures reserved { length ≤ self.old.1 → IsTrue result }
+        ensures room { list_length self.old.0 + self.old.1 ≤ list_length self.new.0 + self.new.1 }
+    {
+        if self.reserve(length).is_err() {
+            return false;
+        }
         put_word(&mut self.bytes, self.size, word, length);
         self.size += length;
-        Ok(())
+        true
     }
 
     /// The truth values in packed bytes, the lowest bit of each byte first. What stands in the last byte behind them may be anything.
@@ -384,12 +403,24 @@ fn put_wide(bytes: &mut Vec<u8>, size: usize, word: u64, length: usize)
     let open = size % 8;
     let low = open_bits(bytes, size);
     let joined = word_behind(word, low, open);
-    let first = (joined % (1 << 64)) as u64;
-    let second = (joined >> 64) as u64;
+    let spelled = sixteen_bytes(joined);
     bytes.truncate(full);
-    bytes.extend_from_slice(&first.to_le_bytes()).unwrap();
-    bytes.extend_from_slice(&second.to_le_bytes()).unwrap();
-    bytes.truncate(full + bytes_for(open + length));
+    bytes.extend_from_slice(&spelled).unwrap();
+    bytes.truncate(full + (open + length + 7) / 8);
+}
+
+// The sixteen bytes of a number, the lowest first.
+#[inline(always)]
+fn sixteen_bytes(n: u128) -> [u8; 16]
+    ensures { result ≡ bytes_low_first 0 16 n }
+{
+    let first = (n % (1 << 64)) as u64;
+    let second = (n >> 64) as u64;
+    let mut both = [0; 16];
+    let (low, high) = both.split_at_mut(8);
+    low.copy_from_slice(&first.to_le_bytes());
+    high.copy_from_slice(&second.to_le_bytes());
+    both
 }
 
 // A byte more where the last one is full.

@@ -1,4 +1,4 @@
-use Rattle.std.proofs.Common.{◌+◌, length, ap, arith}
+use Rattle.std.proofs.Common.{◌+◌, ap, arith}
 use Rattle.columns_core.proofs.Bits.{length_bits, size_seen}
 use Rattle.columns_core.proofs.mutable_bitmap.MutableBitmap.extend_from_word.Goals as goal
 
@@ -10,16 +10,4 @@ returns-then-has_wide_room-clause-room c =
       size_seen _ _ _ _ (ap (λ p. p.0) c.self.view_is),
       c.put_wide.ensures.capacity,
       length_bits c.put_wide.new.bytes.items 0 (c.self.inside.size + c.args.length),
-    )
-
-pub returns-clause-room : goal.returns-clause-room
-returns-clause-room c =
-    omega (
-      arith,
-      ap (λ p. p.1) c.self-2.view_is,
-      size_seen _ _ _ _ (ap (λ p. p.0) c.self-2.view_is),
-      ap length c.reserve.ensures.same,
-      c.reserve.ensures.room,
-      c.put_word.ensures.capacity,
-      length_bits c.put_word.new.bytes.items 0 (c.self-2.inside.size + c.args.length),
     )
