@@ -1,5 +1,6 @@
 pub mod BlocksTaken
 pub mod Decoding
+pub mod Flat
 pub mod Eights
 pub mod Filling
 pub mod Folding

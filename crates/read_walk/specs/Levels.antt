@@ -1,5 +1,5 @@
 -- What is left of the levels of a page.
-use Rattle.std.specs.Prelude.{◌≡◌, ◌-◌, ◌≤◌, List, ◌++◌, length}
+use Rattle.std.specs.Prelude.{◌≡◌, ℕ, ◌-◌, ◌≤◌, false, List, ◌++◌, length}
 use Rattle.read_walk.specs.LevelRuns.{runs_left, IsReading}
 use Rattle.read_walk.specs.Pairs.{Item, block_items, behind}
 use Rattle.read_walk.specs.declared.levels.Levels.{Levels}
@@ -14,3 +14,14 @@ pub record IsLevels (l : Levels) : Type 0 where
   pub def_size : length l.def_block ≡ 64
   pub reps : IsReading l.reps
   pub defs : IsReading l.defs
+
+-- No unpacked pair is left, and 64 more stand there: copies of the repetition level 0, and packed definition levels of a few bits each.
+pub record IsFlatNext (l : Levels) (rows : ℕ) : Type 0 where
+  pub used : l.end ≤ l.at
+  pub goes_on : l.failed ≡ false
+  pub many : 64 ≤ l.defs.standing
+  pub copies : 64 ≤ l.reps.copies
+  pub zeros : l.reps.number ≡ 0
+  pub packed : l.defs.copies ≡ 0
+  pub narrow : l.defs.runs.num_bits ≤ 7
+  pub wanted : 64 ≤ rows

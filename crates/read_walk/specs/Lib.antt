@@ -1,4 +1,5 @@
 pub mod Blocks
+pub mod Flat
 pub mod Gives
 pub mod LevelRuns
 pub mod Levels

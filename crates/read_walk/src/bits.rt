@@ -54,6 +54,17 @@ fn put_bits(out: &mut [u32], word: u64)
     numbers.cast::<u32>().copy_to_slice(out);
 }
 
+/// The bits of a word as 64 numbers, the lowest first.
+pub fn put_word(out: &mut [u32], word: u64)
+    requires { length out.old ≡ 64 }
+    ensures { out.new ≡ digits_of 2 64 word }
+{
+    for i in 0..8 {
+        let part = &mut out[8 * i..];
+        put_bits(part, word >> (8 * i));
+    }
+}
+
 // The same of two bits.
 fn put_pairs(out: &mut [u32], word: u64)
     requires { 8 ≤ length out.old }

@@ -1,24 +1,33 @@
 //! Pairs that were taken.
-ghost use Rattle.std.specs.Prelude.{◌≡◌, ◌≤◌, ◌++◌, [], length, drop};
+ghost use Rattle.std.specs.Prelude.{◌≡◌, ℕ, ◌+◌, ◌*◌, ◌/◌, ◌^◌, ◌<◌, ◌≤◌, ◌++◌, [], IsTrue, IfSome, length, drop, replicate, slice_index};
+ghost use Rattle.pq_numbers.specs.Bits.{digits_of};
+ghost use Rattle.pq_numbers.specs.Texts.{number_of};
 
+use crate::bits::{low_bytes, put_eights, put_word};
 use std::marker::Model;
 
 /// At most 64 pairs. Contracts see their repetition levels and their definition levels.
+///
+/// Where `flat` holds, all repetition levels are 0; and where `has_word` does, these are 64 pairs, and the definition levels are the bits of `word`.
 #[derive(Drop)]
 pub struct PairBlock {
     rep_block: [u32; 64],
     def_block: [u32; 64],
     filled: usize,
+    flat: bool,
+    has_word: bool,
+    word: u64,
 }
 
 impl Model for PairBlock {
     ghost use Rattle.std.specs.Prelude.{List, ℕ, take, ◌≤◌};
+    ghost use Rattle.read_walk.specs.Flat.{IsBlock};
 
     ghost Value = { List ℕ × List ℕ };
 
     ghost view = { λ b. (take b.filled b.rep_block, take b.filled b.def_block) };
 
-    ghost invariant = { λ b. b.filled ≤ 64 };
+    ghost invariant = { λ b. IsBlock b.rep_block b.def_block b.filled b.flat b.has_word b.word };
 }
 
 // The front of the memory becomes these levels.
@@ -40,6 +49,9 @@ impl PairBlock {
             rep_block: [0; 64],
             def_block: [0; 64],
             filled: 0,
+            flat: true,
+            has_word: false,
+            word: 0,
         }
     }
 
@@ -53,6 +65,8 @@ impl PairBlock {
         put(&mut self.rep_block, reps);
         put(&mut self.def_block, defs);
         self.filled = reps.len();
+        self.flat = false;
+        self.has_word = false;
     }
 
     /// The repetition levels.
@@ -67,5 +81,46 @@ impl PairBlock {
         ensures { result.now ≡ self.now.1 }
     {
         &self.def_block[..self.filled]
+    }
+}
+
+/// 64 pairs that begin a row each, of packed definition levels, from a bit of the first byte on.
+pub fn put_flat(block: &mut PairBlock, packed: &[u8], shift: u32, width: u32)
+    requires narrow { width ≤ 7 }
+    requires small { shift < 8 }
+    requires enough { shift + width * 64 ≤ 8 * length packed.now }
+    ensures reps { block.new.0 ≡ replicate 64 0 }
+    ensures defs { block.new.1 ≡ digits_of (2 ^ width) 64 (number_of packed.now / 2 ^ shift) }
+{
+    if !block.flat {
+        block.rep_block = [0; 64];
+        block.flat = true;
+    }
+    block.filled = 64;
+    if shift == 0 && width == 1 {
+        block.word = low_bytes(packed);
+        put_word(&mut block.def_block, block.word);
+        block.has_word = true;
+    } else {
+        put_eights(&mut block.def_block, packed, shift, width, 8);
+        block.has_word = false;
+    }
+}
+
+/// Whether each pair is known to begin a row.
+pub fn is_flat(block: &PairBlock) -> bool
+    ensures { IsTrue result → (k : ℕ) → k < length block.now.0 → slice_index block.now.0 k ≡ 0 }
+{
+    block.flat
+}
+
+/// The definition levels of 64 pairs as bits, where they are known to be.
+pub fn level_word(block: &PairBlock) -> Option<u64>
+    ensures { IfSome result (λ word. block.now.1 ≡ digits_of 2 64 word) }
+{
+    if block.has_word {
+        Some(block.word)
+    } else {
+        None
     }
 }

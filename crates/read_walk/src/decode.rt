@@ -6,6 +6,7 @@ ghost use Rattle.read_state.specs.Reach.{chosen};
 ghost use Rattle.read_walk.specs.Gives.{Decoded, called, mixed};
 ghost use Rattle.read_walk.specs.Values.{CannotDecode};
 
+use crate::block::{PairBlock, level_word};
 use crate::traits::NestedDecoder;
 use columns_base::Result;
 use read_state::{levels_at, levels_from};
@@ -154,4 +155,29 @@ pub fn decode_levels<'a, D: NestedDecoder<'a>>(
         at += part.len();
     }
     Ok(())
+}
+
+/// Decodes what the pairs of a block call for.
+///
+/// # Errors
+///
+/// Those of the decoder.
+pub fn decode_block<'a, D: NestedDecoder<'a>>(
+    values: &mut D::State,
+    decoded: &mut D::DecodedState,
+    decoder: &D,
+    block: &PairBlock,
+    floor: usize,
+    top: usize,
+) -> Result<()>
+    requires ordered { floor ≤ top }
+    ensures ok { OnOk result (Decoded floor top block.now.1 (D.left decoder.now values.old) (D.left decoder.now values.new) (D.slots decoded.old) (D.slots decoded.new)) }
+    ensures err { IfErr result (CannotDecode D.byte_limit (called top block.now.1) (D.left decoder.now values.old) (D.slots decoded.old)) }
+{
+    if floor == 0 && top == 1 {
+        if let Some(word) = level_word(block) {
+            return decoder.push_mixed(values, decoded, word, 64);
+        }
+    }
+    decode_levels(values, decoded, decoder, block.defs(), floor, top)
 }

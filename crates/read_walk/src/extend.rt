@@ -10,9 +10,9 @@ ghost use Rattle.read_walk.specs.Steps.{TakesStep, CannotStep};
 ghost use Rattle.read_walk.specs.Ticks.{TicksEach};
 
 use crate::block::PairBlock;
-use crate::order::{WayLevels, check_copies, check_pairs, way_levels};
+use crate::order::{WayLevels, check_block, check_copies, way_levels};
 use crate::page::NestedPage;
-use crate::take::{take_copies, take_pairs};
+use crate::take::{take_all, take_copies};
 use crate::traits::NestedDecoder;
 use columns_base::Result;
 use read_state::{NestedState, Steps};
@@ -26,23 +26,22 @@ fn walk_block<'a, D: NestedDecoder<'a>, L: Ledger>(
     decoder: &D,
     levels: WayLevels,
     before: Option<usize>,
-    reps: &[u32],
-    defs: &[u32],
+    block: &PairBlock,
     steps: &mut Steps<L>,
 ) -> Result<()>
     requires levels { AreLevels (kept_way nested.old) levels.lists levels.top levels.floor }
-    requires reps { length reps.now ≤ 64 }
-    requires defs { length defs.now ≡ length reps.now }
+    requires reps { length block.now.0 ≤ 64 }
+    requires defs { length block.now.1 ≡ length block.now.0 }
     requires fits { StateFits nested.old }
     requires ended { EndedAt before nested.old }
     requires decoded { length (D.slots decoded.old) ≡ leaf_count nested.old }
-    ensures ok { OnOk result (Follows (kept_way nested.old) before (zipped reps.now defs.now) × TookBlock before reps.now defs.now nested.old nested.new (D.slots decoded.old) (D.slots decoded.new) (D.left decoder.now values.old) (D.left decoder.now values.new)) }
-    ensures err { IfErr result (λ e. OneMayNot (kept_way nested.old) before (zipped reps.now defs.now) e ⊎ CannotTake D.byte_limit reps.now defs.now nested.old (D.left decoder.now values.old) (D.slots decoded.old) e) }
+    ensures ok { OnOk result (Follows (kept_way nested.old) before (zipped block.now.0 block.now.1) × TookBlock before block.now.0 block.now.1 nested.old nested.new (D.slots decoded.old) (D.slots decoded.new) (D.left decoder.now values.old) (D.left decoder.now values.new)) }
+    ensures err { IfErr result (λ e. OneMayNot (kept_way nested.old) before (zipped block.now.0 block.now.1) e ⊎ CannotTake D.byte_limit block.now.0 block.now.1 nested.old (D.left decoder.now values.old) (D.slots decoded.old) e) }
     ensures ticked { TicksAtMost (length nested.old) steps.old steps.new }
 {
-    match check_pairs(nested, levels, before, reps, defs) {
-        Ok(()) => take_pairs(
-            values, nested, decoded, decoder, levels, before, reps, defs, steps,
+    match check_block(nested, levels, before, block) {
+        Ok(()) => take_all(
+            values, nested, decoded, decoder, levels, before, block, steps,
         ),
         Err(error) => Err(error),
     }
@@ -125,15 +124,7 @@ fn step_block<'a, 'b, D: NestedDecoder<'b>, L: Ledger>(
         Some(Ok(begun)) => begun,
     };
     match walk_block(
-        values,
-        nested,
-        decoded,
-        decoder,
-        levels,
-        *before,
-        block.reps(),
-        block.defs(),
-        steps,
+        values, nested, decoded, decoder, levels, *before, block, steps,
     ) {
         Ok(()) => {}
         Err(error) => return Err(error),

@@ -1,12 +1,12 @@
 //! Level pairs in blocks of 64.
-ghost use Rattle.std.specs.Prelude.{◌≡◌, ◌⊎◌, ℕ, ◌+◌, ◌-◌, ◌<◌, ◌≤◌, ◌^◌, ◌||◌, ◌&&◌, [], true, false, length, take, drop, slice_index, Ok, count_by};
+ghost use Rattle.std.specs.Prelude.{◌≡◌, ◌⊎◌, ℕ, ◌+◌, ◌-◌, ◌<◌, ◌≤◌, ◌^◌, ◌||◌, ◌&&◌, [], true, false, length, take, drop, slice_index, Ok, Some, IsTrue, count_by};
 ghost use Rattle.read_walk.specs.LevelRuns.{IsReading};
-ghost use Rattle.read_walk.specs.Levels.{levels_left, IsLevels};
+ghost use Rattle.read_walk.specs.Levels.{levels_left, IsLevels, IsFlatNext};
 ghost use Rattle.read_walk.specs.Pairs.{TakesBlock, TakesCopies, TakesRun, is_within, rows_in, is_row};
 
-use crate::block::PairBlock;
+use crate::block::{PairBlock, put_flat};
 use crate::folds::{all_bits, are_within, count_zeros};
-use crate::runs::{LevelRuns, drop_copies, fill, stop_runs};
+use crate::runs::{LevelRuns, drop_copies, drop_packed, fill, stop_runs};
 use columns_base::{Error, Result, S};
 
 /// The levels that were unpacked, from one place of a block to another, those that were not, and whether a fault stands behind the block.
@@ -159,12 +159,69 @@ fn part_of(levels: &[u32], at: usize, end: usize) -> &[u32]
     &levels[at..end]
 }
 
-/// The next pairs, of which at most `rows` begin a row, and how many do; none where no pair is left or one begins a row too many.
-///
-/// # Errors
-///
-/// S4 where a level of the next pair is missing or above its greatest.
-pub fn next_block<'a>(
+// Whether 64 pairs come next that begin a row each and are all wanted, their definition levels packed in a few bits each.
+fn is_flat_next<'a>(levels: &Levels<'a>, rows: usize) -> bool
+    ensures { IsTrue result → IsFlatNext levels.now rows }
+{
+    if levels.at < levels.end {
+        return false;
+    }
+    if levels.failed {
+        return false;
+    }
+    if levels.defs.standing < 64 {
+        return false;
+    }
+    if levels.reps.copies < 64 {
+        return false;
+    }
+    if levels.reps.number > 0 {
+        return false;
+    }
+    if levels.defs.copies > 0 {
+        return false;
+    }
+    if levels.defs.runs.num_bits > 7 {
+        return false;
+    }
+    if rows < 64 { false } else { true }
+}
+
+// Whether none of these packed numbers of so many bits is above this one.
+fn are_numbers_within(numbers: &[u32], width: u32, max: usize) -> bool
+    requires narrow { width ≤ 7 }
+    requires fits { (k : ℕ) → k < length numbers.now → slice_index numbers.now k < 2 ^ width }
+    ensures { IsTrue result → (k : ℕ) → k < length numbers.now → slice_index numbers.now k ≤ max }
+{
+    let base: usize = 1 << width;
+    if base - 1 <= max {
+        return true;
+    }
+    are_within(numbers, max)
+}
+
+// Takes them if no definition level is above its greatest.
+fn next_flat<'a>(levels: &mut Levels<'a>, rows: usize, block: &mut PairBlock) -> bool
+    requires is { IsLevels levels.old }
+    ensures is { IsLevels levels.new }
+    ensures taken { IsTrue result → TakesBlock rows (levels_left levels.old) (Some (Ok 64)) block.new.0 block.new.1 (levels_left levels.new) }
+    ensures same { result ≡ false → levels_left levels.new ≡ levels_left levels.old }
+{
+    if !is_flat_next(levels, rows) {
+        return false;
+    }
+    let width = levels.defs.runs.num_bits;
+    put_flat(block, levels.defs.packed, levels.defs.shift, width);
+    if !are_numbers_within(block.defs(), width, levels.max_def) {
+        return false;
+    }
+    drop_copies(&mut levels.reps, 64);
+    drop_packed(&mut levels.defs, 64);
+    true
+}
+
+// The next pairs of the block that is unpacked.
+fn next_unpacked<'a>(
     levels: &mut Levels<'a>,
     rows: usize,
     block: &mut PairBlock,
@@ -191,6 +248,26 @@ pub fn next_block<'a>(
     block.copy(reps, defs);
     levels.at = end;
     Some(Ok(begun))
+}
+
+/// The next pairs, of which at most `rows` begin a row, and how many do; none where no pair is left or one begins a row too many.
+///
+/// # Errors
+///
+/// S4 where a level of the next pair is missing or above its greatest.
+pub fn next_block<'a>(
+    levels: &mut Levels<'a>,
+    rows: usize,
+    block: &mut PairBlock,
+) -> Option<Result<usize>>
+    requires is { IsLevels levels.old }
+    ensures is { IsLevels levels.new }
+    ensures taken { TakesBlock rows (levels_left levels.old) result block.new.0 block.new.1 (levels_left levels.new) }
+{
+    if next_flat(levels, rows, block) {
+        return Some(Ok(64));
+    }
+    next_unpacked(levels, rows, block)
 }
 
 // How many pairs from a place on are equal.

@@ -182,8 +182,8 @@ pub fn drop_copies<'a>(levels: &mut LevelRuns<'a>, count: usize)
     levels.left -= count;
 }
 
-// Passes over so many of the packed numbers.
-fn drop_packed<'a>(levels: &mut LevelRuns<'a>, count: usize)
+/// Passes over so many of the packed numbers.
+pub fn drop_packed<'a>(levels: &mut LevelRuns<'a>, count: usize)
     requires is { IsReading levels.old }
     requires none { levels.old.copies ≡ 0 }
     requires within { count ≤ levels.old.standing }

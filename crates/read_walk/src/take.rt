@@ -5,7 +5,8 @@ ghost use Rattle.read_state.specs.Ticks.{TicksAtMost};
 ghost use Rattle.read_walk.specs.Blocks.{TookBlock, CannotTake};
 ghost use Rattle.read_walk.specs.Order.{zipped, Follows, EndedAt, AreLevels};
 
-use crate::decode::{decode_copies, decode_levels};
+use crate::block::PairBlock;
+use crate::decode::{decode_block, decode_copies, decode_levels};
 use crate::order::{WayLevels, way_levels};
 use crate::traits::NestedDecoder;
 use columns_base::Result;
@@ -41,6 +42,38 @@ pub fn take_pairs<'a, D: NestedDecoder<'a>, L: Ledger>(
 {
     match decode_levels(values, decoded, decoder, defs, levels.floor, levels.top) {
         Ok(()) => nested.push_levels(reps, defs, steps),
+        Err(error) => Err(error),
+    }
+}
+
+/// The same of the pairs of a block.
+///
+/// # Errors
+///
+/// As `take_block`.
+pub fn take_all<'a, D: NestedDecoder<'a>, L: Ledger>(
+    values: &mut D::State,
+    nested: &mut NestedState,
+    decoded: &mut D::DecodedState,
+    decoder: &D,
+    levels: WayLevels,
+    before: Option<usize>,
+    block: &PairBlock,
+    steps: &mut Steps<L>,
+) -> Result<()>
+    requires levels { AreLevels (kept_way nested.old) levels.lists levels.top levels.floor }
+    requires reps { length block.now.0 ≤ 64 }
+    requires defs { length block.now.1 ≡ length block.now.0 }
+    requires fits { StateFits nested.old }
+    requires follow { Follows (kept_way nested.old) before (zipped block.now.0 block.now.1) }
+    requires ended { EndedAt before nested.old }
+    requires decoded { length (D.slots decoded.old) ≡ leaf_count nested.old }
+    ensures ok { OnOk result (TookBlock before block.now.0 block.now.1 nested.old nested.new (D.slots decoded.old) (D.slots decoded.new) (D.left decoder.now values.old) (D.left decoder.now values.new)) }
+    ensures err { IfErr result (CannotTake D.byte_limit block.now.0 block.now.1 nested.old (D.left decoder.now values.old) (D.slots decoded.old)) }
+    ensures ticked { TicksAtMost (length nested.old) steps.old steps.new }
+{
+    match decode_block(values, decoded, decoder, block, levels.floor, levels.top) {
+        Ok(()) => nested.push_levels(block.reps(), block.defs(), steps),
         Err(error) => Err(error),
     }
 }

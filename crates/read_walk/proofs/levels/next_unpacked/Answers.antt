@@ -3,7 +3,7 @@ use Rattle.read_walk.specs.Levels.{levels_left}
 use Rattle.read_walk.specs.LevelRuns.{runs_left}
 use Rattle.read_walk.specs.Pairs.{behind, rows_in, StopsAt, Item}
 use Rattle.read_walk.proofs.Maxima.{failed-next, part-first, length-part, taken-front, take-less, stops-row}
-use Rattle.read_walk.proofs.levels.next_block.Goals as goal
+use Rattle.read_walk.proofs.levels.next_unpacked.Goals as goal
 
 pub returns-then-levels-2-clause-taken : goal.returns-then-levels-2-clause-taken
 unfolding levels_left

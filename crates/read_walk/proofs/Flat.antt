@@ -1,0 +1,75 @@
+-- Pairs that begin a row each.
+use Rattle.std.proofs.Common.{◌≡◌, ℕ, zero, suc, ◌+◌, ◌*◌, ◌/◌, ◌%◌, ◌^◌, ◌<◌, ◌≤◌, ◌++◌, inl, inr, Bool, true, false, nat_le, nat_eq, Ok, List, [], ◌∷◌, length, take, replicate, get_or, refl, arith, ap, sym, ◌∙◌, append-nil}
+use Rattle.std.proofs.lemmas.Bool.Decides.{leb_tells}
+use Rattle.std.proofs.lemmas.List.{length-take, length-replicate}
+use Rattle.pq_numbers.specs.Bits.{digits_of}
+use Rattle.pq_numbers.specs.Texts.{number_of}
+use Rattle.pq_runs.specs.Hybrid.{Item as LevelItem, given}
+use Rattle.columns_core.specs.Bits.{word_bits}
+use Rattle.shredding.specs.Slot.{Slot}
+use Rattle.columns_base.specs.declared.error.Error.{Error}
+use Rattle.read_walk.specs.Gives.{Decoded, called, mixed}
+use Rattle.read_walk.specs.Values.{Stored, DecodesMixed, ones, CannotDecode}
+use Rattle.read_walk.proofs.Decoding.{decoded-none, front-mixed, cannot-first}
+use Rattle.read_walk.specs.Pairs.{Item, zip_items, block_items, pair_items, up_to_maxima, behind}
+use Rattle.read_walk.proofs.Eights.{few-are}
+use Rattle.read_walk.proofs.Zips.{zip-even}
+
+pub zeros-at : (n m k : ℕ) → ◌≡◌ {A = ℕ} (get_or (take n (replicate m 0)) k 0) 0
+zeros-at zero m k = refl
+zeros-at (suc n) zero k = refl
+zeros-at (suc n) (suc m) zero = refl
+zeros-at (suc n) (suc m) (suc k) = zeros-at n m k
+
+-- 64 numbers of one bit stand in eight bytes
+pub first-word : (w s : ℕ) (xs : List ℕ) → s ≡ 0 → w ≡ 1 → s + w * 64 ≤ 8 * length xs → digits_of 2 64 (number_of (take 8 xs)) ≡ digits_of (2 ^ w) 64 (number_of xs / 2 ^ s)
+first-word w s xs e f enough =
+    let h : 0 + 1 * 64 ≤ 8 * length xs = rw (e, f) at enough in
+    let there : 0 + 1 * 64 ≤ 8 * length (take 8 xs) = omega (arith, length-take 8 xs, h) in
+    let one : number_of (take 8 xs) / 2 ^ 0 ≡ number_of (take 8 xs) = omega arith in
+    rw (e, f) (ap (digits_of 2 64) (sym one) ∙ few-are 1 0 64 xs there)
+
+-- a digit is below the base
+pub digit-below : (w n m k : ℕ) → 0 < 2 ^ w → get_or (digits_of (2 ^ w) n m) k 0 < 2 ^ w
+digit-below w zero m k h = h
+digit-below w (suc n) m zero h = omega (arith, h)
+digit-below w (suc n) m (suc k) h = digit-below w n (m / 2 ^ w) k h
+
+-- a bit's level is at most 1
+pub bit-level : (n m k : ℕ) → get_or (digits_of 2 n m) k 0 ≤ 1
+bit-level zero m k = omega arith
+bit-level (suc n) m zero = omega arith
+bit-level (suc n) m (suc k) = bit-level n (m / 2) k
+
+all-from : (d : ℕ) → nat_le 0 d ≡ true
+all-from d = elim (leb_tells 0 d) [ inl e ↦ e.0 | inr e ↦ absurd (omega (arith, e.1)) ]
+
+-- levels of one bit are the bits of the values at the leaf
+pub bits-mixed : (n m : ℕ) → word_bits m n ≡ mixed 0 1 (digits_of 2 n m)
+bits-mixed zero m = refl
+bits-mixed (suc n) m = rw (all-from (m % 2)) (ap (λ (bs : List Bool). nat_eq (m % 2) 1 ∷ bs) (bits-mixed n (m / 2)))
+
+word-mixed : (floor top word : ℕ) (ds : List ℕ) → floor ≡ 0 → top ≡ 1 → ds ≡ digits_of 2 64 word → word_bits word 64 ≡ mixed floor top ds
+word-mixed floor top word ds f t e = rw (f, t, e) (bits-mixed 64 word)
+
+pub word-decoded : (floor top word : ℕ) (ds : List ℕ) (left left' : List Stored) (slots slots' : List Slot) → floor ≤ top → floor ≡ 0 → top ≡ 1 → ds ≡ digits_of 2 64 word → DecodesMixed (word_bits word 64) left left' slots slots' → Decoded floor top ds left left' slots slots'
+word-decoded floor top word ds left left' slots slots' h f t e r = rw (append-nil ds) at (front-mixed floor top ds [] (word_bits word 64) left left' left' slots slots' slots' h (word-mixed floor top word ds f t e) r (decoded-none floor top left' slots'))
+
+pub word-cannot : (most floor top word : ℕ) (ds : List ℕ) (left : List Stored) (slots : List Slot) (e : Error) → floor ≤ top → floor ≡ 0 → top ≡ 1 → ds ≡ digits_of 2 64 word → CannotDecode most (ones (word_bits word 64)) left slots e → CannotDecode most (called top ds) left slots e
+word-cannot most floor top word ds left slots e h f t d c = rw (append-nil ds) at (cannot-first most floor top ds [] (word_bits word 64) left slots e h (word-mixed floor top word ds f t d) c)
+
+module _ (mr md : ℕ) where
+  goes-on : (d : ℕ) (is : List Item) → d ≤ md → up_to_maxima mr md (Ok (0, d) ∷ is) ≡ Ok (0, d) ∷ up_to_maxima mr md is
+  goes-on d is h =
+      let b : nat_le d md ≡ true = elim (leb_tells d md) [ inl e ↦ e.0 | inr e ↦ absurd (omega (arith, e.1, h)) ] in
+      rw (all-from mr, b) refl
+
+  flat-within : (ds : List ℕ) (n : ℕ) (t : List Item) → length ds ≡ n → ((k : ℕ) → k < length ds → get_or ds k 0 ≤ md) → up_to_maxima mr md (pair_items (replicate n 0) ds ++ t) ≡ pair_items (replicate n 0) ds ++ up_to_maxima mr md t
+  flat-within [] zero t e h = refl
+  flat-within [] (suc n) t e h = absurd (omega (arith, e))
+  flat-within (d ∷ ds) zero t e h = absurd (omega (arith, e))
+  flat-within (d ∷ ds) (suc n) t e h = goes-on d (pair_items (replicate n 0) ds ++ t) (h 0 (omega arith)) ∙ ap (λ (is : List Item). Ok (0, d) ∷ is) (flat-within ds n t (omega (arith, e)) (λ k l. h (suc k) (omega (arith, l))))
+
+  pub flat-first : (n at r : ℕ) (ds : List ℕ) (f : Bool) (xs ys : List ℕ) (rs ds0 rs' ds' : List LevelItem) → f ≡ false → at ≡ 0 → length ds ≡ n → ((k : ℕ) → k < length ds → get_or ds k 0 ≤ md) → r ≡ 0 → rs ≡ given (replicate n r) ++ rs' → ds0 ≡ given ds ++ ds' → (a : ℕ) → block_items xs ys a at ++ behind mr md f rs ds0 ≡ pair_items (replicate n 0) ds ++ (block_items xs ys a at ++ behind mr md f rs' ds')
+  flat-first n at r ds f xs ys rs ds0 rs' ds' e z size within o p q a =
+      rw (e, z, p, q, o) (ap (up_to_maxima mr md) (zip-even (replicate n 0) ds rs' ds' (length-replicate n 0 ∙ sym size)) ∙ flat-within ds n (zip_items rs' ds') size within)
