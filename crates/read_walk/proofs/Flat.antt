@@ -3,7 +3,6 @@ use Rattle.std.proofs.Common.{◌≡◌, ℕ, zero, suc, ◌+◌, ◌*◌, ◌/�
 use Rattle.std.proofs.lemmas.Bool.Decides.{leb_tells}
 use Rattle.std.proofs.lemmas.List.{length-take, length-replicate}
 use Rattle.pq_numbers.specs.Bits.{digits_of}
-use Rattle.pq_numbers.specs.Texts.{number_of}
 use Rattle.pq_runs.specs.Hybrid.{Item as LevelItem, given}
 use Rattle.columns_core.specs.Bits.{word_bits}
 use Rattle.shredding.specs.Slot.{Slot}
@@ -12,7 +11,6 @@ use Rattle.read_walk.specs.Gives.{Decoded, called, mixed}
 use Rattle.read_walk.specs.Values.{Stored, DecodesMixed, ones, CannotDecode}
 use Rattle.read_walk.proofs.Decoding.{decoded-none, front-mixed, cannot-first}
 use Rattle.read_walk.specs.Pairs.{Item, zip_items, block_items, pair_items, up_to_maxima, behind}
-use Rattle.read_walk.proofs.Eights.{few-are}
 use Rattle.read_walk.proofs.Zips.{zip-even}
 
 pub zeros-at : (n m k : ℕ) → ◌≡◌ {A = ℕ} (get_or (take n (replicate m 0)) k 0) 0
@@ -20,20 +18,6 @@ zeros-at zero m k = refl
 zeros-at (suc n) zero k = refl
 zeros-at (suc n) (suc m) zero = refl
 zeros-at (suc n) (suc m) (suc k) = zeros-at n m k
-
--- 64 numbers of one bit stand in eight bytes
-pub first-word : (w s : ℕ) (xs : List ℕ) → s ≡ 0 → w ≡ 1 → s + w * 64 ≤ 8 * length xs → digits_of 2 64 (number_of (take 8 xs)) ≡ digits_of (2 ^ w) 64 (number_of xs / 2 ^ s)
-first-word w s xs e f enough =
-    let h : 0 + 1 * 64 ≤ 8 * length xs = rw (e, f) at enough in
-    let there : 0 + 1 * 64 ≤ 8 * length (take 8 xs) = omega (arith, length-take 8 xs, h) in
-    let one : number_of (take 8 xs) / 2 ^ 0 ≡ number_of (take 8 xs) = omega arith in
-    rw (e, f) (ap (digits_of 2 64) (sym one) ∙ few-are 1 0 64 xs there)
-
--- a digit is below the base
-pub digit-below : (w n m k : ℕ) → 0 < 2 ^ w → get_or (digits_of (2 ^ w) n m) k 0 < 2 ^ w
-digit-below w zero m k h = h
-digit-below w (suc n) m zero h = omega (arith, h)
-digit-below w (suc n) m (suc k) h = digit-below w n (m / 2 ^ w) k h
 
 -- a bit's level is at most 1
 pub bit-level : (n m k : ℕ) → get_or (digits_of 2 n m) k 0 ≤ 1
@@ -49,14 +33,14 @@ pub bits-mixed : (n m : ℕ) → word_bits m n ≡ mixed 0 1 (digits_of 2 n m)
 bits-mixed zero m = refl
 bits-mixed (suc n) m = rw (all-from (m % 2)) (ap (λ (bs : List Bool). nat_eq (m % 2) 1 ∷ bs) (bits-mixed n (m / 2)))
 
-word-mixed : (floor top word : ℕ) (ds : List ℕ) → floor ≡ 0 → top ≡ 1 → ds ≡ digits_of 2 64 word → word_bits word 64 ≡ mixed floor top ds
+pub word-mixed : (floor top word : ℕ) (ds : List ℕ) → floor ≡ 0 → top ≡ 1 → ds ≡ digits_of 2 64 word → word_bits word 64 ≡ mixed floor top ds
 word-mixed floor top word ds f t e = rw (f, t, e) (bits-mixed 64 word)
 
-pub word-decoded : (floor top word : ℕ) (ds : List ℕ) (left left' : List Stored) (slots slots' : List Slot) → floor ≤ top → floor ≡ 0 → top ≡ 1 → ds ≡ digits_of 2 64 word → DecodesMixed (word_bits word 64) left left' slots slots' → Decoded floor top ds left left' slots slots'
-word-decoded floor top word ds left left' slots slots' h f t e r = rw (append-nil ds) at (front-mixed floor top ds [] (word_bits word 64) left left' left' slots slots' slots' h (word-mixed floor top word ds f t e) r (decoded-none floor top left' slots'))
+pub bits-decoded : (floor top : ℕ) (ds : List ℕ) (bits : List Bool) (left left' : List Stored) (slots slots' : List Slot) → floor ≤ top → bits ≡ mixed floor top ds → DecodesMixed bits left left' slots slots' → Decoded floor top ds left left' slots slots'
+bits-decoded floor top ds bits left left' slots slots' h e r = rw (append-nil ds) at (front-mixed floor top ds [] bits left left' left' slots slots' slots' h e r (decoded-none floor top left' slots'))
 
-pub word-cannot : (most floor top word : ℕ) (ds : List ℕ) (left : List Stored) (slots : List Slot) (e : Error) → floor ≤ top → floor ≡ 0 → top ≡ 1 → ds ≡ digits_of 2 64 word → CannotDecode most (ones (word_bits word 64)) left slots e → CannotDecode most (called top ds) left slots e
-word-cannot most floor top word ds left slots e h f t d c = rw (append-nil ds) at (cannot-first most floor top ds [] (word_bits word 64) left slots e h (word-mixed floor top word ds f t d) c)
+pub bits-cannot : (most floor top : ℕ) (ds : List ℕ) (bits : List Bool) (left : List Stored) (slots : List Slot) (e : Error) → floor ≤ top → bits ≡ mixed floor top ds → CannotDecode most (ones bits) left slots e → CannotDecode most (called top ds) left slots e
+bits-cannot most floor top ds bits left slots e h b c = rw (append-nil ds) at (cannot-first most floor top ds [] bits left slots e h b c)
 
 module _ (mr md : ℕ) where
   goes-on : (d : ℕ) (is : List Item) → d ≤ md → up_to_maxima mr md (Ok (0, d) ∷ is) ≡ Ok (0, d) ∷ up_to_maxima mr md is

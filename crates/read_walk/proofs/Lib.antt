@@ -1,3 +1,4 @@
+pub mod Joining
 pub mod BlocksTaken
 pub mod Decoding
 pub mod Flat

@@ -15,13 +15,10 @@ pub record IsLevels (l : Levels) : Type 0 where
   pub reps : IsReading l.reps
   pub defs : IsReading l.defs
 
--- No unpacked pair is left, and 64 more stand there: copies of the repetition level 0, and packed definition levels of a few bits each.
+-- No unpacked pair is left, the next 64 repetition levels are 0 in copies, and so many rows are wanted.
 pub record IsFlatNext (l : Levels) (rows : ℕ) : Type 0 where
   pub used : l.end ≤ l.at
   pub goes_on : l.failed ≡ false
-  pub many : 64 ≤ l.defs.standing
   pub copies : 64 ≤ l.reps.copies
   pub zeros : l.reps.number ≡ 0
-  pub packed : l.defs.copies ≡ 0
-  pub narrow : l.defs.runs.num_bits ≤ 7
   pub wanted : 64 ≤ rows

@@ -10,3 +10,4 @@ pub mod Steps
 pub mod Ticks
 pub mod Values
 pub mod Walk
+pub mod Words

@@ -1,9 +1,13 @@
 //! Pairs that were taken.
-ghost use Rattle.std.specs.Prelude.{◌≡◌, ℕ, ◌+◌, ◌*◌, ◌/◌, ◌^◌, ◌<◌, ◌≤◌, ◌++◌, [], IsTrue, IfSome, length, drop, replicate, slice_index};
+ghost use Rattle.std.specs.Prelude.{◌≡◌, ℕ, ◌<◌, ◌≤◌, ◌++◌, [], IsTrue, IfSome, length, drop, replicate, slice_index};
 ghost use Rattle.pq_numbers.specs.Bits.{digits_of};
-ghost use Rattle.pq_numbers.specs.Texts.{number_of};
+ghost use Rattle.pq_runs.specs.Hybrid.{given};
+ghost use Rattle.read_walk.specs.LevelRuns.{runs_left, IsReading};
 
-use crate::bits::{low_bytes, put_eights, put_word};
+use crate::bits::put_word;
+use crate::folds::are_within;
+use crate::runs::{LevelRuns, fill_whole};
+use crate::words::take_word;
 use std::marker::Model;
 
 /// At most 64 pairs. Contracts see their repetition levels and their definition levels.
@@ -84,26 +88,31 @@ impl PairBlock {
     }
 }
 
-/// 64 pairs that begin a row each, of packed definition levels, from a bit of the first byte on.
-pub fn put_flat(block: &mut PairBlock, packed: &[u8], shift: u32, width: u32)
-    requires narrow { width ≤ 7 }
-    requires small { shift < 8 }
-    requires enough { shift + width * 64 ≤ 8 * length packed.now }
+/// Fills the block with pairs that begin a row each, of the next 64 definition levels. False where these cannot be had so.
+pub fn fill_flat<'a>(block: &mut PairBlock, runs: &mut LevelRuns<'a>) -> bool
+    requires is { IsReading runs.old }
+    ensures is { IsReading runs.new }
     ensures reps { block.new.0 ≡ replicate 64 0 }
-    ensures defs { block.new.1 ≡ digits_of (2 ^ width) 64 (number_of packed.now / 2 ^ shift) }
+    ensures size { IsTrue result → length block.new.1 ≡ 64 }
+    ensures taken { IsTrue result → runs_left runs.old ≡ given block.new.1 ++ runs_left runs.new }
 {
     if !block.flat {
         block.rep_block = [0; 64];
         block.flat = true;
     }
     block.filled = 64;
-    if shift == 0 && width == 1 {
-        block.word = low_bytes(packed);
-        put_word(&mut block.def_block, block.word);
-        block.has_word = true;
-    } else {
-        put_eights(&mut block.def_block, packed, shift, width, 8);
-        block.has_word = false;
+    block.has_word = false;
+    if runs.runs.num_bits != 1 {
+        return fill_whole(runs, &mut block.def_block);
+    }
+    match take_word(runs) {
+        Some(word) => {
+            put_word(&mut block.def_block, word);
+            block.word = word;
+            block.has_word = true;
+            true
+        }
+        None => false,
     }
 }
 
@@ -122,5 +131,17 @@ pub fn level_word(block: &PairBlock) -> Option<u64>
         Some(block.word)
     } else {
         None
+    }
+}
+
+/// Whether no definition level of the block is above this one.
+pub fn are_levels_within(block: &PairBlock, max: usize) -> bool
+    ensures { IsTrue result → (k : ℕ) → k < length block.now.1 → slice_index block.now.1 k ≤ max }
+{
+    match level_word(block) {
+        Some(_) => {
+            if max == 0 { false } else { true }
+        }
+        None => are_within(block.defs(), max),
     }
 }

@@ -157,6 +157,20 @@ pub fn decode_levels<'a, D: NestedDecoder<'a>>(
     Ok(())
 }
 
+// The same of the levels of a block.
+fn block_word(block: &PairBlock, floor: usize, top: usize) -> (u64, usize)
+    requires few { length block.now.1 ≤ 64 }
+    ensures bits { word_bits result.0 result.1 ≡ mixed floor top block.now.1 }
+    ensures few { result.1 ≤ 64 }
+{
+    if floor == 0 && top == 1 {
+        if let Some(word) = level_word(block) {
+            return (word, 64);
+        }
+    }
+    mixed_word(block.defs(), floor, top)
+}
+
 /// Decodes what the pairs of a block call for.
 ///
 /// # Errors
@@ -171,13 +185,10 @@ pub fn decode_block<'a, D: NestedDecoder<'a>>(
     top: usize,
 ) -> Result<()>
     requires ordered { floor ≤ top }
+    requires few { length block.now.1 ≤ 64 }
     ensures ok { OnOk result (Decoded floor top block.now.1 (D.left decoder.now values.old) (D.left decoder.now values.new) (D.slots decoded.old) (D.slots decoded.new)) }
     ensures err { IfErr result (CannotDecode D.byte_limit (called top block.now.1) (D.left decoder.now values.old) (D.slots decoded.old)) }
 {
-    if floor == 0 && top == 1 {
-        if let Some(word) = level_word(block) {
-            return decoder.push_mixed(values, decoded, word, 64);
-        }
-    }
-    decode_levels(values, decoded, decoder, block.defs(), floor, top)
+    let (valid, count) = block_word(block, floor, top);
+    decoder.push_mixed(values, decoded, valid, count)
 }

@@ -4,9 +4,9 @@ ghost use Rattle.read_walk.specs.LevelRuns.{IsReading};
 ghost use Rattle.read_walk.specs.Levels.{levels_left, IsLevels, IsFlatNext};
 ghost use Rattle.read_walk.specs.Pairs.{TakesBlock, TakesCopies, TakesRun, is_within, rows_in, is_row};
 
-use crate::block::{PairBlock, put_flat};
+use crate::block::{PairBlock, are_levels_within, fill_flat};
 use crate::folds::{all_bits, are_within, count_zeros};
-use crate::runs::{LevelRuns, drop_copies, drop_packed, fill, stop_runs};
+use crate::runs::{LevelRuns, copied, drop_copies, fill, stop_runs};
 use columns_base::{Error, Result, S};
 
 /// The levels that were unpacked, from one place of a block to another, those that were not, and whether a fault stands behind the block.
@@ -159,7 +159,7 @@ fn part_of(levels: &[u32], at: usize, end: usize) -> &[u32]
     &levels[at..end]
 }
 
-// Whether 64 pairs come next that begin a row each and are all wanted, their definition levels packed in a few bits each.
+// Whether no unpacked pair is left, the next 64 repetition levels are 0 in copies, and so many rows are wanted.
 fn is_flat_next<'a>(levels: &Levels<'a>, rows: usize) -> bool
     ensures { IsTrue result → IsFlatNext levels.now rows }
 {
@@ -169,38 +169,16 @@ fn is_flat_next<'a>(levels: &Levels<'a>, rows: usize) -> bool
     if levels.failed {
         return false;
     }
-    if levels.defs.standing < 64 {
-        return false;
-    }
     if levels.reps.copies < 64 {
         return false;
     }
     if levels.reps.number > 0 {
         return false;
     }
-    if levels.defs.copies > 0 {
-        return false;
-    }
-    if levels.defs.runs.num_bits > 7 {
-        return false;
-    }
     if rows < 64 { false } else { true }
 }
 
-// Whether none of these packed numbers of so many bits is above this one.
-fn are_numbers_within(numbers: &[u32], width: u32, max: usize) -> bool
-    requires narrow { width ≤ 7 }
-    requires fits { (k : ℕ) → k < length numbers.now → slice_index numbers.now k < 2 ^ width }
-    ensures { IsTrue result → (k : ℕ) → k < length numbers.now → slice_index numbers.now k ≤ max }
-{
-    let base: usize = 1 << width;
-    if base - 1 <= max {
-        return true;
-    }
-    are_within(numbers, max)
-}
-
-// Takes them if no definition level is above its greatest.
+// Takes 64 pairs that begin a row each, if they come next and no definition level is above its greatest.
 fn next_flat<'a>(levels: &mut Levels<'a>, rows: usize, block: &mut PairBlock) -> bool
     requires is { IsLevels levels.old }
     ensures is { IsLevels levels.new }
@@ -210,13 +188,15 @@ fn next_flat<'a>(levels: &mut Levels<'a>, rows: usize, block: &mut PairBlock) ->
     if !is_flat_next(levels, rows) {
         return false;
     }
-    let width = levels.defs.runs.num_bits;
-    put_flat(block, levels.defs.packed, levels.defs.shift, width);
-    if !are_numbers_within(block.defs(), width, levels.max_def) {
+    let mut runs = copied(&levels.defs);
+    if !fill_flat(block, &mut runs) {
+        return false;
+    }
+    if !are_levels_within(block, levels.max_def) {
         return false;
     }
     drop_copies(&mut levels.reps, 64);
-    drop_packed(&mut levels.defs, 64);
+    levels.defs = runs;
     true
 }
 

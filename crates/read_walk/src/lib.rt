@@ -17,6 +17,7 @@ mod page;
 mod runs;
 mod take;
 mod traits;
+mod words;
 
 pub use block::PairBlock;
 pub use decode::decode_levels;

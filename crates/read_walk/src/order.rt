@@ -6,7 +6,7 @@ ghost use Rattle.shredding.specs.Local.{inside};
 ghost use Rattle.read_laws.specs.State.{kept_way};
 ghost use Rattle.read_walk.specs.Order.{zipped, Follows, MayCome, WhyNot, OneMayNot, PlainlyFollow, IsInside, level_before, MayComeAt, AreLevels};
 
-use crate::block::{PairBlock, is_flat, level_word};
+use crate::block::{PairBlock, are_levels_within, is_flat};
 use crate::folds::{all_bits, are_from, are_within};
 use columns_base::{Error, Result, S};
 use read_state::{NestedState, levels_at, levels_from};
@@ -302,16 +302,6 @@ pub fn check_pairs(
         return Ok(());
     }
     check_each(nested, before, reps, defs, lists, top, floor)
-}
-
-// Whether the definition levels of a block are known not to be above this one.
-fn are_levels_within(block: &PairBlock, top: usize) -> bool
-    ensures { IsTrue result → (k : ℕ) → k < length block.now.1 → slice_index block.now.1 k ≤ top }
-{
-    match level_word(block) {
-        Some(_) => { if top == 0 { false } else { true } }
-        None => are_within(block.defs(), top),
-    }
 }
 
 /// Whether the pairs of a block may come behind one of the definition level `before`, one after another, by the levels of the way.

@@ -1,5 +1,5 @@
 //! The levels of one section, a block at a time (Parquet format, Encodings, "Run Length Encoding / Bit-Packing Hybrid").
-ghost use Rattle.std.specs.Prelude.{◌≡◌, ◌<◌, ◌≤◌, ◌+◌, ◌*◌, ◌/◌, ◌^◌, ◌∷◌, ◌++◌, [], length, take, replicate, min, Ok, Err, OnOk, OnSome, IfErr, MatchOption, ℕ, List};
+ghost use Rattle.std.specs.Prelude.{◌≡◌, ◌<◌, ◌≤◌, ◌+◌, ◌*◌, ◌/◌, ◌^◌, ◌∷◌, ◌++◌, [], length, take, replicate, min, Ok, Err, OnOk, OnSome, IfErr, IsTrue, MatchOption, ℕ, List};
 ghost use Rattle.pq_numbers.specs.Bits.{digits_of};
 ghost use Rattle.pq_numbers.specs.Texts.{number_of};
 ghost use Rattle.pq_runs.specs.Hybrid.{fault, given, hybrid};
@@ -143,6 +143,23 @@ fn find<'a>(levels: &mut LevelRuns<'a>) -> Result<()>
         }
     }
     Ok(())
+}
+
+/// The same, and at once where a number stands there already.
+#[inline(always)]
+pub fn begin<'a>(levels: &mut LevelRuns<'a>) -> Result<()>
+    requires is { IsReading levels.old }
+    requires some { 0 < levels.old.left }
+    ensures found { OnOk result (IsReading levels.new × (runs_left levels.new ≡ runs_left levels.old) × (0 < levels.new.copies + levels.new.standing)) }
+    ensures failed { IfErr result (λ e. IsReading levels.new × (runs_left levels.old ≡ Err e ∷ []) × (runs_left levels.new ≡ [])) }
+{
+    if levels.copies > 0 {
+        return Ok(());
+    }
+    if levels.standing > 0 {
+        return Ok(());
+    }
+    find(levels)
 }
 
 fn fill_front(out: &mut [u32], number: u32, count: usize)
@@ -294,7 +311,7 @@ pub fn fill<'a>(levels: &mut LevelRuns<'a>, out: &mut [u32]) -> (usize, bool)
         if levels.left == 0 {
             return (done, false);
         }
-        match find(levels) {
+        match begin(levels) {
             Ok(()) => {}
             Err(_) => return (done, true),
         }
@@ -302,6 +319,36 @@ pub fn fill<'a>(levels: &mut LevelRuns<'a>, out: &mut [u32]) -> (usize, bool)
         done += take_some(levels, part);
     }
     (done, false)
+}
+
+/// Fills all of the memory; false where it ended before.
+pub fn fill_whole<'a>(levels: &mut LevelRuns<'a>, out: &mut [u32]) -> bool
+    requires is { IsReading levels.old }
+    ensures is { IsReading levels.new }
+    ensures filled { IsTrue result → runs_left levels.old ≡ given out.new ++ runs_left levels.new }
+{
+    let (count, failed) = fill(levels, out);
+    if failed {
+        return false;
+    }
+    if count < out.len() { false } else { true }
+}
+
+/// The same runs once more.
+pub fn copied<'a>(levels: &LevelRuns<'a>) -> LevelRuns<'a>
+    requires is { IsReading levels.now }
+    ensures is { IsReading result }
+    ensures left { runs_left result ≡ runs_left levels.now }
+{
+    LevelRuns {
+        runs: Decoder::new(levels.runs.values, levels.runs.num_bits),
+        left: levels.left,
+        packed: levels.packed,
+        shift: levels.shift,
+        standing: levels.standing,
+        number: levels.number,
+        copies: levels.copies,
+    }
 }
 
 /// No level is left.
