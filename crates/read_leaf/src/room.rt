@@ -13,7 +13,7 @@ fn make_room<T>(values: &mut Vec<T>, count: usize, left: usize) -> Result<()>
     ensures err { IfErr result (λ e. e ≡ Error.Memory) }
 {
     let len = values.len();
-    let more = len.saturating_mul(7).max(1024).min(left);
+    let more = len.saturating_mul(7).max(1024).max(count).min(left);
     if more < count.max(len / 4) {
         return Ok(());
     }
