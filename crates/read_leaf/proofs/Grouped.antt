@@ -23,21 +23,8 @@ slots-spread [] (suc n) e = absurd (omega (arith, e))
 slots-spread (z ∷ zs) zero e = absurd (omega (arith, e))
 slots-spread (z ∷ zs) (suc n) e = ap (λ (t : List Slot). value (number z) ∷ t) (slots-spread zs n (omega (arith, e)))
 
-ones-next : (word j : ℕ) → ones (word_bits word (j + 1)) ≡ ones (word_bits word j) + ones ((word / 2 ^ j % 2 == 1) ∷ [])
+pub ones-next : (word j : ℕ) → ones (word_bits word (j + 1)) ≡ ones (word_bits word j) + ones ((word / 2 ^ j % 2 == 1) ∷ [])
 ones-next word j = ap ones (bits_split j 1 word) ∙ ones-append (word_bits word j) ((word / 2 ^ j % 2 == 1) ∷ [])
-
-drop-front : (n m : ℕ) (xs : List ℕ) → drop n (take (n + m) xs) ≡ take m (drop n xs)
-drop-front zero m xs = let e : 0 + m ≡ m = omega arith in ap (λ (k : ℕ). take k xs) e
-drop-front (suc n) m [] = nothing (suc n + m) m
-  where
-    nothing : (k m : ℕ) → ◌≡◌ {A = List ℕ} (drop (suc n) (take k [])) (take m [])
-    nothing zero zero = refl
-    nothing zero (suc m) = refl
-    nothing (suc k) zero = refl
-    nothing (suc k) (suc m) = refl
-drop-front (suc n) m (x ∷ xs) =
-    let e : suc n + m ≡ suc (n + m) = omega arith in
-    ap (λ (k : ℕ). drop (suc n) (take k (x ∷ xs))) e ∙ drop-front n m xs
 
 module _ (loaded : ℤ → Option ℤ) (spelled : List ℕ → ℤ) (size : ℕ) where
   -- slots behind others
@@ -69,32 +56,6 @@ module _ (loaded : ℤ → Option ℤ) (spelled : List ℕ → ℤ) (size : ℕ)
           let same : ones (word_bits word (j + 1)) ≡ ones (word_bits word j) = n ∙ omega arith in
           ap (λ (k : ℕ). drop (size * k) source) same
 
-  numbers-front : (n m : ℕ) (bytes : List ℕ) → n ≤ m → plain_numbers spelled size n (take (size * m) bytes) ≡ plain_numbers spelled size n bytes
-  numbers-front zero m bytes h = refl
-  numbers-front (suc n) zero bytes h = absurd (omega (arith, h))
-  numbers-front (suc n) (suc m) bytes h =
-      let k : size * suc m ≡ size + size * m = omega arith in
-      let first : take size (take (size + size * m) bytes) ≡ take size bytes = take-take size (size + size * m) bytes (omega arith) in
-      let others : plain_numbers spelled size n (drop size (take (size + size * m) bytes)) ≡ plain_numbers spelled size n (drop size bytes) = ap (plain_numbers spelled size n) (drop-front size (size * m) bytes) ∙ numbers-front n m (drop size bytes) (omega (arith, h)) in
-      ap (λ (i : ℕ). plain_numbers spelled size (suc n) (take i bytes)) k ∙ ap₂ (λ (x : List ℕ) (t : List ℤ). spelled x ∷ t) first others
-
-  -- the same of the bytes, where it is of their front
-  pub mixed-front : (bits : List Bool) (m : ℕ) (bytes source rest : List ℕ) (zs : List ℤ) → ones bits ≤ m → source ≡ take (size * m) bytes → TookMixed loaded spelled size bits source rest [] zs → TookMixed loaded spelled size bits bytes (drop (size * ones bits) bytes) [] zs
-  mixed-front bits m bytes source rest zs h s t = record {
-    numbers = t.numbers;
-    took = record {
-      numbers = t.took.numbers;
-      count = t.took.count;
-      are = ap (map loaded) (sym (numbers-front (ones bits) m bytes h) ∙ ap (plain_numbers spelled size (ones bits)) (sym s)) ∙ t.took.are;
-      pushed = t.took.pushed;
-      behind = refl;
-    };
-    among = t.among;
-    even = t.even;
-    stand = t.stand;
-    pushed = t.pushed;
-  }
-
   -- numbers alone
   pub mixed-all : (n : ℕ) (bits : List Bool) (bytes rest : List ℕ) (zs : List ℤ) → bits ≡ replicate n true → TookNumbers loaded spelled size n bytes rest [] zs → TookMixed loaded spelled size bits bytes rest [] zs
   mixed-all n bits bytes rest zs e t =
@@ -112,14 +73,6 @@ module _ (loaded : ℤ → Option ℤ) (spelled : List ℕ → ℤ) (size : ℕ)
   pub mixed-nothing : (bytes : List ℕ) → TookMixed loaded spelled size [] bytes (drop (size * 0) bytes) [] []
   mixed-nothing bytes = record { numbers = []; took = record { numbers = []; count = refl; are = refl; pushed = refl; behind = refl }; among = []; even = refl; stand = refl; pushed = refl }
 
-  -- the slots of a run of set bits
-  pub mixed-run : (word run n : ℕ) (bytes rest : List ℕ) (zs : List ℤ) → word % 65536 ≡ 65535 → word_bits word run ≡ replicate run (word % 2 == 1) → n ≡ run → TookNumbers loaded spelled size n bytes rest [] zs → TookMixed loaded spelled size (word_bits word run) bytes (drop (size * ones (word_bits word run)) bytes) [] zs
-  mixed-run word run n bytes rest zs low alike e t =
-      let odd : word % 2 ≡ 1 = omega (arith, low) in
-      let bits : word_bits word run ≡ replicate n true = alike ∙ rw (odd, e) refl in
-      let many : ones (word_bits word run) ≡ n = ap ones bits ∙ ones-true n in
-      subst (λ (r : List ℕ). TookMixed loaded spelled size (word_bits word run) bytes r [] zs) (t.behind ∙ ap (λ (k : ℕ). drop (size * k) bytes) (sym many)) (mixed-all n (word_bits word run) bytes rest zs bits t)
-
 -- the front of what is written from a place on
 pub put-front : {X : Type 0} (k n m : ℕ) (xs ys : List X) → k ≤ length xs → m ≤ length ys → take (k + m) (put_mid k n xs ys) ≡ take k xs ++ take m ys
 put-front k n m xs ys h l =
@@ -128,10 +81,6 @@ put-front k n m xs ys h l =
 
 pub put-length : {X : Type 0} (k n : ℕ) (xs ys : List X) → k ≤ length xs → k + length ys ≤ length (put_mid k n xs ys)
 put-length k n xs ys h = omega (arith, length-append (take k xs) (ys ++ post_of k n xs), length-append ys (post_of k n xs), length-take-le k xs h)
-
--- at most one number for each slot
-pub few-ones : (size word n : ℕ) → size * ones (word_bits word n) ≤ size * n
-few-ones size word n = mul-le size (ones (word_bits word n)) size n (omega arith) (omega (arith, most-ones (word_bits word n), length-bits word n))
 
 -- the bytes of one of eight slots
 pub slot-within : (size word i len : ℕ) → i < 8 → size * 8 ≤ len → size * ones (word_bits word i) + size ≤ len

@@ -22,4 +22,5 @@ pub mod FixedRead
 pub mod IntervalsRead
 pub mod DecimalsRead
 pub mod BitRuns
+pub mod Pairs
 pub mod Chunks

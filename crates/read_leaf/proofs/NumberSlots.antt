@@ -93,6 +93,9 @@ module _ (loaded : ℤ → Option ℤ) (spelled : List ℕ → ℤ) (size : ℕ)
         behind = b.behind ∙ (ap (drop (size * m)) a.behind ∙ (drop-drop (size * m) (size * n) bytes ∙ ap (λ (k : ℕ). drop k bytes) place));
       }
 
+  pub numbers-after : (n m : ℕ) (bytes mid rest : List ℕ) (xs ys : List ℤ) → TookNumbers loaded spelled size n bytes mid [] xs → TookNumbers loaded spelled size m mid rest [] ys → TookNumbers loaded spelled size (n + m) bytes rest [] (xs ++ ys)
+  numbers-after n m bytes mid rest xs ys a b = numbers-then n m bytes mid rest [] xs (xs ++ ys) a (record { numbers = b.numbers; count = b.count; are = b.are; pushed = ap (λ (t : List ℤ). xs ++ t) b.pushed; behind = b.behind })
+
   outside-more : (n k : ℕ) (bytes : List ℕ) → n ≤ k → OneIsOutside loaded spelled size n bytes → OneIsOutside loaded spelled size k bytes
   outside-more n k bytes h o =
       let others = map loaded (plain_numbers spelled size (k - n) (drop (size * n) bytes)) in

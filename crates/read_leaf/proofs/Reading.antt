@@ -1,7 +1,7 @@
 -- Plain numbers, one after another.
 use Rattle.std.proofs.Common.{◌≡◌, ℕ, suc, ◌+◌, ◌-◌, ◌*◌, ◌<◌, ◌≤◌, ℤ, Option, Some, None, List, [], ◌∷◌, ◌++◌, map, length, take, drop, refl, arith, ap, sym, ◌∙◌, append_assoc, append-nil, length-append}
 use Rattle.std.proofs.lemmas.List.{map-append, length-drop, drop-drop}
-use Rattle.read_leaf.specs.Numbers.{plain_numbers, OneIsOutside}
+use Rattle.read_leaf.specs.Numbers.{plain_numbers, TookNumbers, OneIsOutside}
 
 module _ (loaded : ℤ → Option ℤ) (spelled : List ℕ → ℤ) (size : ℕ) where
   -- so many numbers taken, of n
@@ -51,3 +51,14 @@ module _ (loaded : ℤ → Option ℤ) (spelled : List ℕ → ℤ) (size : ℕ)
       let m : n ≡ i + 1 + (n - (i + 1)) = omega (arith, h) in
       let all : size * n ≡ size * i + size + size * (n - (i + 1)) = ap (λ (j : ℕ). size * j) m ∙ omega arith in
       rw e (omega (arith, length-drop (size * i) bytes, all, k))
+
+  pub all-read : (i n : ℕ) (bytes rest : List ℕ) (old new : List ℤ) → i ≡ n → IsReading i n bytes rest old new → TookNumbers loaded spelled size n bytes rest old new
+  all-read i n bytes rest old new e r =
+      let none : n - i ≡ 0 = omega (arith, e) in
+      record {
+        numbers = r.numbers;
+        count = r.count ∙ e;
+        are = r.are ∙ (ap (λ (k : ℕ). map Some r.numbers ++ map loaded (plain_numbers spelled size k rest)) none ∙ append-nil (map Some r.numbers));
+        pushed = r.pushed;
+        behind = r.behind ∙ ap (λ (k : ℕ). drop (size * k) bytes) e;
+      }

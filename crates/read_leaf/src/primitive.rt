@@ -7,9 +7,9 @@ ghost use Rattle.shredding.specs.Slot.{null};
 ghost use Rattle.read_walk.specs.Values.{Decodes, DecodesMixed, ones, CannotDecode};
 ghost use Rattle.read_leaf.specs.Numbers.{TookNumbers, TookOne, TookMixed, OneIsOutside, number_slots, stored_numbers};
 
-use crate::cut::{front, skip};
+use crate::cut::skip;
 use crate::room::want_room;
-use crate::set_bits::{bits_behind, count_set, first_run};
+use crate::set_bits::{bits_behind, count_set};
 use crate::stored::{FromStored, StoredNumber};
 use columns_base::{Error, Result, S};
 use columns_core::MutableBitmap;
@@ -113,8 +113,57 @@ pub(crate) fn push_copies<T: Copy>(values: &mut Vec<T>, number: T, count: usize)
     Ok(())
 }
 
+// Writes as many numbers to the places.
+#[inline(always)]
+fn put_numbers<T: Copy>(places: &mut [T], numbers: &[T])
+    requires { list_length places.old ≡ list_length numbers.now }
+    ensures { places.new ≡ numbers.now }
+{
+    for i in 0..numbers.len() {
+        places[i] = numbers[i];
+    }
+}
+
+// Writes the next numbers to N places; no where one of them is none of the leaf. All are read before the first is written, so that they move together.
+#[inline(always)]
+fn copy_block<T: FromStored<P>, P: StoredNumber, const N: usize>(
+    places: &mut [T],
+    source: &[u8],
+) -> bool
+    requires places { list_length places.old ≡ N }
+    requires enough { P.byte_count * N ≤ list_length source.now }
+    ensures { IsTrue result → TookNumbers T.loaded P.spelled P.byte_count N source.now (drop (P.byte_count * N) source.now) [] (map T.loaded_number places.new) }
+{
+    let mut numbers = [T::zero(); N];
+    for i in 0..N {
+        match load::<T, P>(skip(source, P::width() * i)) {
+            Some(number) => numbers[i] = number,
+            None => return false,
+        }
+    }
+    put_numbers(places, &numbers);
+    true
+}
+
+// Writes the next numbers to the places by blocks of 32; how many these are, all but the last few, unless one of the next is none of the leaf.
+fn fill_blocks<T: FromStored<P>, P: StoredNumber>(places: &mut [T], bytes: &[u8]) -> usize
+    requires enough { P.byte_count * list_length places.old ≤ list_length bytes.now }
+    ensures within { result ≤ list_length places.new }
+    ensures took { TookNumbers T.loaded P.spelled P.byte_count result bytes.now (drop (P.byte_count * result) bytes.now) [] (map T.loaded_number (take result places.new)) }
+{
+    let mut done = 0;
+    while done + 32 <= places.len() {
+        let part = &mut places[done..done + 32];
+        if !copy_block::<T, P, 32>(part, skip(bytes, P::width() * done)) {
+            break;
+        }
+        done += 32;
+    }
+    done
+}
+
 // Writes the next numbers to the places, one to each, and gives the bytes behind them; none where one of them is none of the leaf.
-fn fill_numbers<'a, T: FromStored<P>, P: StoredNumber>(
+fn fill_singly<'a, T: FromStored<P>, P: StoredNumber>(
     places: &mut [T],
     bytes: &'a [u8],
 ) -> Option<&'a [u8]>
@@ -130,6 +179,22 @@ fn fill_numbers<'a, T: FromStored<P>, P: StoredNumber>(
         rest = skip(rest, P::width());
     }
     Some(rest)
+}
+
+// The same, by blocks first.
+fn fill_numbers<'a, T: FromStored<P>, P: StoredNumber>(
+    places: &mut [T],
+    bytes: &'a [u8],
+) -> Option<&'a [u8]>
+    requires enough { P.byte_count * list_length places.old ≤ list_length bytes.now }
+    ensures { MatchOption result (OneIsOutside T.loaded P.spelled P.byte_count (list_length places.old) bytes.now) (λ rest. TookNumbers T.loaded P.spelled P.byte_count (list_length places.old) bytes.now rest.now [] (map T.loaded_number places.new)) }
+{
+    let done = fill_blocks::<T, P>(places, bytes);
+    let part = &mut places[done..];
+    match fill_singly::<T, P>(part, skip(bytes, P::width() * done)) {
+        Some(rest) => Some(rest),
+        None => None,
+    }
 }
 
 // Appends the next `count` numbers one by one, and gives the bytes behind them.
@@ -265,36 +330,55 @@ fn spread_eight<T: FromStored<P>, P: StoredNumber>(
     true
 }
 
-// Slots at the front of the places, by the low bits of a word: those of a run of sixteen set bits or more, or else eight; and how many. None where there are
-// less than eight slots, or the page has less than eight numbers, or one of the next eight numbers is none of the leaf.
+// The same by pairs, of bytes that begin with the number before the next one: the number of a pair's second slot stands behind as many as bits
+// are set below it, and that of the first slot, where it is there, right before that.
 #[inline(always)]
-fn fill_front<T: FromStored<P>, P: StoredNumber>(places: &mut [T], bytes: &[u8], word: u64) -> usize
-    ensures within { result ≤ list_length places.new }
-    ensures few { result ≤ 64 }
-    ensures enough { P.byte_count * result ≤ list_length bytes.now }
-    ensures took { TookMixed T.loaded P.spelled P.byte_count (word_bits word result) bytes.now (drop (P.byte_count * ones (word_bits word result)) bytes.now) [] (map T.loaded_number (take result places.new)) }
+fn spread_pairs<T: FromStored<P>, P: StoredNumber>(
+    places: &mut [T],
+    source: &[u8],
+    word: u64,
+) -> bool
+    requires eight { list_length places.old ≡ 8 }
+    requires enough { P.byte_count * 9 ≤ list_length source.now }
+    ensures { IsTrue result → TookMixed T.loaded P.spelled P.byte_count (word_bits word 8) (drop P.byte_count source.now) (drop (P.byte_count * ones (word_bits word 8)) (drop P.byte_count source.now)) [] (map T.loaded_number places.new) }
 {
-    let room = places.len().min(bytes.len() / P::width()).min(64);
-    if room < 8 {
-        return 0;
-    }
-    if word % 65536 == 65535 {
-        let run = first_run(word, room);
-        let part = &mut places[..run];
-        return match fill_numbers::<T, P>(part, bytes) {
-            Some(_) => run,
-            None => 0,
+    for k in 0..4 {
+        let at = count_set(word, 2 * k + 1);
+        let pair = skip(source, P::width() * at);
+        let Some(first) = load::<T, P>(pair) else {
+            return false;
         };
+        let Some(second) = load::<T, P>(skip(pair, P::width())) else {
+            return false;
+        };
+        places[2 * k] = first;
+        places[2 * k + 1] = second;
     }
-    let source = front(bytes, P::width() * 8);
-    let part = &mut places[..8];
-    if spread_eight::<T, P>(part, source, word) {
-        return 8;
-    }
-    0
+    true
 }
 
-// Slots by eights and by runs, as many as there are; how many these are, the bits of the others, and the bytes behind.
+// Eight slots, by the low bits of a word and the numbers from a place on; no where one of the next eight numbers is none of the leaf.
+#[inline(always)]
+fn fill_eight<T: FromStored<P>, P: StoredNumber>(
+    places: &mut [T],
+    bytes: &[u8],
+    at: usize,
+    word: u64,
+) -> bool
+    requires eight { list_length places.old ≡ 8 }
+    requires enough { P.byte_count * (at + 8) ≤ list_length bytes.now }
+    ensures { IsTrue result → TookMixed T.loaded P.spelled P.byte_count (word_bits word 8) (drop (P.byte_count * at) bytes.now) (drop (P.byte_count * (at + ones (word_bits word 8))) bytes.now) [] (map T.loaded_number places.new) }
+{
+    if word % 256 == 255 {
+        return copy_block::<T, P, 8>(places, skip(bytes, P::width() * at));
+    }
+    if at == 0 {
+        return spread_eight::<T, P>(places, bytes, word);
+    }
+    spread_pairs::<T, P>(places, skip(bytes, P::width() * (at - 1)), word)
+}
+
+// Slots by eights, as many as there are; how many these are, the bits of the others, and the bytes behind.
 fn fill_fronts<'a, T: FromStored<P>, P: StoredNumber>(
     places: &mut [T],
     bytes: &'a [u8],
@@ -304,20 +388,22 @@ fn fill_fronts<'a, T: FromStored<P>, P: StoredNumber>(
     ensures word { result.1 ≡ valid / 2 ^ result.0 }
     ensures took { TookMixed T.loaded P.spelled P.byte_count (word_bits valid result.0) bytes.now result.2.now [] (map T.loaded_number (take result.0 places.new)) }
 {
-    let mut rest = bytes;
     let mut word = valid;
-    let mut done = 0;
-    while done < places.len() {
-        let part = &mut places[done..];
-        let some = fill_front::<T, P>(part, rest, word);
-        if some == 0 {
-            return (done, word, rest);
-        }
-        rest = skip(rest, P::width() * count_set(word, some));
-        word = bits_behind(word, some);
-        done += some;
+    let mut eights = 0;
+    let mut at = 0;
+    if bytes.len() / P::width() < places.len() {
+        return (0, valid, bytes);
     }
-    (done, word, rest)
+    while eights < places.len() / 8 {
+        let part = &mut places[8 * eights..8 * eights + 8];
+        if !fill_eight::<T, P>(part, bytes, at, word) {
+            break;
+        }
+        at += count_set(word, 8);
+        word = bits_behind(word, 8);
+        eights += 1;
+    }
+    (8 * eights, word, skip(bytes, P::width() * at))
 }
 
 // The same, by eights and by runs first.

@@ -1,16 +1,33 @@
-use Rattle.std.proofs.Common.{◌<◌, ◌∷◌, [], length, map, take, arith, ap, ◌∙◌}
-use Rattle.std.proofs.lemmas.List.{map-append, take_more_set, length-set}
-use Rattle.read_leaf.proofs.Reading.{one-read, one-outside}
+use Rattle.std.proofs.Common.{◌≡◌, ◌+◌, ◌-◌, ◌*◌, ◌++◌, ℕ, [], length, map, take, drop, arith, ap, sym, subst, ◌∙◌}
+use Rattle.std.proofs.lemmas.List.{map-append, length-take, length-drop}
+use Rattle.read_leaf.specs.Numbers.{TookNumbers, OneIsOutside}
+use Rattle.read_leaf.proofs.Grouped.{put-whole}
+use Rattle.read_leaf.proofs.NumberSlots.{numbers-after, outside-then}
 use Rattle.read_leaf.proofs.primitive.fill_numbers.Goals as goal
 
-pub returns-in-None : goal.returns-in-None
-returns-in-None g c = rw c.loop-place.auto.places at (one-outside g.T.FromStored.loaded g.P.StoredNumber.spelled g.P.PlainNumber.byte_count c.loop-place.place-index (length c.loop-place.places) c.args.bytes.now c.loop-place.rest.now _ _ (omega (arith, c.loop-place-test.true, c.loop-place.auto.places)) c.loop-place.invariant.is c.in-None.ensures)
-
-pub loop-place-preserved : goal.loop-place-preserved
-loop-place-preserved g c =
+pub returns-in-Some : goal.returns-in-Some
+returns-in-Some g c =
     let number = g.T.FromStored.loaded_number in
-    let i = c.loop-place.place-index in
-    let xs = c.loop-place.places in
-    let there : i < length xs = omega (arith, c.loop-place-test.true, c.loop-place.auto.places) in
-    let more = ap (map number) (take_more_set xs i c.in-Some.number there) ∙ map-append number (take i xs) (c.in-Some.number ∷ []) in
-    record { is = rw length-set (one-read g.T.FromStored.loaded g.P.StoredNumber.spelled g.P.PlainNumber.byte_count i (length xs) c.args.bytes.now c.loop-place.rest.now _ _ _ _ (number c.in-Some.number) there c.loop-place.invariant.is c.in-Some.ensures (rw c.width.ensures at c.skip-rest.ensures) more) }
+    let size : ℕ = g.P.PlainNumber.byte_count in
+    let done : ℕ = c.fill_blocks-done.result in
+    let bytes = c.args.bytes.now in
+    let xs = c.fill_blocks-done.new.places in
+    let ys = c.fill_singly.new.places in
+    let n : ℕ = length c.args.places.now in
+    let m : ℕ = length (take (length xs - done) (drop done xs)) in
+    let all : done + m ≡ n = omega (arith, length-take (length xs - done) (drop done xs), length-drop done xs, c.fill_blocks-done.auto.places, c.fill_blocks-done.ensures.within) in
+    let places = ap (map number) (put-whole done (length xs - done) xs ys (omega arith)) ∙ map-append number (take done xs) ys in
+    let source : c.skip.result.now ≡ drop (size * done) bytes = c.skip.ensures ∙ ap (λ (k : ℕ). drop (k * done) bytes) c.width.ensures in
+    rw places (subst (λ (k : ℕ). TookNumbers g.T.FromStored.loaded g.P.StoredNumber.spelled size k bytes c.in-Some.rest.now [] (map number (take done xs) ++ map number ys)) all (numbers-after g.T.FromStored.loaded g.P.StoredNumber.spelled size done m bytes (drop (size * done) bytes) c.in-Some.rest.now (map number (take done xs)) (map number ys) c.fill_blocks-done.ensures.took (rw source at c.in-Some.ensures)))
+
+pub returns-in-None : goal.returns-in-None
+returns-in-None g c =
+    let size : ℕ = g.P.PlainNumber.byte_count in
+    let done : ℕ = c.fill_blocks-done.result in
+    let bytes = c.args.bytes.now in
+    let xs = c.fill_blocks-done.new.places in
+    let n : ℕ = length c.args.places.now in
+    let m : ℕ = length (take (length xs - done) (drop done xs)) in
+    let all : done + m ≡ n = omega (arith, length-take (length xs - done) (drop done xs), length-drop done xs, c.fill_blocks-done.auto.places, c.fill_blocks-done.ensures.within) in
+    let source : c.skip.result.now ≡ drop (size * done) bytes = c.skip.ensures ∙ ap (λ (k : ℕ). drop (k * done) bytes) c.width.ensures in
+    outside-then g.T.FromStored.loaded g.P.StoredNumber.spelled size done m n bytes (drop (size * done) bytes) _ _ (omega (arith, all)) c.fill_blocks-done.ensures.took (rw source at c.in-None.ensures)

@@ -1,6 +1,6 @@
 use Rattle.std.proofs.Common.{[], length, map, take}
 use Rattle.read_leaf.proofs.Reading.{IsReading}
-use Rattle.read_leaf.proofs.primitive.fill_numbers.Given as goal
+use Rattle.read_leaf.proofs.primitive.fill_singly.Given as goal
 
 abbrev pub invariant-loop-place : goal.invariant-loop-place
 invariant-loop-place g l = record {
