@@ -6,6 +6,7 @@ pub mod Within
 pub mod Texts
 pub mod Both
 pub mod Listed
+pub mod SlotLevels
 pub mod PlaneNumbers
 pub mod Bytes
 pub mod Full

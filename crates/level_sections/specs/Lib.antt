@@ -1,6 +1,7 @@
 pub mod Blocks
 pub mod Definitions
 pub mod Lists
+pub mod Pieces
 pub mod Planes
 pub mod Sections
 pub mod Walk

@@ -1,5 +1,5 @@
 //! Levels that wait for their writer, as bytes.
-ghost use Rattle.std.specs.Prelude.{◌≡◌, ℕ, ◌+◌, ◌-◌, ◌<◌, ◌≤◌, ◌++◌, ◌∷◌, [], List, IsTrue, length, replicate, take};
+ghost use Rattle.std.specs.Prelude.{◌≡◌, ℕ, ◌+◌, ◌-◌, ◌<◌, ◌≤◌, ◌++◌, ◌∷◌, [], List, IsTrue, drop, length, replicate, take};
 
 use std::marker::Model;
 
@@ -85,6 +85,45 @@ impl LevelBytes {
         self.filled += count;
     }
 
+    // The number of levels that wait.
+    #[inline(always)]
+    pub fn len(&self) -> usize
+        ensures size { result ≡ length self.now }
+        ensures most { result ≤ 2048 }
+    {
+        self.filled
+    }
+
+    // One level behind those that wait. It has no room where the answer is no.
+    #[inline(always)]
+    pub fn push_level(&mut self, level: u32) -> bool
+        requires low { level < 256 }
+        ensures { IsTrue result → self.new ≡ self.old ++ level ∷ [] }
+    {
+        if self.filled >= 2048 {
+            return false;
+        }
+        self.bytes[self.filled] = level as u8;
+        self.filled += 1;
+        true
+    }
+
+    // Some of other levels behind those that wait. They have no room where the answer is no.
+    #[inline(always)]
+    pub fn push_part(&mut self, others: &LevelBytes, from: usize, to: usize) -> bool
+        requires ordered { from ≤ to }
+        requires within { to ≤ length others.now }
+        ensures { IsTrue result → self.new ≡ self.old ++ take (to - from) (drop from others.now) }
+    {
+        let count = to - from;
+        if count > 2048 - self.filled {
+            return false;
+        }
+        put_some(&mut self.bytes, self.filled, &others.bytes, from, count);
+        self.filled += count;
+        true
+    }
+
     // A level and copies of another one, so many together. They have no room where the answer is no.
     #[inline(always)]
     pub fn push_first(&mut self, first: u32, level: u32, count: usize) -> bool
@@ -100,6 +139,52 @@ impl LevelBytes {
         self.filled += 1;
         self.push_copies(level, count - 1)
     }
+}
+
+// Sixteen bytes from a place on.
+#[inline(always)]
+fn sixteen_at(bytes: &[u8], at: usize) -> [u8; 16]
+    requires { at + 16 ≤ length bytes.now }
+    ensures { result ≡ take 16 (drop at bytes.now) }
+{
+    let mut part = [0; 16];
+    part.copy_from_slice(&bytes[at..at + 16]);
+    part
+}
+
+// Sixteen bytes take their places, and those before them stay.
+#[inline(always)]
+fn put_few(places: &mut [u8], at: usize, bytes: [u8; 16])
+    requires { at + 16 ≤ length places.old }
+    ensures len { length places.new ≡ length places.old }
+    ensures front { take (at + 16) places.new ≡ take at places.old ++ bytes }
+{
+    places[at..at + 16].copy_from_slice(&bytes);
+}
+
+// So many bytes of others take their places, and the bytes before them stay.
+#[inline(never)]
+fn put_part(places: &mut [u8], at: usize, others: &[u8], from: usize, count: usize)
+    requires room { at + count ≤ length places.old }
+    requires within { from + count ≤ length others.now }
+    ensures len { length places.new ≡ length places.old }
+    ensures front { take (at + count) places.new ≡ take at places.old ++ take count (drop from others.now) }
+{
+    places[at..at + count].copy_from_slice(&others[from..from + count]);
+}
+
+// Some bytes of others take their places, few of them at once, and the bytes before them stay.
+#[inline(always)]
+fn put_some(places: &mut [u8], at: usize, others: &[u8], from: usize, count: usize)
+    requires room { at + count + 16 ≤ length places.old }
+    requires within { from + count + 16 ≤ length others.now }
+    ensures len { length places.new ≡ length places.old }
+    ensures front { take (at + count) places.new ≡ take at places.old ++ take count (drop from others.now) }
+{
+    if count > 16 {
+        return put_part(places, at, others, from, count);
+    }
+    put_few(places, at, sixteen_at(others, from))
 }
 
 // 64 bytes take their places, and those before them stay.

@@ -7,6 +7,7 @@ mod items;
 mod level_bytes;
 mod list_stretch;
 mod lists;
+mod pieces;
 mod planes;
 mod prefix;
 mod section;

@@ -13,6 +13,7 @@ ghost use Rattle.level_sections.specs.Walk.{IsLow, walked};
 
 use crate::level_bytes::LevelBytes;
 use crate::list_stretch::{is_there, next_stretch};
+use crate::pieces::{Pieces, tell_pieces};
 use crate::planes::{BitPlanes, one_plane, put_four, spread_at, with_parts};
 use crate::spans::are_short;
 use crate::walk::{Above, Shape, shape_of};
@@ -101,7 +102,7 @@ fn tell_pairs(told: &mut LevelBytes, level: Level, above: Above, count: usize) -
 }
 
 // The levels of the slots of a path without lists.
-fn tell_flat(
+pub fn tell_flat(
     told: &mut LevelBytes,
     level: Level,
     parts: &[Nested],
@@ -280,7 +281,8 @@ pub fn tell(
 
 // The levels of some slots alone. They are better told in another way where the answer is no.
 pub fn tell_block(
-    told: &mut LevelBytes,
+    upper: &mut Pieces,
+    lower: &mut Pieces,
     level: Level,
     parts: &[Nested],
     above: Above,
@@ -291,11 +293,16 @@ pub fn tell_block(
     requires some { from < to }
     requires within { to ≤ slot_count (parts_of parts.now) }
     requires low { IsLow above (length parts.now) }
-    ensures { IsTrue result → told.new ≡ walked level (parts_of parts.now) above from (to - from) }
+    ensures { IsTrue result → upper.new.told ≡ walked level (parts_of parts.now) above from (to - from) }
 {
     if !are_short(parts, from, to) {
         return false;
     }
-    told.clear();
-    tell(told, level, parts, above, from, to)
+    if above.rep == above.depth {
+        if tell_pieces(upper, lower, level, parts, above, from, to) {
+            return true;
+        }
+    }
+    upper.told.clear();
+    tell(&mut upper.told, level, parts, above, from, to)
 }

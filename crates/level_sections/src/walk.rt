@@ -11,8 +11,8 @@ ghost use Rattle.levels.specs.declared.walk.Level.{Level};
 
 use crate::block::push_flat;
 use crate::items::{mixed_end, walk_items};
-use crate::level_bytes::LevelBytes;
 use crate::lists::walk_lists;
+use crate::pieces::Pieces;
 use crate::spans::{block_end, is_long_stretch};
 use crate::tell::tell_block;
 use crate::told_levels::push_told;
@@ -309,7 +309,8 @@ fn walk_lists_of_items(
 fn walk_block(
     out: &mut Vec<u8>,
     writer: &mut RunWriter,
-    told: &mut LevelBytes,
+    upper: &mut Pieces,
+    lower: &mut Pieces,
     level: Level,
     parts: &[Nested],
     above: Above,
@@ -330,8 +331,8 @@ fn walk_block(
         return step(out, writer, level, parts, above, place, to);
     }
     let next = block_end(parts, place, to);
-    if tell_block(told, level, parts, above, place, next) {
-        push_told(out, writer, told.as_slice())?;
+    if tell_block(upper, lower, level, parts, above, place, next) {
+        push_told(out, writer, upper.told.as_slice())?;
         return Ok(next);
     }
     walk_stretches(out, writer, level, parts, above, place, next)?;
@@ -358,11 +359,14 @@ fn walk_blocks(
     ensures added { OnOk result ((start xs : List ℕ) → Keeps start out.old.items writer.old xs → Keeps start out.new.items writer.new (xs ++ walked level (parts_of parts.now) above from (to - from))) }
     ensures kept { Extends out.old.items out.new.items }
 {
-    let mut told = LevelBytes::new();
+    let mut upper = Pieces::new();
+    let mut lower = Pieces::new();
     let mut place = from;
     let mut front = above;
     while place < to {
-        place = walk_block(out, writer, &mut told, level, parts, front, place, to)?;
+        place = walk_block(
+            out, writer, &mut upper, &mut lower, level, parts, front, place, to,
+        )?;
         front.rep = front.depth;
     }
     Ok(())

@@ -1,0 +1,398 @@
+//! Levels of lists above lists, part by part from the leaf up.
+ghost use Rattle.std.specs.Prelude.{◌≡◌, ℕ, ◌+◌, ◌-◌, ◌<◌, ◌≤◌, ◌++◌, ◌∷◌, [], IsTrue, drop, length, slice_index, take};
+ghost use Rattle.shredding.specs.Parts.{IsPath, MaskFits, item_span, item_start, list_part, path_way, slot_count, struct_part};
+ghost use Rattle.shredding.specs.Shred.{max_repetition};
+ghost use Rattle.levels.specs.Nested.{parts_of};
+ghost use Rattle.levels.specs.Stretch.{level_of};
+ghost use Rattle.level_sections.specs.Pieces.{AreTold, above_fields, above_items, with_first};
+ghost use Rattle.level_sections.specs.Walk.{IsLow, walked};
+
+use crate::block::step_of;
+use crate::items::item_place;
+use crate::level_bytes::LevelBytes;
+use crate::list_stretch::is_there;
+use crate::tell::tell_flat;
+use crate::walk::Above;
+use columns_core::{Bitmap, Offset};
+use levels::{Level, ListNested, Nested, has_lists};
+
+// Levels of up to 2,048 slots side by side, and where those of each slot begin.
+#[derive(Drop)]
+pub struct Pieces {
+    pub told: LevelBytes,
+    pub starts: [u16; 2112],
+}
+
+impl Pieces {
+    pub fn new() -> Self {
+        Pieces {
+            told: LevelBytes::new(),
+            starts: [0; 2112],
+        }
+    }
+}
+
+// The level of a slot that is one pair.
+#[inline(always)]
+fn level_at(level: Level, def: u32, depth: u32) -> u32
+    requires def { def < 256 }
+    requires depth { depth < 256 }
+    ensures value { result ≡ level_of level (depth, def) }
+    ensures low { result < 256 }
+{
+    match level {
+        Level::Definition => def,
+        Level::Repetition => depth,
+    }
+}
+
+// The next slot begins behind the levels that are told.
+#[inline(always)]
+fn mark(pieces: &mut Pieces, i: usize)
+    requires few { i ≤ 2048 }
+    ensures told { pieces.new.told ≡ pieces.old.told }
+    ensures here { slice_index pieces.new.starts i ≡ length pieces.old.told }
+    ensures others { (j : ℕ) → j < i → slice_index pieces.new.starts j ≡ slice_index pieces.old.starts j }
+{
+    pieces.starts[i] = pieces.told.len() as u16;
+}
+
+// So many places, one after another.
+fn count_up(starts: &mut [u16], count: usize)
+    requires few { count ≤ 2049 }
+    requires room { count ≤ length starts.old }
+    ensures len { length starts.new ≡ length starts.old }
+    ensures each { (i : ℕ) → i < count → slice_index starts.new i ≡ i }
+{
+    for i in 0..count {
+        starts[i] = i as u16;
+    }
+}
+
+// The levels of the slots of a path without lists.
+fn tell_flats(
+    upper: &mut Pieces,
+    level: Level,
+    parts: &[Nested],
+    above: Above,
+    from: usize,
+    to: usize,
+) -> bool
+    requires well { IsPath (parts_of parts.now) }
+    requires flat { max_repetition (path_way (parts_of parts.now)) ≡ 0 }
+    requires ordered { from ≤ to }
+    requires within { to ≤ slot_count (parts_of parts.now) }
+    requires low { IsLow above (length parts.now) }
+    ensures { IsTrue result → AreTold (λ n. walked level (parts_of parts.now) above from n) (to - from) upper.new }
+{
+    upper.told.clear();
+    mark(upper, 0);
+    if from == to {
+        return true;
+    }
+    if to - from > 2048 {
+        return false;
+    }
+    count_up(&mut upper.starts, to - from + 1);
+    tell_flat(&mut upper.told, level, parts, above, from, to)
+}
+
+// The levels of some slots beneath one, the first with its repetition level.
+#[inline(always)]
+fn push_beneath(
+    told: &mut LevelBytes,
+    lower: &Pieces,
+    level: Level,
+    depth: u32,
+    first: usize,
+    last: usize,
+) -> bool
+    requires ordered { first ≤ last }
+    requires places { last ≤ 2048 }
+    requires rising { slice_index lower.now.starts first < slice_index lower.now.starts last }
+    requires within { slice_index lower.now.starts last ≤ length lower.now.told }
+    requires low { depth < 256 }
+    ensures { IsTrue result → told.new ≡ told.old ++ with_first level depth (take (slice_index lower.now.starts last - slice_index lower.now.starts first) (drop (slice_index lower.now.starts first) lower.now.told)) }
+{
+    let from = lower.starts[first] as usize;
+    let to = lower.starts[last] as usize;
+    match level {
+        Level::Definition => told.push_part(&lower.told, from, to),
+        Level::Repetition => {
+            if !told.push_level(depth) {
+                return false;
+            }
+            told.push_part(&lower.told, from + 1, to)
+        }
+    }
+}
+
+// Where the items of some lists begin and end.
+#[inline(always)]
+#[tactic(auto, using(levels::proofs::Rising::rising))]
+fn items_between<O: Offset>(list: &ListNested<O>, from: usize, to: usize) -> (usize, usize)
+    requires ordered { from ≤ to }
+    requires within { to ≤ length list.now.offsets - 1 }
+    ensures first { result.0 ≡ item_start list.now.offsets from }
+    ensures last { result.1 ≡ item_start list.now.offsets to }
+    ensures ordered { result.0 ≤ result.1 }
+    ensures within { result.1 ≤ item_span list.now.offsets }
+{
+    // a list of offsets is not empty
+    let _lists = list.offsets.len_proxy();
+    (
+        item_place(&list.offsets, from),
+        item_place(&list.offsets, to),
+    )
+}
+
+// The levels of a list, by those of the items of some lists, from the first of these items to the last. What is beneath the list is named for the
+// contract alone.
+#[inline(always)]
+fn push_list<O: Offset>(
+    told: &mut LevelBytes,
+    lower: &Pieces,
+    level: Level,
+    list: &ListNested<O>,
+    rest: &[Nested],
+    above: Above,
+    place: usize,
+    first: usize,
+    last: usize,
+) -> bool
+    requires fits { MaskFits list.now.validity (length list.now.offsets - 1) }
+    requires within { place < length list.now.offsets - 1 }
+    requires after { first ≤ item_start list.now.offsets place }
+    requires before { item_start list.now.offsets (place + 1) ≤ last }
+    requires same { above.rep ≡ above.depth }
+    requires def { above.def < 255 }
+    requires depth { above.depth < 256 }
+    requires beneath { AreTold (λ n. walked level (parts_of rest.now) (above_items above list.now.is_optional) first n) (last - first) lower.now }
+    ensures { IsTrue result → told.new ≡ told.old ++ walked level (list_part list.now.is_optional list.now.validity list.now.offsets ∷ parts_of rest.now) above place 1 }
+{
+    let _beneath = rest;
+    let lists = list.offsets.len_proxy();
+    if !is_there(list.is_optional, &list.validity, lists, place) {
+        return told.push_level(level_at(level, above.def, above.depth));
+    }
+    let from = item_place(&list.offsets, place);
+    let to = item_place(&list.offsets, place + 1);
+    if from == to {
+        let def = above.def + step_of(list.is_optional);
+        return told.push_level(level_at(level, def, above.depth));
+    }
+    push_beneath(told, lower, level, above.depth, from - first, to - first)
+}
+
+// The levels of a struct, by those of what is beneath some structs from one on.
+#[inline(always)]
+fn push_struct(
+    told: &mut LevelBytes,
+    lower: &Pieces,
+    level: Level,
+    mask: &Option<Bitmap>,
+    is_optional: bool,
+    slots: usize,
+    rest: &[Nested],
+    above: Above,
+    place: usize,
+    from: usize,
+    to: usize,
+) -> bool
+    requires fits { MaskFits mask.now slots }
+    requires after { from ≤ place }
+    requires before { place < to }
+    requires within { to ≤ slots }
+    requires same { above.rep ≡ above.depth }
+    requires def { above.def < 255 }
+    requires depth { above.depth < 256 }
+    requires beneath { AreTold (λ n. walked level (parts_of rest.now) (above_fields above is_optional) from n) (to - from) lower.now }
+    ensures { IsTrue result → told.new ≡ told.old ++ walked level (struct_part is_optional mask.now slots ∷ parts_of rest.now) above place 1 }
+{
+    let _beneath = rest;
+    if !is_there(is_optional, mask, slots, place) {
+        return told.push_level(level_at(level, above.def, above.depth));
+    }
+    push_beneath(
+        told,
+        lower,
+        level,
+        above.depth,
+        place - from,
+        place - from + 1,
+    )
+}
+
+// The levels of lists, by those of their items.
+#[inline(never)]
+fn raise_lists<O: Offset>(
+    upper: &mut Pieces,
+    lower: &Pieces,
+    level: Level,
+    list: &ListNested<O>,
+    rest: &[Nested],
+    above: Above,
+    from: usize,
+    to: usize,
+) -> bool
+    requires fits { MaskFits list.now.validity (length list.now.offsets - 1) }
+    requires ordered { from ≤ to }
+    requires within { to ≤ length list.now.offsets - 1 }
+    requires same { above.rep ≡ above.depth }
+    requires def { above.def < 255 }
+    requires depth { above.depth < 256 }
+    requires beneath { AreTold (λ n. walked level (parts_of rest.now) (above_items above list.now.is_optional) (item_start list.now.offsets from) n) (item_start list.now.offsets to - item_start list.now.offsets from) lower.now }
+    ensures { IsTrue result → AreTold (λ n. walked level (list_part list.now.is_optional list.now.validity list.now.offsets ∷ parts_of rest.now) above from n) (to - from) upper.new }
+{
+    upper.told.clear();
+    mark(upper, 0);
+    if to - from > 2048 {
+        return false;
+    }
+    let _lists = list.offsets.len_proxy();
+    let first = item_place(&list.offsets, from);
+    let last = item_place(&list.offsets, to);
+    let mut place = from;
+    while place < to {
+        if !push_list(
+            &mut upper.told,
+            lower,
+            level,
+            list,
+            rest,
+            above,
+            place,
+            first,
+            last,
+        ) {
+            return false;
+        }
+        place += 1;
+        mark(upper, place - from);
+    }
+    true
+}
+
+// The levels of structs, by those of what is beneath them.
+#[inline(never)]
+fn raise_structs(
+    upper: &mut Pieces,
+    lower: &Pieces,
+    level: Level,
+    mask: &Option<Bitmap>,
+    is_optional: bool,
+    slots: usize,
+    rest: &[Nested],
+    above: Above,
+    from: usize,
+    to: usize,
+) -> bool
+    requires fits { MaskFits mask.now slots }
+    requires ordered { from ≤ to }
+    requires within { to ≤ slots }
+    requires same { above.rep ≡ above.depth }
+    requires def { above.def < 255 }
+    requires depth { above.depth < 256 }
+    requires beneath { AreTold (λ n. walked level (parts_of rest.now) (above_fields above is_optional) from n) (to - from) lower.now }
+    ensures { IsTrue result → AreTold (λ n. walked level (struct_part is_optional mask.now slots ∷ parts_of rest.now) above from n) (to - from) upper.new }
+{
+    upper.told.clear();
+    mark(upper, 0);
+    if to - from > 2048 {
+        return false;
+    }
+    let mut place = from;
+    while place < to {
+        if !push_struct(
+            &mut upper.told,
+            lower,
+            level,
+            mask,
+            is_optional,
+            slots,
+            rest,
+            above,
+            place,
+            from,
+            to,
+        ) {
+            return false;
+        }
+        place += 1;
+        mark(upper, place - from);
+    }
+    true
+}
+
+// The levels of some slots, from the leaf up.
+pub fn tell_pieces(
+    upper: &mut Pieces,
+    lower: &mut Pieces,
+    level: Level,
+    parts: &[Nested],
+    above: Above,
+    from: usize,
+    to: usize,
+) -> bool
+    requires well { IsPath (parts_of parts.now) }
+    requires ordered { from ≤ to }
+    requires within { to ≤ slot_count (parts_of parts.now) }
+    requires low { IsLow above (length parts.now) }
+    requires same { above.rep ≡ above.depth }
+    ensures { IsTrue result → AreTold (λ n. walked level (parts_of parts.now) above from n) (to - from) upper.new }
+{
+    if !has_lists(parts) {
+        return tell_flats(upper, level, parts, above, from, to);
+    }
+    let Some((part, rest)) = parts.split_first() else {
+        return false;
+    };
+    match part {
+        Nested::Primitive(..) => false,
+        Nested::Struct(mask, is_optional, slots) => {
+            let here = Above {
+                def: above.def + step_of(*is_optional),
+                ..above
+            };
+            if !tell_pieces(lower, upper, level, rest, here, from, to) {
+                return false;
+            }
+            raise_structs(
+                upper,
+                lower,
+                level,
+                mask,
+                *is_optional,
+                *slots,
+                rest,
+                above,
+                from,
+                to,
+            )
+        }
+        Nested::List(list) => {
+            let (first, last) = items_between(list, from, to);
+            let here = Above {
+                rep: above.depth + 1,
+                def: above.def + step_of(list.is_optional) + 1,
+                depth: above.depth + 1,
+            };
+            if !tell_pieces(lower, upper, level, rest, here, first, last) {
+                return false;
+            }
+            raise_lists(upper, lower, level, list, rest, above, from, to)
+        }
+        Nested::LargeList(list) => {
+            let (first, last) = items_between(list, from, to);
+            let here = Above {
+                rep: above.depth + 1,
+                def: above.def + step_of(list.is_optional) + 1,
+                depth: above.depth + 1,
+            };
+            if !tell_pieces(lower, upper, level, rest, here, first, last) {
+                return false;
+            }
+            raise_lists(upper, lower, level, list, rest, above, from, to)
+        }
+    }
+}
