@@ -1,5 +1,5 @@
 //! The nulls of a leaf array in the mask of its path.
-ghost use Rattle.std.specs.Prelude.{◌≡◌, ◌↔◌, IsTrue, false, Some, IfOk, IfErr, OnOk, map, replicate};
+ghost use Rattle.std.specs.Prelude.{◌≡◌, ◌↔◌, ◌<◌, ◌≤◌, ℕ, IsTrue, false, Some, IfOk, IfErr, OnOk, length, map, replicate, slice_index_or};
 ghost use Rattle.columns_base.specs.declared.error.Error.TheVariants.{Memory};
 ghost use Rattle.columns_core.specs.Bits.{bits_eq};
 ghost use Rattle.shredding.specs.Parts.{slot_count, path_way, MaskFits};
@@ -19,6 +19,23 @@ use columns_core::{Bitmap, MutableBitmap};
 use levels::Nested;
 use std::alloc::Global;
 
+// Where the words of 64 of two masks end that are the same.
+fn same_end(a: &Bitmap, b: &Bitmap, size: usize) -> usize
+    requires within { size ≤ length a.now }
+    requires other { size ≤ length b.now }
+    ensures within { result ≤ size }
+    ensures same { (i : ℕ) → i < result → slice_index_or a.now i false ≡ slice_index_or b.now i false }
+{
+    let mut place = 0;
+    while size - place >= 64 {
+        if a.word_at(place, 64) != b.word_at(place, 64) {
+            return place;
+        }
+        place += 64;
+    }
+    place
+}
+
 // Whether two masks are the same, word by word: true only where they are.
 fn same_words(a: &Bitmap, b: &Bitmap) -> bool
     ensures { IsTrue result → a.now ≡ b.now }
@@ -27,13 +44,13 @@ fn same_words(a: &Bitmap, b: &Bitmap) -> bool
     if size != b.len() {
         return false;
     }
-    let mut place = 0;
-    while place < size {
-        let count = (size - place).min(64);
-        if a.word_at(place, count) != b.word_at(place, count) {
-            return false;
-        }
-        place += count;
+    let place = same_end(a, b, size);
+    let count = size - place;
+    if count > 64 {
+        return false;
+    }
+    if a.word_at(place, count) != b.word_at(place, count) {
+        return false;
     }
     true
 }

@@ -1,12 +1,9 @@
-use Rattle.std.proofs.Common.{arith, sym, ◌∙◌, length}
-use Rattle.nested_paths.proofs.Sames.{same-lists, words-more}
+use Rattle.std.proofs.Common.{◌+◌, ◌-◌, arith}
+use Rattle.nested_paths.proofs.Sames.{AreSame, same-lists, words-more}
 use Rattle.nested_paths.proofs.merge.same_words.Goals as goal
 
-pub loop-place-preserved : goal.loop-place-preserved
-loop-place-preserved c = record {
-  before = omega (arith, c.min-count.ensures, c.loop-place-test.true);
-  same = words-more c.args.a.now c.args.b.now c.loop-place.place c.min-count.result _ _ c.word_at.ensures.bits c.word_at-in-loop-place.ensures.bits c.if-word_at.false c.loop-place.invariant.same;
-}
-
 pub returns : goal.returns
-returns c = λ yes. same-lists c.args.a.now c.args.b.now (omega (arith, c.len-size.ensures, c.len.ensures, c.if-size-len.false)) (λ i h. c.loop-place.invariant.same i (omega (arith, h, c.len-size.ensures, c.loop-place-test.false)))
+returns c = λ yes.
+    let e = c.same_end-place.ensures in
+    let same : AreSame c.args.a.now c.args.b.now (c.same_end-place.result + (c.len-size.result - c.same_end-place.result)) = words-more c.args.a.now c.args.b.now c.same_end-place.result _ _ _ c.word_at.ensures.bits c.word_at-2.ensures.bits c.if-word_at.false e.same in
+    same-lists c.args.a.now c.args.b.now (omega (arith, c.len-size.ensures, c.len.ensures, c.if-size-len.false)) (λ i h. same i (omega (arith, h, c.len-size.ensures, e.within)))

@@ -1,6 +1,6 @@
 use Rattle.std.proofs.Common.{◌≤◌, ◌-◌}
 use Rattle.nested_paths.proofs.Sames.{AreSame}
-use Rattle.nested_paths.proofs.merge.same_words.Given as goal
+use Rattle.nested_paths.proofs.merge.same_end.Given as goal
 
 abbrev pub invariant-loop-place : goal.invariant-loop-place
 invariant-loop-place l = record {
