@@ -1,5 +1,7 @@
 -- What a block makes of a list or of a nullable struct, by the bits of its pairs.
-use Rattle.std.proofs.Common.{◌≡◌, ℕ, ◌+◌, Bool, true, false, cond, nat_lt, Some, None, List, [], ◌∷◌, ◌++◌, map, length, refl, ap, sym, ◌∙◌, append_assoc, append-nil}
+use Rattle.std.proofs.Common.{◌≡◌, ℕ, ◌+◌, Bool, true, false, true≢false, cond, nat_lt, Some, None, List, [], ◌∷◌, ◌++◌, map, length, refl, ap, sym, ◌∙◌, append_assoc, append-nil}
+use Rattle.std.proofs.Common.{Result, Ok, Err}
+use Rattle.std.specs.Result.{OnOk, is_ok}
 use Rattle.read_laws.specs.State.{kept_list, kept_struct}
 use Rattle.read_laws.specs.Step.{bit}
 use Rattle.read_laws.specs.Block.{Mark, marks_part, beneath, pushed_all}
@@ -7,6 +9,11 @@ use Rattle.read_laws.proofs.Steps.{rising-one}
 use Rattle.read_state.specs.Marks.{validities}
 use Rattle.read_state.specs.Reach.{chosen, places}
 use Rattle.read_state.proofs.Validities.{struct-word}
+
+-- what holds on `Ok` holds of a result that is one
+pub if-ok : {T E P : Type 0} (r : Result T E) → OnOk r P → is_ok r ≡ true → P
+if-ok (Ok x) p h = p
+if-ok (Err e) p h = absurd (true≢false (sym h))
 
 optional-step : (p g v : Bool) (bits : List Bool) (starts : List ℕ) (place depth def : ℕ) (rest : List Mark) (ps gs vs : List Bool) → ((bits' : List Bool) (starts' : List ℕ) (place' : ℕ) → pushed_all (kept_list (Some bits') starts') place' depth def rest ≡ kept_list (Some (bits' ++ chosen ps vs)) (starts' ++ places place' ps gs)) → pushed_all (cond p (kept_list (Some (bits ++ v ∷ [])) (starts ++ place ∷ [])) (kept_list (Some bits) starts)) (place + bit g) depth def rest ≡ kept_list (Some (bits ++ chosen (p ∷ ps) (v ∷ vs))) (starts ++ places place (p ∷ ps) (g ∷ gs))
 unfolding chosen places
