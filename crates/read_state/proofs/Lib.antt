@@ -3,6 +3,7 @@ pub mod Lengths
 pub mod Push
 pub mod Blocks
 pub mod SameRuns
+pub mod Shifting
 pub mod Long
 pub mod Places
 pub mod Empty

@@ -8,12 +8,12 @@ use lib.Count.{ones_step}
 use Rattle.std.specs.Int.Bits.{and_self}
 use Rattle.std.proofs.lemmas.Nat.Bits.{bit_at-trailing_zeros, bit_at_lowest, bit_at-suc, bit_at-zero, bit_at_and, bit_at-lt}
 use Rattle.columns_core.specs.Bits.{word_bits}
-use Rattle.columns_core.proofs.Words.{zeros_word, ones_word}
+use Rattle.columns_core.proofs.Words.{ones_word}
 use Rattle.read_laws.specs.Step.{bit}
 use Rattle.read_state.specs.Reach.{chosen, places}
 use Rattle.read_state.proofs.Compared.{length-word, bit-of, heads, tails}
 
-places-none : (n place : ℕ) (gs : List Bool) → places place (replicate n false) gs ≡ []
+pub places-none : (n place : ℕ) (gs : List Bool) → places place (replicate n false) gs ≡ []
 unfolding places
 places-none zero place gs = refl
 places-none (suc n) place [] = refl
@@ -27,7 +27,7 @@ chosen-none (suc n) (v ∷ vs) = chosen-none n vs
 
 -- ---- words without the low bits
 -- how many bits are set from a place on
-ones-behind : (k w : ℕ) → count_ones (w / 2 ^ k) ≤ count_ones w
+pub ones-behind : (k w : ℕ) → count_ones (w / 2 ^ k) ≤ count_ones w
 ones-behind zero w = let e : w / 2 ^ 0 ≡ w = omega arith in rw e (omega arith)
 ones-behind (suc k) w =
     let place : suc k ≡ 1 + k = omega arith in
@@ -45,7 +45,7 @@ ones-of-word w h = ones-few 64 w h
 next-behind : (w i : ℕ) → w / 2 ^ i / 2 ≡ w / 2 ^ (i + 1)
 next-behind w i = shr-shr w i 1
 
-places-passed : (k n place place' a g : ℕ) → ((j : ℕ) → j < k → bit_at a j ≡ 0) → place' + count_ones (g / 2 ^ k) ≡ place + count_ones g → places place (word_bits a (k + n)) (word_bits g (k + n)) ≡ places place' (word_bits (a / 2 ^ k) n) (word_bits (g / 2 ^ k) n)
+pub places-passed : (k n place place' a g : ℕ) → ((j : ℕ) → j < k → bit_at a j ≡ 0) → place' + count_ones (g / 2 ^ k) ≡ place + count_ones g → places place (word_bits a (k + n)) (word_bits g (k + n)) ≡ places place' (word_bits (a / 2 ^ k) n) (word_bits (g / 2 ^ k) n)
 unfolding places
 places-passed zero n place place' a g clear e =
     let b : a / 2 ^ 0 ≡ a = omega arith in
@@ -63,7 +63,7 @@ places-passed (suc k) n place place' a g clear e =
     let others : place' + count_ones (g / 2 / 2 ^ k) ≡ place + bit (g % 2 == 1) + count_ones (g / 2) = omega (arith, rw c at e, ones_step g, is) in
     rw (count, b, c, low) (places-passed k n (place + bit (g % 2 == 1)) place' (a / 2) (g / 2) (λ j h. sym (bit_at-suc a j) ∙ clear (suc j) (omega (arith, h))) others)
 
-places-taken : (n place a g : ℕ) → a % 2 ≡ 1 → places place (word_bits a (suc n)) (word_bits g (suc n)) ≡ place ∷ places (place + g % 2) (word_bits (a / 2) n) (word_bits (g / 2) n)
+pub places-taken : (n place a g : ℕ) → a % 2 ≡ 1 → places place (word_bits a (suc n)) (word_bits g (suc n)) ≡ place ∷ places (place + g % 2) (word_bits (a / 2) n) (word_bits (g / 2) n)
 unfolding places
 places-taken n place a g e = rw (e, bit-of (g % 2) (omega arith)) refl
 
@@ -106,7 +106,7 @@ lowest-cleared (suc t) n below one =
     by first half others zero h = first
     by first half others (suc j) h = bit_at-suc (bit_and n (n - 1)) j ∙ (ap (λ (k : ℕ). bit_at k j) half ∙ others j (omega (arith, h)))
 
-zero-shifted : (i : ℕ) → 0 / 2 ^ i ≡ 0
+pub zero-shifted : (i : ℕ) → 0 / 2 ^ i ≡ 0
 zero-shifted i = omega (arith, shr_below 0 0 i (pow_pos (0 + i)))
 
 -- The set bits of a word that are left: those from the place i on.
@@ -163,69 +163,9 @@ module _ (all left t : ℕ) (some : 0 < left) (fits : left < 2 ^ 64) (at : t ≡
     clear = (lowest-cleared t left below lowest).1;
   }
 
-  places-on : (place place' grown : ℕ) → place' + count_ones (grown / 2 ^ t) ≡ place + count_ones (grown / 2 ^ p.i) → places place (word_bits (all / 2 ^ p.i) (64 - p.i)) (word_bits (grown / 2 ^ p.i) (64 - p.i)) ≡ place' ∷ places (place' + grown / 2 ^ t % 2) (word_bits (all / 2 ^ (t + 1)) (64 - (t + 1))) (word_bits (grown / 2 ^ (t + 1)) (64 - (t + 1)))
-  places-on place place' grown e =
-      let n : ℕ = 64 - (t + 1) in
-      let split : 64 - p.i ≡ (t - p.i) + suc n = omega (arith, over, inside) in
-      let sum : place' + count_ones (grown / 2 ^ p.i / 2 ^ (t - p.i)) ≡ place + count_ones (grown / 2 ^ p.i) = rw (behind grown) e in
-      ap (λ (k : ℕ). places place (word_bits (all / 2 ^ p.i) k) (word_bits (grown / 2 ^ p.i) k)) split
-      ∙ (places-passed (t - p.i) (suc n) place place' (all / 2 ^ p.i) (grown / 2 ^ p.i) zeros sum
-      ∙ rw (behind all, behind grown, ← next-behind all t, ← next-behind grown t) (places-taken n place' (all / 2 ^ t) (grown / 2 ^ t) odd))
-
 -- no set bit is left
 none-left : (all left : ℕ) → left ≡ 0 → (p : AreLeft all left) → all / 2 ^ p.i ≡ 0
 none-left all left z p = sym p.same ∙ (ap (λ (k : ℕ). k / 2 ^ p.i) z ∙ zero-shifted p.i)
-
--- ---- the places of a list: those that were pushed, and those that are left
-pub record IsPlacing (end : ℕ) (all : List ℕ) (starts : List ℕ) (pushed grown left len cap : ℕ) : Type 0 where
-  pub at : AreLeft pushed left
-  pub place : ℕ
-  pub ends : place + count_ones (grown / 2 ^ at.i) ≡ end
-  pub starts_are : starts ++ places place (word_bits (pushed / 2 ^ at.i) (64 - at.i)) (word_bits (grown / 2 ^ at.i) (64 - at.i)) ≡ all
-  pub room : len + (64 - at.i) ≤ cap
-
-pub placing-none : (first end : ℕ) (starts : List ℕ) (pushed grown len cap : ℕ) → end ≡ first + count_ones grown → len + 64 ≤ cap → IsPlacing end (starts ++ places first (word_bits pushed 64) (word_bits grown 64)) starts pushed grown pushed len cap
-unfolding all-left
-placing-none first end starts pushed grown len cap e room =
-    let a : pushed / 2 ^ 0 ≡ pushed = omega arith in
-    let b : grown / 2 ^ 0 ≡ grown = omega arith in
-    record {
-      at = all-left pushed;
-      place = first;
-      ends = rw b (sym e);
-      starts_are = rw (a, b) refl;
-      room = room;
-    }
-
-module _ (end : ℕ) (all starts : List ℕ) (pushed grown left len cap t : ℕ) (some : 0 < left) (fits : left < 2 ^ 64) (at : t ≡ trailing_zeros w64 left) (p : IsPlacing end all starts pushed grown left len cap) where
-  -- what comes before a place is not behind it
-  pub place-within : count_ones (grown / 2 ^ t) ≤ end
-  place-within =
-      let e : count_ones (grown / 2 ^ p.at.i / 2 ^ (t - p.at.i)) ≡ count_ones (grown / 2 ^ t) = ap count_ones (behind pushed left t some fits at p.at grown) in
-      omega (arith, ones-behind (t - p.at.i) (grown / 2 ^ p.at.i), e, p.ends)
-
-  pub place-room : len < cap
-  place-room = omega (arith, p.room, inside pushed left t some fits at p.at, over pushed left t some fits at p.at)
-
-  pub place-next : (starts' : List ℕ) (len' cap' : ℕ) → starts' ≡ starts ++ (end - count_ones (grown / 2 ^ t)) ∷ [] → len' ≤ len + 1 → cap ≤ cap' → IsPlacing end all starts' pushed grown (bit_and left (left - 1)) len' cap'
-  unfolding left-next
-  place-next starts' len' cap' s l k =
-      let here : ℕ = end - count_ones (grown / 2 ^ t) in
-      let is : here + count_ones (grown / 2 ^ t) ≡ end = omega (arith, place-within) in
-      let half : count_ones (grown / 2 ^ t / 2) ≡ count_ones (grown / 2 ^ (t + 1)) = ap count_ones (next-behind grown t) in
-      let rest : List ℕ = places (here + grown / 2 ^ t % 2) (word_bits (pushed / 2 ^ (t + 1)) (64 - (t + 1))) (word_bits (grown / 2 ^ (t + 1)) (64 - (t + 1))) in
-      record {
-        at = left-next pushed left t some fits at p.at;
-        place = here + grown / 2 ^ t % 2;
-        ends = omega (arith, is, half, ones_step (grown / 2 ^ t));
-        starts_are = ap (λ (xs : List ℕ). xs ++ rest) s ∙ (append_assoc starts (here ∷ []) rest ∙ (ap (λ (xs : List ℕ). starts ++ xs) (sym (places-on pushed left t some fits at p.at p.place here grown (is ∙ sym p.ends))) ∙ p.starts_are));
-        room = omega (arith, p.room, l, k, over pushed left t some fits at p.at, inside pushed left t some fits at p.at);
-      }
-
-pub placing-done : (end : ℕ) (all starts : List ℕ) (pushed grown left len cap : ℕ) → left ≡ 0 → IsPlacing end all starts pushed grown left len cap → starts ≡ all
-placing-done end all starts pushed grown left len cap z p =
-    let none : word_bits (pushed / 2 ^ p.at.i) (64 - p.at.i) ≡ replicate (64 - p.at.i) false = ap (λ (k : ℕ). word_bits k (64 - p.at.i)) (none-left pushed left z p.at) ∙ zeros_word (64 - p.at.i) in
-    sym (append-nil starts) ∙ (ap (λ (xs : List ℕ). starts ++ xs) (sym (ap (λ (bs : List Bool). places p.place bs (word_bits (grown / 2 ^ p.at.i) (64 - p.at.i))) none ∙ places-none (64 - p.at.i) p.place (word_bits (grown / 2 ^ p.at.i) (64 - p.at.i)))) ∙ p.starts_are)
 
 -- ---- bits beside set bits, most of which are set: what a word has that another one lacks
 missing-bit : (i a b : ℕ) → bit_at (a - bit_and a b) i + min (bit_at a i) (bit_at b i) ≡ bit_at a i

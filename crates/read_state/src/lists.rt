@@ -5,6 +5,7 @@ ghost use Rattle.read_state.specs.Kinds.{starts_of};
 ghost use Rattle.read_state.specs.Reach.{chosen, places};
 
 use crate::pushes::length_of;
+use std::mem;
 
 /// How many set bits a word has.
 pub fn ones_of(word: u64) -> usize
@@ -15,19 +16,25 @@ pub fn ones_of(word: u64) -> usize
 }
 
 /// Pushes the places of a block to a list, within room that is there. `pushed` has a bit for each pair that pushes to the list, and `grown` for
-/// each that pushes to the part beneath, which has `first` slots.
+/// each that pushes to the part beneath, which has `first` slots. The vector is held by itself in the loop, so that its fields stay in registers.
 pub fn push_starts(lengths: &mut Vec<i64>, pushed: u64, grown: u64, first: usize)
     requires room { vec_len lengths.old + 64 ≤ vec_capacity lengths.old }
     requires few { first + 64 < 2 ^ 64 }
     ensures { starts_of lengths.new.items ≡ starts_of lengths.old.items ++ places first (word_bits pushed 64) (word_bits grown 64) }
 {
     let end = first + ones_of(grown);
+    let alloc = *lengths.allocator();
+    let mut places = mem::replace(lengths, Vec::new(alloc));
     let mut left = pushed;
+    let mut above = grown;
     while left != 0 {
-        let at = left.trailing_zeros() as usize;
-        lengths.push(length_of(end - ones_of(grown >> at))).unwrap();
-        left = left & (left - 1);
+        let gap = left.trailing_zeros() as usize;
+        let here = above >> gap;
+        places.push_reserved(length_of(end - ones_of(here)));
+        left = (left >> gap) >> 1;
+        above = here >> 1;
     }
+    mem::forget(mem::replace(lengths, places));
 }
 
 // The bits of the word `there` beside the set bits of the word `pushed`, from one that is not set to the next.
