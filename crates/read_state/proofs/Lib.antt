@@ -9,6 +9,7 @@ pub mod Places
 pub mod Empty
 pub mod Validities
 pub mod Compared
+pub mod Outer
 pub mod Picking
 pub mod Listing
 pub mod Counting

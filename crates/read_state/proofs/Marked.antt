@@ -184,11 +184,11 @@ first-near (suc n) depth def [] defs = tt
 first-near (suc n) depth def (r ∷ reps) [] = tt
 first-near (suc n) depth def (r ∷ reps) (d ∷ defs) = (λ h q. absurd (true≢false (sym h)), first-near n depth def reps defs)
 
-pub marked-first : (w : ℕ) (reps defs low tall : List ℕ) → length reps ≡ 64 → length defs ≡ 64 → low ≡ map (λ d. min d 255) reps → tall ≡ map (λ d. min d 255) defs → word_bits w 64 ≡ reached 0 0 low tall → AreMarked (marks_of reps defs (replicate 64 false)) low tall w 0 0
-marked-first w reps defs low tall l m e f bits = record {
+pub marked-outer : (w : ℕ) (reps defs low tall : List ℕ) → length reps ≡ 64 → length defs ≡ 64 → low ≡ map (λ d. min d 255) reps → tall ≡ map (λ d. min d 255) defs → word_bits w 64 ≡ reached 0 0 reps defs → AreMarked (marks_of reps defs (replicate 64 false)) low tall w 0 0
+marked-outer w reps defs low tall l m e f bits = record {
   repetitions = first-reps 64 reps defs l m ∙ sym e;
   definitions = first-defs 64 reps defs l m ∙ sym f;
-  pushed = bits ∙ (ap (λ (rs : List ℕ). reached 0 0 rs tall) e ∙ (ap (reached 0 0 (map (λ d. min d 255) reps)) f ∙ (told-reached 0 0 reps defs (omega arith) (omega arith) ∙ first-bits 64 0 0 reps defs l m)));
+  pushed = bits ∙ first-bits 64 0 0 reps defs l m;
   near = first-near 64 0 0 reps defs;
 }
 

@@ -17,7 +17,7 @@ use crate::plain::words_to;
 use crate::pushes::{more, push_length};
 use crate::steps::Steps;
 use crate::stretch::push_to;
-use crate::words::{levels_from, levels_to, narrowed, reached_word};
+use crate::words::{levels_from, narrowed, narrowed_beside, outer_word};
 use columns_base::Result;
 use columns_core::MutableBitmap;
 use std::sync::ledger::Ledger;
@@ -264,7 +264,7 @@ fn push_only(part: &mut NestedBox, reps: &[u32], defs: &[u32]) -> Result<()>
 {
     match part {
         NestedBox::Primitive(leaf) => {
-            let pushed = levels_to(reps, 0) & levels_from(defs, 0);
+            let pushed = outer_word(reps) & levels_from(defs, 0);
             leaf.pushes = more(leaf.pushes, ones_of(pushed))?;
             Ok(())
         }
@@ -365,9 +365,10 @@ pub fn push_all<L: Ledger>(
         return push_only(&mut parts[0], reps, defs);
     }
     if reps.len() == 64 && parts.len() < 64 {
-        let reps = narrowed(reps);
+        let outer = outer_word(reps);
+        let pushed = outer & levels_from(defs, 0);
+        let reps = narrowed_beside(reps, outer);
         let defs = narrowed(defs);
-        let pushed = reached_word(&reps, &defs, 0, 0);
         return words_to(parts, &reps, &defs, pushed, 0, 0, steps);
     }
     let hidden = [false; 64];

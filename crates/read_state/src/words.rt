@@ -1,5 +1,5 @@
 //! Levels of 64 pairs, compared all at once.
-ghost use Rattle.std.specs.Prelude.{◌≡◌, ◌+◌, ◌<◌, ◌^◌, length, map, nat_eq, nat_le, min};
+ghost use Rattle.std.specs.Prelude.{◌≡◌, ℕ, ◌+◌, ◌<◌, ◌≤◌, ◌^◌, length, map, nat_eq, nat_le, min, slice_index};
 ghost use Rattle.columns_core.specs.Bits.{word_bits};
 ghost use Rattle.read_state.specs.Reach.{reached};
 
@@ -33,6 +33,39 @@ pub fn levels_at(levels: &[u32], level: u32) -> u64
 {
     let lanes = Simd::<u32, 64>::from_slice(levels);
     lanes.simd_eq(Simd::<u32, 64>::splat(level)).to_bitmask()
+}
+
+// The bits that any of 64 levels has.
+fn block_bits(levels: &[u32]) -> u32
+    requires { length levels.now ≡ 64 }
+    ensures { (k : ℕ) → k < length levels.now → slice_index levels.now k ≤ result }
+{
+    Simd::<u32, 64>::from_slice(levels).reduce_or()
+}
+
+/// A bit for each of 64 pairs, set where it repeats in no list. Where none does, which is told first if the second pair does not, nothing is compared.
+pub fn outer_word(reps: &[u32]) -> u64
+    requires { length reps.now ≡ 64 }
+    ensures { word_bits result 64 ≡ map (λ r. nat_le r 0) reps.now }
+{
+    if reps[1] == 0 {
+        if block_bits(reps) == 0 {
+            return u64::MAX;
+        }
+    }
+    levels_to(reps, 0)
+}
+
+/// 64 levels in a byte each, where those above 255 are 255; `outer` has a bit for each that is 0.
+pub fn narrowed_beside(levels: &[u32], outer: u64) -> [u8; 64]
+    requires size { length levels.now ≡ 64 }
+    requires outer { word_bits outer 64 ≡ map (λ d. nat_le d 0) levels.now }
+    ensures { result ≡ map (λ d. min d 255) levels.now }
+{
+    if outer == u64::MAX {
+        return [0; 64];
+    }
+    narrowed(levels)
 }
 
 /// 64 levels in a byte each, where those above 255 are 255.

@@ -2,7 +2,8 @@ use Rattle.std.proofs.Common.{length, replicate, false, arith, refl, ◌∙◌}
 use Rattle.std.proofs.lemmas.Result.{on_ok_weaker}
 use Rattle.read_state.specs.Kinds.{all_kept}
 use Rattle.read_state.specs.Marks.{marks_of}
-use Rattle.read_state.proofs.Marked.{marked-first}
+use Rattle.read_state.proofs.Marked.{marked-outer}
+use Rattle.read_state.proofs.Compared.{both-reached}
 use Rattle.read_state.proofs.Long.{stretch-is-block, none-is-block}
 use Rattle.read_state.proofs.block.push_all.Goals as goal
 
@@ -18,4 +19,6 @@ pub returns-then-parts-lt64-clause-ok : goal.returns-then-parts-lt64-clause-ok
 returns-then-parts-lt64-clause-ok g c =
     let reps = c.args.reps.now in
     let defs = c.args.defs.now in
-    c.words_to.ensures.ok (marks_of reps defs (replicate 64 false)) (λ some. marked-first c.reached_word-pushed.result reps defs c.narrowed-reps.result c.narrowed-defs.result c.if-reps-eq64-2.true (c.requires.defs ∙ c.if-reps-eq64-2.true) c.narrowed-reps.ensures c.narrowed-defs.ensures c.reached_word-pushed.ensures)
+    let size = c.requires.defs ∙ c.if-reps-eq64-2.true in
+    let bits = both-reached 64 c.outer_word-outer.result c.levels_from.result 0 0 reps defs c.if-reps-eq64-2.true size c.outer_word-outer.ensures c.levels_from.ensures in
+    c.words_to.ensures.ok (marks_of reps defs (replicate 64 false)) (λ some. marked-outer _ reps defs c.narrowed_beside-reps.result c.narrowed-defs.result c.if-reps-eq64-2.true size c.narrowed_beside-reps.ensures c.narrowed-defs.ensures bits)
