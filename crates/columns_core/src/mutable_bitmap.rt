@@ -233,8 +233,23 @@ impl MutableBitmap {
         }
     }
 
-    // Whole bytes of equal bits, behind whole bytes.
+    // Whole bytes of equal bits, behind whole bytes. The C library clears stretches of more than 2 KiB by one instruction that repeats.
     fn push_whole(&mut self, count: usize, value: bool)
+        requires room { 8 * count ≤ self.old.1 }
+        requires filled { 0 < count → list_length self.old.0 % 8 ≡ 0 }
+        ensures same { self.new.0 ≡ self.old.0 ++ replicate (8 * count) value }
+        ensures room { self.old.1 ≤ self.new.1 + 8 * count }
+    {
+        let mut rest = count;
+        while rest > 0 {
+            let piece = rest.min(2048);
+            self.push_equal_bytes(piece, value);
+            rest -= piece;
+        }
+    }
+
+    // The same by one call.
+    fn push_equal_bytes(&mut self, count: usize, value: bool)
         requires room { 8 * count ≤ self.old.1 }
         requires filled { 0 < count → list_length self.old.0 % 8 ≡ 0 }
         ensures same { self.new.0 ≡ self.old.0 ++ replicate (8 * count) value }

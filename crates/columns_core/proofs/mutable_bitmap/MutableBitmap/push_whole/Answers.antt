@@ -1,13 +1,19 @@
-use Rattle.std.proofs.Common.{◌≡◌, ◌+◌, ◌-◌, ◌++◌, ◌∙◌, ℕ, List, length, replicate, ap, ap₂, arith}
-use Rattle.std.proofs.lemmas.List.{take_all}
-use Rattle.columns_core.proofs.Bits.{size_seen}
-use Rattle.columns_core.proofs.Grown.{copies_more}
+use Rattle.std.proofs.Common.{◌≡◌, ◌+◌, ◌-◌, ◌*◌, ◌≤◌, ◌++◌, ◌∙◌, ℕ, Bool, List, length, replicate, ap, arith, append_assoc, length-append}
+use Rattle.std.proofs.lemmas.List.{length-replicate, replicate-append-replicate}
 use Rattle.columns_core.proofs.mutable_bitmap.MutableBitmap.push_whole.Goals as goal
 
-pub returns-clause-same : goal.returns-clause-same
-returns-clause-same c =
-    let bs : List ℕ = c.self.inside.bytes.items in
-    let seen = ap (λ p. p.0) c.self.view_is in
-    let count : c.len.result + c.args.count - c.self.inside.bytes.len ≡ c.args.count = omega (arith, c.len.ensures) in
-    let made : c.resize.new.self.items ≡ bs ++ replicate c.args.count c.full_byte.result = rw c.unwrap.ensures at c.resize.ensures.items ∙ ap₂ (λ (xs : List ℕ) (n : ℕ). xs ++ replicate n c.full_byte.result) (take_all _ bs (omega (arith, c.len.ensures, c.self.inside.bytes.ok.0))) count in
-    rw made (copies_more bs c.self.inside.size c.args.count c.full_byte.result c.args.value c.args.self.now.0 (λ h. omega (arith, size_seen _ _ _ _ seen, c.self.invariant, c.requires.filled h, c.self.inside.bytes.ok.0)) seen c.full_byte.ensures)
+pub loop-rest-preserved : goal.loop-rest-preserved
+loop-rest-preserved c =
+    let n : ℕ = c.min-piece.result in
+    let left : ℕ = c.loop-rest.rest - n in
+    let bs : List Bool = c.loop-rest.self.0 in
+    let e = c.push_equal_bytes.ensures.same in
+    let few : n ≤ c.loop-rest.rest = omega (arith, c.min-piece.ensures) in
+    let all : 8 * n + 8 * left ≡ 8 * c.loop-rest.rest = omega arith in
+    let size : length c.push_equal_bytes.new.self.0 ≡ length bs + 8 * n = ap length e ∙ (length-append bs (replicate (8 * n) c.args.value) ∙ ap (λ (k : ℕ). length bs + k) (length-replicate (8 * n) c.args.value)) in
+    record {
+      same = ap (λ (t : List Bool). t ++ replicate (8 * left) c.args.value) e ∙ (append_assoc bs (replicate (8 * n) c.args.value) (replicate (8 * left) c.args.value) ∙ (ap (λ (t : List Bool). bs ++ t) (replicate-append-replicate (8 * n) (8 * left) c.args.value ∙ ap (λ (k : ℕ). replicate k c.args.value) all) ∙ c.loop-rest.invariant.same));
+      room = omega (arith, c.push_equal_bytes.ensures.room, c.loop-rest.invariant.room);
+      filled = λ h. omega (arith, c.loop-rest.invariant.filled (omega arith), size);
+      grown = omega (arith, c.push_equal_bytes.ensures.room, c.loop-rest.invariant.grown);
+    }
