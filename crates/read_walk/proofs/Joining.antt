@@ -1,9 +1,11 @@
 -- Levels of one bit in words.
-use Rattle.std.proofs.Common.{◌≡◌, ℕ, zero, suc, ◌+◌, ◌-◌, ◌*◌, ◌/◌, ◌%◌, ◌^◌, ◌<◌, ◌≤◌, ◌++◌, inl, inr, List, [], ◌∷◌, length, take, replicate, refl, arith, ap, sym, ◌∙◌, pow-suc, append_assoc}
+use Rattle.std.proofs.Common.{◌≡◌, ℕ, zero, suc, ◌+◌, ◌-◌, ◌*◌, ◌/◌, ◌%◌, ◌^◌, ◌<◌, ◌≤◌, ◌++◌, inl, inr, List, [], ◌∷◌, length, take, drop, get_or, nat_lt, true, Some, replicate, refl, arith, ap, sym, ◌∙◌, pow-suc, append_assoc}
 use Rattle.std.proofs.Math.Arith.{mod-mul}
 use Rattle.std.proofs.Math.Pow.{pow_mono}
 use Rattle.std.proofs.lemmas.Nat.{pow_pos, pow-add, mod_below, mul-add-lt, shl_whole}
-use Rattle.std.proofs.lemmas.List.{length-take}
+use Rattle.std.proofs.lemmas.List.{length-take, take_all}
+use Rattle.std.proofs.lemmas.Bool.Decides.{leb_tells}
+use Rattle.pq_numbers.specs.Varint.{varint_at, varint_up_to}
 use Rattle.pq_numbers.specs.Bits.{digits_of}
 use Rattle.pq_numbers.specs.Texts.{number_of}
 use Rattle.pq_runs.specs.Hybrid.{Item as LevelItem, given}
@@ -50,6 +52,15 @@ join-below word done bits count h k =
     let e : 2 ^ (done + count) ≡ 2 ^ done * 2 ^ count = pow-add 2 done count in
     let turned : 2 ^ done * bits ≡ bits * 2 ^ done = omega arith in
     omega (arith, below, e, turned)
+
+-- a number of one byte
+pub one-byte : (bytes : List ℕ) → 0 < length bytes → get_or bytes 0 0 < 128 → varint_at bytes ≡ Some (get_or bytes 0 0, take (length bytes - 1) (drop 1 bytes))
+unfolding varint_up_to
+one-byte [] h l = absurd (omega (arith, h))
+one-byte (b ∷ bs) h l =
+    let less : nat_lt b 128 ≡ true = elim (leb_tells (suc b) 128) [ inl e ↦ e.0 | inr e ↦ absurd (omega (arith, e.1, l)) ] in
+    let all : take (suc (length bs) - 1) bs ≡ bs = take_all (suc (length bs) - 1) bs (omega arith) in
+    rw (less, all) refl
 
 -- bits of packed numbers
 pub packed-bits : (w s n standing : ℕ) (xs : List ℕ) → w ≡ 1 → n ≤ standing → n ≤ 64 - s → s < 8 → s + w * standing ≤ 8 * length xs → digits_of 2 n (number_of (take 8 xs) / 2 ^ s % 2 ^ n) ≡ digits_of (2 ^ w) n (number_of xs / 2 ^ s)

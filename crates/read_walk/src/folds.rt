@@ -5,8 +5,8 @@ ghost use Rattle.read_walk.specs.Pairs.{rows_in};
 use read_state::{levels_at, levels_to};
 use std::simd::prelude::*;
 
-// The bits that any of 64 levels has, all at once.
-fn block_bits(levels: &[u32]) -> u32
+/// The bits that any of 64 levels has, all at once.
+pub fn block_bits(levels: &[u32]) -> u32
     requires { length levels.now ≡ 64 }
     ensures { (k : ℕ) → k < length levels.now → slice_index levels.now k ≤ result }
 {

@@ -1,12 +1,14 @@
 //! Level pairs in blocks of 64.
 ghost use Rattle.std.specs.Prelude.{◌≡◌, ◌⊎◌, ℕ, ◌+◌, ◌-◌, ◌<◌, ◌≤◌, ◌^◌, ◌||◌, ◌&&◌, [], true, false, length, take, drop, slice_index, Ok, Some, IsTrue, count_by};
-ghost use Rattle.read_walk.specs.LevelRuns.{IsReading};
+ghost use Rattle.read_walk.specs.LevelRuns.{runs_left, IsReading, IsFilled};
 ghost use Rattle.read_walk.specs.Levels.{levels_left, IsLevels, IsFlatNext};
 ghost use Rattle.read_walk.specs.Pairs.{TakesBlock, TakesCopies, TakesRun, is_within, rows_in, is_row};
 
+use crate::bits::put_word;
 use crate::block::{PairBlock, are_levels_within, fill_flat};
 use crate::folds::{all_bits, are_within, count_zeros};
 use crate::runs::{LevelRuns, copied, drop_copies, fill, stop_runs};
+use crate::words::take_word;
 use columns_base::{Error, Result, S};
 
 /// The levels that were unpacked, from one place of a block to another, those that were not, and whether a fault stands behind the block.
@@ -73,6 +75,25 @@ fn count_within(reps: &[u32], defs: &[u32], end: usize, max_rep: usize, max_def:
     first_above(reps, defs, end, max_rep, max_def)
 }
 
+// Fills the memory of a block as `fill` does, levels of one bit by a word of them.
+fn fill_block<'a>(levels: &mut LevelRuns<'a>, out: &mut [u32]) -> (usize, bool)
+    requires is { IsReading levels.old }
+    requires size { length out.old ≡ 64 }
+    ensures is { IsReading levels.new }
+    ensures within { result.0 ≤ length out.old }
+    ensures filled { IsFilled (runs_left levels.old) out.new result.0 result.1 (runs_left levels.new) }
+{
+    if levels.runs.num_bits == 1 {
+        let mut runs = copied(levels);
+        if let Some(word) = take_word(&mut runs) {
+            put_word(out, word);
+            *levels = runs;
+            return (64, false);
+        }
+    }
+    fill(levels, out)
+}
+
 // Unpacks the next block.
 fn refill<'a>(levels: &mut Levels<'a>)
     requires is { IsLevels levels.old }
@@ -82,8 +103,8 @@ fn refill<'a>(levels: &mut Levels<'a>)
     ensures same { levels_left levels.new ≡ levels_left levels.old }
     ensures ended { levels.new.at ≡ levels.new.end → levels.new.failed ≡ false → levels_left levels.new ≡ [] }
 {
-    let (reps, no_rep) = fill(&mut levels.reps, &mut levels.rep_block);
-    let (defs, no_def) = fill(&mut levels.defs, &mut levels.def_block);
+    let (reps, no_rep) = fill_block(&mut levels.reps, &mut levels.rep_block);
+    let (defs, no_def) = fill_block(&mut levels.defs, &mut levels.def_block);
     let end = reps.min(defs);
     levels.at = 0;
     levels.end = count_within(

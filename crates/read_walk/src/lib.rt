@@ -12,6 +12,7 @@ mod extend;
 mod folds;
 mod laws;
 mod levels;
+mod narrow;
 mod order;
 mod page;
 mod runs;

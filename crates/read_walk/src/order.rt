@@ -8,6 +8,7 @@ ghost use Rattle.read_walk.specs.Order.{zipped, Follows, MayCome, WhyNot, OneMay
 
 use crate::block::{PairBlock, are_levels_within, is_flat};
 use crate::folds::{all_bits, are_from, are_within};
+use crate::narrow::{are_bytes, are_bytes_within, bytes_at, bytes_from, narrowed};
 use columns_base::{Error, Result, S};
 use read_state::{NestedState, levels_at, levels_from};
 
@@ -151,14 +152,14 @@ fn reaches(before: Option<usize>, level: usize) -> bool
 }
 
 // A bit for each of 64 pairs of this definition level or a greater one behind one that is, too.
-fn inner_word(before: Option<usize>, defs: &[u32], floor: usize) -> u64
+fn inner_word(before: Option<usize>, defs: &[u8], floor: usize) -> u64
     requires { length defs.now ≡ 64 }
     ensures { (k : ℕ) → k < 64 → (bit_at result k == 1) ≡ true → (floor ≤ slice_index defs.now k) × IsInside floor (level_before before defs.now k) }
 {
-    if floor >= 0x1_0000_0000 {
+    if floor > 255 {
         return 0;
     }
-    let inner = levels_from(defs, floor as u32);
+    let inner = bytes_from(defs, floor as u8);
     let behind = inner % 0x8000_0000_0000_0000 * 2 + u64::from(reaches(before, floor));
     inner & behind
 }
@@ -167,8 +168,8 @@ fn inner_word(before: Option<usize>, defs: &[u32], floor: usize) -> u64
 fn plain_word(
     nested: &NestedState,
     before: Option<usize>,
-    reps: &[u32],
-    defs: &[u32],
+    reps: &[u8],
+    defs: &[u8],
     lists: usize,
     floor: usize,
 ) -> u64
@@ -179,32 +180,32 @@ fn plain_word(
     requires within { (k : ℕ) → k < 64 → slice_index reps.now k ≤ lists }
     ensures { (k : ℕ) → k < 64 → (bit_at result k == 1) ≡ true → MayComeAt (kept_way nested.now) before reps.now defs.now k }
 {
-    levels_at(reps, 0) | inner_word(before, defs, floor)
+    bytes_at(reps, 0) | inner_word(before, defs, floor)
 }
 
 // A bit for each of 64 pairs that repeats in the list of this number and lies inside it, behind one that does.
 fn list_word(
     nested: &NestedState,
     before: Option<usize>,
-    reps: &[u32],
-    defs: &[u32],
+    reps: &[u8],
+    defs: &[u8],
     list: usize,
 ) -> u64
     requires reps { length reps.now ≡ 64 }
     requires defs { length defs.now ≡ 64 }
-    requires few { list < 2 ^ 32 }
+    requires few { list ≤ 255 }
     ensures { (k : ℕ) → k < 64 → (bit_at result k == 1) ≡ true → MayComeAt (kept_way nested.now) before reps.now defs.now k }
 {
     let floor = nested.inside(list);
-    levels_at(reps, list as u32) & inner_word(before, defs, floor)
+    bytes_at(reps, list as u8) & inner_word(before, defs, floor)
 }
 
 // Whether each of 64 pairs may come: the plain ones first, and then those of one list after another, the outermost last.
 fn all_may_come(
     nested: &NestedState,
     before: Option<usize>,
-    reps: &[u32],
-    defs: &[u32],
+    reps: &[u8],
+    defs: &[u8],
     lists: usize,
     floor: usize,
 ) -> bool
@@ -213,7 +214,7 @@ fn all_may_come(
     requires lists { lists ≡ max_repetition (kept_way nested.now) }
     requires floor { floor ≡ inside (kept_way nested.now) lists }
     requires within { (k : ℕ) → k < 64 → slice_index reps.now k ≤ lists }
-    requires few { lists < 2 ^ 32 }
+    requires few { lists ≤ 255 }
     ensures { IsTrue result → (k : ℕ) → k < 64 → MayComeAt (kept_way nested.now) before reps.now defs.now k }
 {
     let mut known = plain_word(nested, before, reps, defs, lists, floor);
@@ -225,7 +226,35 @@ fn all_may_come(
     known == u64::MAX
 }
 
-// Whether 64 pairs may come, told by words of bits.
+// Whether 64 pairs in a byte each may come, told by words of bits.
+fn bytes_follow(
+    nested: &NestedState,
+    before: Option<usize>,
+    reps: &[u8],
+    defs: &[u8],
+    lists: usize,
+    top: usize,
+    floor: usize,
+) -> bool
+    requires reps { length reps.now ≡ 64 }
+    requires defs { length defs.now ≡ 64 }
+    requires lists { lists ≡ max_repetition (kept_way nested.now) }
+    requires top { top ≡ max_definition (kept_way nested.now) }
+    requires floor { floor ≡ inside (kept_way nested.now) lists }
+    requires few { lists ≤ 255 }
+    requires low { top ≤ 255 }
+    ensures { IsTrue result → Follows (kept_way nested.now) before (zipped reps.now defs.now) }
+{
+    if !are_bytes_within(reps, lists as u8) {
+        return false;
+    }
+    if !are_bytes_within(defs, top as u8) {
+        return false;
+    }
+    all_may_come(nested, before, reps, defs, lists, floor)
+}
+
+// The same of levels that may be above 255.
 fn may_follow(
     nested: &NestedState,
     before: Option<usize>,
@@ -240,7 +269,68 @@ fn may_follow(
     requires lists { lists ≡ max_repetition (kept_way nested.now) }
     requires top { top ≡ max_definition (kept_way nested.now) }
     requires floor { floor ≡ inside (kept_way nested.now) lists }
-    requires few { lists < 2 ^ 32 }
+    requires few { lists ≤ 255 }
+    requires low { top ≤ 255 }
+    ensures { IsTrue result → Follows (kept_way nested.now) before (zipped reps.now defs.now) }
+{
+    if !are_bytes(reps) {
+        return false;
+    }
+    if !are_bytes(defs) {
+        return false;
+    }
+    let reps = narrowed(reps);
+    let defs = narrowed(defs);
+    bytes_follow(nested, before, &reps, &defs, lists, top, floor)
+}
+
+// The same as `inner_word` of levels that may be above 255.
+fn inner_bits(before: Option<usize>, defs: &[u32], floor: usize) -> u64
+    requires { length defs.now ≡ 64 }
+    ensures { (k : ℕ) → k < 64 → (bit_at result k == 1) ≡ true → (floor ≤ slice_index defs.now k) × IsInside floor (level_before before defs.now k) }
+{
+    if floor >= 0x1_0000_0000 {
+        return 0;
+    }
+    let inner = levels_from(defs, floor as u32);
+    let behind = inner % 0x8000_0000_0000_0000 * 2 + u64::from(reaches(before, floor));
+    inner & behind
+}
+
+// The same as `plain_word` of levels that may be above 255.
+fn plain_bits(
+    nested: &NestedState,
+    before: Option<usize>,
+    reps: &[u32],
+    defs: &[u32],
+    lists: usize,
+    floor: usize,
+) -> u64
+    requires reps { length reps.now ≡ 64 }
+    requires defs { length defs.now ≡ 64 }
+    requires lists { lists ≡ max_repetition (kept_way nested.now) }
+    requires floor { floor ≡ inside (kept_way nested.now) lists }
+    requires within { (k : ℕ) → k < 64 → slice_index reps.now k ≤ lists }
+    ensures { (k : ℕ) → k < 64 → (bit_at result k == 1) ≡ true → MayComeAt (kept_way nested.now) before reps.now defs.now k }
+{
+    levels_at(reps, 0) | inner_bits(before, defs, floor)
+}
+
+// Whether 64 pairs may come, where only the plain ones are told: all that may come behind one list.
+fn may_plainly_follow(
+    nested: &NestedState,
+    before: Option<usize>,
+    reps: &[u32],
+    defs: &[u32],
+    lists: usize,
+    top: usize,
+    floor: usize,
+) -> bool
+    requires reps { length reps.now ≡ 64 }
+    requires defs { length defs.now ≡ 64 }
+    requires lists { lists ≡ max_repetition (kept_way nested.now) }
+    requires top { top ≡ max_definition (kept_way nested.now) }
+    requires floor { floor ≡ inside (kept_way nested.now) lists }
     ensures { IsTrue result → Follows (kept_way nested.now) before (zipped reps.now defs.now) }
 {
     if !are_within(reps, lists) {
@@ -249,7 +339,7 @@ fn may_follow(
     if !are_within(defs, top) {
         return false;
     }
-    all_may_come(nested, before, reps, defs, lists, floor)
+    plain_bits(nested, before, reps, defs, lists, floor) == u64::MAX
 }
 
 // Whether the pairs plainly may come: each begins a row, or lies inside the innermost list behind one that does.
@@ -294,7 +384,11 @@ pub fn check_pairs(
     ensures err { IfErr result (OneMayNot (kept_way nested.now) before (zipped reps.now defs.now)) }
 {
     let (lists, top, floor) = (levels.lists, levels.top, levels.floor);
-    if reps.len() == 64 && 0 < lists && lists < 0x1_0000_0000 {
+    if reps.len() == 64 && lists == 1 {
+        if may_plainly_follow(nested, before, reps, defs, lists, top, floor) {
+            return Ok(());
+        }
+    } else if reps.len() == 64 && 0 < lists && lists <= 255 && top <= 255 {
         if may_follow(nested, before, reps, defs, lists, top, floor) {
             return Ok(());
         }

@@ -1,7 +1,8 @@
 //! The levels of one section, a block at a time (Parquet format, Encodings, "Run Length Encoding / Bit-Packing Hybrid").
-ghost use Rattle.std.specs.Prelude.{◌≡◌, ◌<◌, ◌≤◌, ◌+◌, ◌*◌, ◌/◌, ◌^◌, ◌∷◌, ◌++◌, [], length, take, replicate, min, Ok, Err, OnOk, OnSome, IfErr, IsTrue, MatchOption, ℕ, List};
+ghost use Rattle.std.specs.Prelude.{◌≡◌, ◌<◌, ◌≤◌, ◌+◌, ◌*◌, ◌/◌, ◌^◌, ◌∷◌, ◌++◌, [], length, take, replicate, min, Ok, Err, Some, OnOk, OnSome, IfErr, IsTrue, MatchOption, ℕ, List};
 ghost use Rattle.pq_numbers.specs.Bits.{digits_of};
 ghost use Rattle.pq_numbers.specs.Texts.{number_of};
+ghost use Rattle.pq_numbers.specs.Varint.{varint_at};
 ghost use Rattle.pq_runs.specs.Hybrid.{fault, given, hybrid};
 ghost use Rattle.pq_runs.specs.Taking.{IsRun, IsRepeatedRun, IsPackedRun, NoRun};
 ghost use Rattle.read_walk.specs.LevelRuns.{runs_left, IsReading, IsFilled};
@@ -145,6 +146,52 @@ fn find<'a>(levels: &mut LevelRuns<'a>) -> Result<()>
     Ok(())
 }
 
+// Begins the run whose header is this byte, where its numbers have at most eight bits and its bytes are all there.
+fn begin_headed<'a>(levels: &mut LevelRuns<'a>, head: u8, tail: &'a [u8])
+    requires is { IsReading levels.old }
+    requires none { levels.old.copies + levels.old.standing ≡ 0 }
+    requires some { 0 < levels.old.left }
+    requires head { varint_at levels.old.runs.values.now ≡ Some (head, tail.now) }
+    ensures is { IsReading levels.new }
+    ensures same { runs_left levels.new ≡ runs_left levels.old }
+    ensures left { levels.new.left ≡ levels.old.left }
+{
+    let width = levels.runs.num_bits as usize;
+    if width == 0 || width > 8 {
+        return;
+    }
+    let count = (head / 2) as usize;
+    let size = if head % 2 == 0 { 1 } else { width * count };
+    if size > tail.len() {
+        return;
+    }
+    let (front, rest) = tail.split_at(size);
+    if head % 2 == 0 {
+        begin_copies(levels, front, count, rest);
+    } else {
+        begin_packed(levels, front, rest);
+    }
+}
+
+// Begins the run whose header is one byte, where no number stands. Others are left as they are.
+fn begin_short<'a>(levels: &mut LevelRuns<'a>)
+    requires is { IsReading levels.old }
+    requires none { levels.old.copies + levels.old.standing ≡ 0 }
+    requires some { 0 < levels.old.left }
+    ensures is { IsReading levels.new }
+    ensures same { runs_left levels.new ≡ runs_left levels.old }
+    ensures left { levels.new.left ≡ levels.old.left }
+{
+    match levels.runs.values {
+        [] => {}
+        [head, tail @ ..] => {
+            if *head < 128 {
+                begin_headed(levels, *head, tail);
+            }
+        }
+    }
+}
+
 /// The same, and at once where a number stands there already.
 #[inline(always)]
 pub fn begin<'a>(levels: &mut LevelRuns<'a>) -> Result<()>
@@ -153,6 +200,13 @@ pub fn begin<'a>(levels: &mut LevelRuns<'a>) -> Result<()>
     ensures found { OnOk result (IsReading levels.new × (runs_left levels.new ≡ runs_left levels.old) × (0 < levels.new.copies + levels.new.standing)) }
     ensures failed { IfErr result (λ e. IsReading levels.new × (runs_left levels.old ≡ Err e ∷ []) × (runs_left levels.new ≡ [])) }
 {
+    if levels.copies > 0 {
+        return Ok(());
+    }
+    if levels.standing > 0 {
+        return Ok(());
+    }
+    begin_short(levels);
     if levels.copies > 0 {
         return Ok(());
     }
