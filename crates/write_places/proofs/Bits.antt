@@ -30,6 +30,14 @@ both a (suc (suc b)) h k = absurd (omega (arith, k))
 pub and_bits : (v w i : ℕ) (b c : Bool) → (bit_at v i == 1) ≡ b → (bit_at w i == 1) ≡ c → (bit_at (bit_and v w) i == 1) ≡ cond b c false
 and_bits v w i b c e f = ap (λ (k : ℕ). k == 1) (bit_at_and v w i) ∙ (both (bit_at v i) (bit_at w i) (bit_at-lt v i) (bit_at-lt w i) ∙ rw (e, f) refl)
 
+cond_cond : (a b c : Bool) → cond (cond a b false) c false ≡ cond a (cond b c false) false
+cond_cond true b c = refl
+cond_cond false b c = refl
+
+-- a bit of three words at once
+pub three_bits : (u v w i : ℕ) (a b c : Bool) → (bit_at u i == 1) ≡ a → (bit_at v i == 1) ≡ b → (bit_at w i == 1) ≡ c → (bit_at (bit_and (bit_and u v) w) i == 1) ≡ cond a (cond b c false) false
+three_bits u v w i a b c e f g = and_bits (bit_and u v) w i (cond a b false) c (and_bits u v i a b e f) g ∙ cond_cond a b c
+
 pub and_low : (v w n : ℕ) → v < n → bit_and v w < n
 and_low v w n h = omega (arith, h, and_le_l v w)
 

@@ -2,7 +2,7 @@
 use Rattle.std.specs.Prelude.{◌≡◌, ℕ, ◌<◌, Bool, true, false, cond, List, [], ◌∷◌, length, slice_index_or}
 use Rattle.shredding.specs.Parts.{Part, leaf_part, list_part, struct_part, is_present, slot_count, item_start, item_count}
 use Rattle.write_places.specs.declared.there.Masks.{Masks}
-use Rattle.write_places.specs.declared.there.Masks.TheVariants.{Nowhere, Sole, Both, InFront}
+use Rattle.write_places.specs.declared.there.Masks.TheVariants.{Nowhere, Sole, Both, Three, InFront}
 use Rattle.write_places.specs.Places.{gather, slot_places}
 
 -- the slot at a place is there
@@ -24,4 +24,5 @@ abbrev pub TellThere : List Part → Masks → Type 0
 TellThere parts Nowhere = (i : ℕ) → is_there parts i ≡ true
 TellThere parts (Sole mask) = (length mask.now ≡ slot_count parts) × ((i : ℕ) → i < slot_count parts → slice_index_or mask.now i false ≡ is_there parts i)
 TellThere parts (Both mask beneath) = (length mask.now ≡ slot_count parts) × (length beneath.now ≡ slot_count parts) × ((i : ℕ) → i < slot_count parts → cond (slice_index_or mask.now i false) (slice_index_or beneath.now i false) false ≡ is_there parts i)
+TellThere parts (Three mask inner beneath) = (length mask.now ≡ slot_count parts) × (length inner.now ≡ slot_count parts) × (length beneath.now ≡ slot_count parts) × ((i : ℕ) → i < slot_count parts → cond (slice_index_or mask.now i false) (cond (slice_index_or inner.now i false) (slice_index_or beneath.now i false) false) false ≡ is_there parts i)
 TellThere parts InFront = Unit {0}

@@ -52,6 +52,35 @@ pub fn foot_of(parts: &[Nested]) -> Foot<'_>
     }
 }
 
+// What so many slots of a leaf beneath structs reach, by one word of them. Where all are there, more may be.
+#[inline(always)]
+fn reach_word<'a>(
+    masks: Masks<'_>,
+    parts: &'a [Nested],
+    place: usize,
+    count: usize,
+    to: usize,
+) -> Reach<'a>
+    requires well { IsPath (parts_of parts.now) }
+    requires tell { TellThere (parts_of parts.now) masks }
+    requires leaf { (i : ℕ) → there_places (parts_of parts.now) i ≡ i ∷ [] }
+    requires room { slot_count (parts_of parts.now) ≤ leaf_count_or 0 (parts_of parts.now) }
+    requires some { 0 < count }
+    requires few { count ≤ 64 }
+    requires up { place + count ≤ to }
+    requires within { to ≤ slot_count (parts_of parts.now) }
+    ensures { IsReach (parts_of parts.now) (length parts.now) place to result }
+{
+    let word = masked_word(masks, parts, place, count);
+    if word == 0 {
+        Reach::Nothing(place + count)
+    } else if word == full_word(count) {
+        Reach::Leaves(full_end(masks, parts, place + count, to))
+    } else {
+        Reach::Picked(word, place + count)
+    }
+}
+
 // What slots of a leaf beneath structs reach. Where all are there, they are one stretch.
 #[inline(always)]
 fn reach_leaves<'a>(masks: Masks<'_>, parts: &'a [Nested], place: usize, to: usize) -> Reach<'a>
@@ -66,14 +95,10 @@ fn reach_leaves<'a>(masks: Masks<'_>, parts: &'a [Nested], place: usize, to: usi
     if let Masks::Nowhere = masks {
         return Reach::Leaves(to);
     }
-    let count = word_size(place, to);
-    let word = masked_word(masks, parts, place, count);
-    if word == 0 {
-        Reach::Nothing(place + count)
-    } else if word == full_word(count) {
-        Reach::Leaves(full_end(masks, parts, place + count, to))
+    if to - place < 64 {
+        reach_word(masks, parts, place, to - place, to)
     } else {
-        Reach::Picked(word, place + count)
+        reach_word(masks, parts, place, 64, to)
     }
 }
 

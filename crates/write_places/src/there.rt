@@ -18,6 +18,8 @@ pub enum Masks<'a> {
     Sole(&'a Bitmap),
     /// Two at once.
     Both(&'a Bitmap, &'a Bitmap),
+    /// Three at once.
+    Three(&'a Bitmap, &'a Bitmap, &'a Bitmap),
     /// Those of the parts in front.
     InFront,
 }
@@ -113,6 +115,25 @@ pub fn is_full(parts: &[Nested]) -> bool
     }
 }
 
+// The masks of a struct within a struct, both of which may have nulls, and of what stands beneath them.
+fn masks_within<'a>(mask: &'a Bitmap, inner: &'a Bitmap, rest: &'a [Nested]) -> Masks<'a>
+    requires well { IsPath (parts_of rest.now) }
+    requires fits { length mask.now ≡ slot_count (parts_of rest.now) }
+    requires inner_fits { length inner.now ≡ slot_count (parts_of rest.now) }
+    ensures { (count few : ℕ) → length mask.entry.now ≡ count → length inner.entry.now ≡ few → TellThere (struct_part true (Some mask.entry.now) count ∷ struct_part true (Some inner.entry.now) few ∷ parts_of rest.entry.now) result }
+{
+    if is_full(rest) {
+        return Masks::Both(mask, inner);
+    }
+    let Some((first, _)) = rest.split_first() else {
+        unreachable!()
+    };
+    match first {
+        Nested::Primitive(Some(leaf), true, _) => Masks::Three(mask, inner, leaf),
+        _ => Masks::InFront,
+    }
+}
+
 // The masks of a struct that may have nulls and of what stands beneath it.
 fn masks_under<'a>(mask: &'a Bitmap, rest: &'a [Nested]) -> Masks<'a>
     requires well { IsPath (parts_of rest.now) }
@@ -122,11 +143,12 @@ fn masks_under<'a>(mask: &'a Bitmap, rest: &'a [Nested]) -> Masks<'a>
     if is_full(rest) {
         return Masks::Sole(mask);
     }
-    let Some((first, _)) = rest.split_first() else {
+    let Some((first, below)) = rest.split_first() else {
         unreachable!()
     };
     match first {
         Nested::Primitive(Some(other), true, _) => Masks::Both(mask, other),
+        Nested::Struct(Some(inner), true, _) => masks_within(mask, inner, below),
         _ => Masks::InFront,
     }
 }
@@ -182,6 +204,10 @@ pub fn masked_word(masks: Masks<'_>, parts: &[Nested], from: usize, count: usize
             let word = mask.word_at(from, count);
             word & beneath.word_at(from, count)
         }
+        Masks::Three(mask, inner, beneath) => {
+            let word = mask.word_at(from, count) & inner.word_at(from, count);
+            word & beneath.word_at(from, count)
+        }
         Masks::InFront => there_word(parts, from, count),
     }
 }
@@ -196,7 +222,8 @@ pub fn word_size(place: usize, to: usize) -> usize
     if to - place < 64 { to - place } else { 64 }
 }
 
-// Where slots end that are all there from a place on, as far as whole words tell.
+// Where slots end that are all there from a place on, as far as words of 64 tell.
+#[inline(always)]
 pub fn full_end(masks: Masks<'_>, parts: &[Nested], from: usize, to: usize) -> usize
     requires well { IsPath (parts_of parts.now) }
     requires tell { TellThere (parts_of parts.now) masks }
@@ -207,12 +234,11 @@ pub fn full_end(masks: Masks<'_>, parts: &[Nested], from: usize, to: usize) -> u
     ensures there { (i : ℕ) → from ≤ i → i < result → is_there (parts_of parts.now) i ≡ true }
 {
     let mut end = from;
-    while end < to {
-        let count = word_size(end, to);
-        if masked_word(masks, parts, end, count) != full_word(count) {
+    while to - end >= 64 {
+        if masked_word(masks, parts, end, 64) != u64::MAX {
             return end;
         }
-        end += count;
+        end += 64;
     }
     end
 }

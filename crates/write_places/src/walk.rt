@@ -6,6 +6,7 @@ ghost use Rattle.levels.specs.Nested.{parts_of};
 ghost use Rattle.levels.specs.Ranges.{leaf_count_or};
 ghost use Rattle.write_places.specs.Places.{gather, slot_places, path_places};
 ghost use Rattle.write_places.specs.Reach.{IsFoot, IsReach, reached};
+ghost use Rattle.write_places.specs.declared.reach.Foot.TheVariants.{Leaf};
 ghost use Rattle.write_places.specs.There.{TellThere};
 
 use crate::reach::{Foot, Reach, foot_of, reach_at};
@@ -80,6 +81,78 @@ fn step<T: Taker>(
     }
 }
 
+// Takes what the slots from one place to another reach, by what stands behind the structs in front and by their masks.
+#[cycle(walk)]
+#[inline(always)]
+fn walk_by<T: Taker>(
+    taker: &mut T,
+    foot: Foot<'_>,
+    masks: Masks<'_>,
+    parts: &[Nested],
+    from: usize,
+    to: usize,
+) -> Result<()>
+    requires well { IsPath (parts_of parts.now) }
+    requires foot { IsFoot (parts_of parts.now) (length parts.now) foot }
+    requires tell { TellThere (parts_of parts.now) masks }
+    requires ordered { from ≤ to }
+    requires within { to ≤ slot_count (parts_of parts.now) }
+    requires leaf { leaf_count_or 0 (parts_of parts.now) ≤ T.limit taker.old }
+    requires sound { T.sound taker.old }
+    requires accepted { T.accepts taker.old (gather (slot_places (parts_of parts.now)) from (to - from)) }
+    ensures sound { T.sound taker.new }
+    ensures limit { T.limit taker.new ≡ T.limit taker.old }
+    ensures accepts { (places : List ℕ) → T.accepts taker.old places → T.accepts taker.new places }
+    ensures taken { OnOk result ((first : T) (places : List ℕ) → T.has first taker.old places → T.has first taker.new (places ++ gather (slot_places (parts_of parts.now)) from (to - from))) }
+    ensures refused { IfErr result (T.refuses taker.old) }
+    ensures same { (e : Error) → T.refuses taker.new e → T.refuses taker.old e }
+{
+    let mut place = from;
+    'places: while place < to {
+        place = step(taker, foot, masks, parts, place, to)?;
+    }
+    Ok(())
+}
+
+// Takes what the slots of a leaf from one place to another reach: a loop for each kind of masks.
+#[cycle(walk)]
+#[inline(always)]
+fn walk_leaves<T: Taker>(
+    taker: &mut T,
+    masks: Masks<'_>,
+    parts: &[Nested],
+    from: usize,
+    to: usize,
+) -> Result<()>
+    requires well { IsPath (parts_of parts.now) }
+    requires foot { IsFoot (parts_of parts.now) (length parts.now) Leaf }
+    requires tell { TellThere (parts_of parts.now) masks }
+    requires ordered { from ≤ to }
+    requires within { to ≤ slot_count (parts_of parts.now) }
+    requires leaf { leaf_count_or 0 (parts_of parts.now) ≤ T.limit taker.old }
+    requires sound { T.sound taker.old }
+    requires accepted { T.accepts taker.old (gather (slot_places (parts_of parts.now)) from (to - from)) }
+    ensures sound { T.sound taker.new }
+    ensures limit { T.limit taker.new ≡ T.limit taker.old }
+    ensures accepts { (places : List ℕ) → T.accepts taker.old places → T.accepts taker.new places }
+    ensures taken { OnOk result ((first : T) (places : List ℕ) → T.has first taker.old places → T.has first taker.new (places ++ gather (slot_places (parts_of parts.now)) from (to - from))) }
+    ensures refused { IfErr result (T.refuses taker.old) }
+    ensures same { (e : Error) → T.refuses taker.new e → T.refuses taker.old e }
+{
+    match masks {
+        Masks::Sole(mask) => walk_by(taker, Foot::Leaf, Masks::Sole(mask), parts, from, to),
+        Masks::Both(mask, beneath) => walk_by(
+            taker,
+            Foot::Leaf,
+            Masks::Both(mask, beneath),
+            parts,
+            from,
+            to,
+        ),
+        _ => walk_by(taker, Foot::Leaf, masks, parts, from, to),
+    }
+}
+
 // Takes what the slots from one place to another reach.
 #[cycle(walk)]
 fn walk<T: Taker>(taker: &mut T, parts: &[Nested], from: usize, to: usize) -> Result<()>
@@ -98,11 +171,10 @@ fn walk<T: Taker>(taker: &mut T, parts: &[Nested], from: usize, to: usize) -> Re
 {
     let foot = foot_of(parts);
     let masks = masks_of(parts);
-    let mut place = from;
-    'places: while place < to {
-        place = step(taker, foot, masks, parts, place, to)?;
+    match foot {
+        Foot::Leaf => walk_leaves(taker, masks, parts, from, to),
+        _ => walk_by(taker, foot, masks, parts, from, to),
     }
-    Ok(())
 }
 
 /// Hands on the places of the leaf array that a path reaches, those at which a present value stands: in order, stretch by stretch, one call

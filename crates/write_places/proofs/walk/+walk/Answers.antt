@@ -4,8 +4,8 @@ use Rattle.write_places.specs.Places.{gather, slot_places}
 use Rattle.write_places.proofs.Gather.{gather-none, gather-split}
 use Rattle.write_places.proofs.walk.+walk.Goals as goal
 
-pub walk-places-init : goal.walk-places-init
-walk-places-init g t c = record {
+pub walk_by-places-init : goal.walk_by-places-init
+walk_by-places-init g t c = record {
   after = omega arith;
   before = c.requires.ordered;
   sound = c.requires.sound;
@@ -18,8 +18,8 @@ walk-places-init g t c = record {
   same = λ e h. h;
 }
 
-pub walk-places-preserved : goal.walk-places-preserved
-walk-places-preserved g t c =
+pub walk_by-places-preserved : goal.walk_by-places-preserved
+walk_by-places-preserved g t c =
     let e = c.in_ok-place.ensures in
     let i = c.places.invariant in
     let piece = slot_places (parts_of c.args.parts.now) in

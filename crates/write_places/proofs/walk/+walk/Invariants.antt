@@ -5,13 +5,19 @@ use Rattle.write_places.specs.Places.{gather, slot_places}
 use Rattle.write_places.proofs.walk.+walk.Given as goal
 
 abbrev pub decreases-step : goal.decreases-step
-decreases-step g l = 2 * length l.parts.now
+decreases-step g l = 4 * length l.parts.now
+
+abbrev pub decreases-walk_by : goal.decreases-walk_by
+decreases-walk_by g l = 4 * length l.parts.now + 1
+
+abbrev pub decreases-walk_leaves : goal.decreases-walk_leaves
+decreases-walk_leaves g l = 4 * length l.parts.now + 2
 
 abbrev pub decreases-walk : goal.decreases-walk
-decreases-walk g l = 2 * length l.parts.now + 1
+decreases-walk g l = 4 * length l.parts.now + 3
 
-abbrev pub invariant-walk-places : goal.invariant-walk-places
-invariant-walk-places g l = record {
+abbrev pub invariant-walk_by-places : goal.invariant-walk_by-places
+invariant-walk_by-places g l = record {
   after : l.from ≤ l.place;
   before : l.place ≤ l.to;
   sound : g.T.Taker.sound l.taker;
@@ -22,5 +28,5 @@ invariant-walk-places g l = record {
   same : (e : Error) → g.T.Taker.refuses l.taker e → g.T.Taker.refuses l.fn.taker e;
 }
 
-abbrev pub decreases-walk-places : goal.decreases-walk-places
-decreases-walk-places g l = l.to - l.place
+abbrev pub decreases-walk_by-places : goal.decreases-walk_by-places
+decreases-walk_by-places g l = l.to - l.place
