@@ -60,6 +60,26 @@ fn fill_offsets<O: Offset>(places: &mut [O], starts: &[i64]) -> bool
     fits
 }
 
+// The same where each start has at most 31 bits, and true only there: whether it has is asked of all starts at once.
+fn fill_low<O: Offset>(places: &mut [O], starts: &[i64]) -> bool
+    requires { length places.old ≡ length starts.now }
+    ensures { IsTrue result → map O.number places.new ≡ map pos (starts_of starts.now) }
+{
+    let mut fits = true;
+    let mut all = 0;
+    for i in 0..starts.len() {
+        let start = starts[i].cast_unsigned() as usize;
+        let (offset, here) = offset_of::<O>(start % 0x8000_0000);
+        places[i] = offset;
+        fits &= here;
+        all |= start;
+    }
+    if all >= 0x8000_0000 {
+        return false;
+    }
+    fits
+}
+
 // Appends starts as offsets, and tells whether all fit.
 fn append_block<O: Offset>(offsets: &mut Vec<O>, starts: &[i64]) -> Result<bool>
     ensures ok { IfOk result (λ fits. IsTrue fits → map O.number offsets.new.items ≡ map O.number offsets.old.items ++ map pos (starts_of starts.now)) }
@@ -70,6 +90,9 @@ fn append_block<O: Offset>(offsets: &mut Vec<O>, starts: &[i64]) -> Result<bool>
         return Err(Error::Memory);
     };
     offsets.resize(size, O::zero())?;
+    if fill_low(&mut offsets[before..], starts) {
+        return Ok(true);
+    }
     Ok(fill_offsets(&mut offsets[before..], starts))
 }
 
