@@ -1,7 +1,7 @@
 -- Pairs that begin a row each.
-use Rattle.std.proofs.Common.{◌≡◌, ℕ, zero, suc, ◌+◌, ◌*◌, ◌/◌, ◌%◌, ◌^◌, ◌<◌, ◌≤◌, ◌++◌, inl, inr, Bool, true, false, nat_le, nat_eq, Ok, List, [], ◌∷◌, length, take, replicate, get_or, refl, arith, ap, sym, ◌∙◌, append-nil}
+use Rattle.std.proofs.Common.{◌≡◌, ℕ, zero, suc, ◌*◌, ◌/◌, ◌%◌, ◌^◌, ◌<◌, ◌≤◌, ◌++◌, inl, inr, ◌-◌, ◌==◌, pow-suc, map, Bool, true, false, nat_le, nat_eq, Ok, List, [], ◌∷◌, length, take, replicate, get_or, refl, arith, ap, sym, ◌∙◌, append-nil}
 use Rattle.std.proofs.lemmas.Bool.Decides.{leb_tells}
-use Rattle.std.proofs.lemmas.List.{length-take, length-replicate}
+use Rattle.std.proofs.lemmas.List.{length-replicate}
 use Rattle.pq_numbers.specs.Bits.{digits_of}
 use Rattle.pq_runs.specs.Hybrid.{Item as LevelItem, given}
 use Rattle.columns_core.specs.Bits.{word_bits}
@@ -18,6 +18,20 @@ zeros-at zero m k = refl
 zeros-at (suc n) zero k = refl
 zeros-at (suc n) (suc m) zero = refl
 zeros-at (suc n) (suc m) (suc k) = zeros-at n m k
+
+zero-bit : (r : ℕ) → r < 2 → ((1 - r) == 1) ≡ nat_eq r 0
+zero-bit zero h = refl
+zero-bit (suc zero) h = refl
+zero-bit (suc (suc r)) h = absurd (omega (arith, h))
+
+-- the bits that are not set
+pub zero-bits : (n w : ℕ) → w < 2 ^ n → word_bits (2 ^ n - 1 - w) n ≡ map (λ d. nat_eq d 0) (digits_of 2 n w)
+zero-bits zero w h = refl
+zero-bits (suc n) w h =
+    let p : 2 ^ suc n ≡ 2 ^ n * 2 = pow-suc 2 n in
+    let low : (2 ^ suc n - 1 - w) % 2 ≡ 1 - w % 2 = omega (arith, p, h) in
+    let high : (2 ^ suc n - 1 - w) / 2 ≡ 2 ^ n - 1 - w / 2 = omega (arith, p, h) in
+    rw (low, high, zero-bit (w % 2) (omega arith)) (ap (λ (bs : List Bool). nat_eq (w % 2) 0 ∷ bs) (zero-bits n (w / 2) (omega (arith, p, h))))
 
 -- a bit's level is at most 1
 pub bit-level : (n m k : ℕ) → get_or (digits_of 2 n m) k 0 ≤ 1

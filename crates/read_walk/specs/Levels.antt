@@ -1,5 +1,6 @@
 -- What is left of the levels of a page.
-use Rattle.std.specs.Prelude.{◌≡◌, ℕ, ◌-◌, ◌≤◌, false, List, ◌++◌, length}
+use Rattle.std.specs.Prelude.{◌≡◌, ℕ, ◌-◌, ◌≤◌, false, IfSome, List, ◌++◌, length}
+use Rattle.pq_numbers.specs.Bits.{digits_of}
 use Rattle.read_walk.specs.LevelRuns.{runs_left, IsReading}
 use Rattle.read_walk.specs.Pairs.{Item, block_items, behind}
 use Rattle.read_walk.specs.declared.levels.Levels.{Levels}
@@ -12,6 +13,7 @@ pub record IsLevels (l : Levels) : Type 0 where
   pub within : l.end ≤ 64
   pub rep_size : length l.rep_block ≡ 64
   pub def_size : length l.def_block ≡ 64
+  pub starts : IfSome l.starts (λ word. l.rep_block ≡ digits_of 2 64 word)
   pub reps : IsReading l.reps
   pub defs : IsReading l.defs
 

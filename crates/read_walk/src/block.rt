@@ -13,6 +13,7 @@ use std::marker::Model;
 /// At most 64 pairs. Contracts see their repetition levels and their definition levels.
 ///
 /// Where `flat` holds, all repetition levels are 0; and where `has_word` does, these are 64 pairs, and the definition levels are the bits of `word`.
+/// Where `starts` is there, these are 64 pairs, and the repetition levels are its bits.
 #[derive(Drop)]
 pub struct PairBlock {
     rep_block: [u32; 64],
@@ -21,6 +22,7 @@ pub struct PairBlock {
     flat: bool,
     has_word: bool,
     word: u64,
+    starts: Option<u64>,
 }
 
 impl Model for PairBlock {
@@ -31,7 +33,7 @@ impl Model for PairBlock {
 
     ghost view = { λ b. (take b.filled b.rep_block, take b.filled b.def_block) };
 
-    ghost invariant = { λ b. IsBlock b.rep_block b.def_block b.filled b.flat b.has_word b.word };
+    ghost invariant = { λ b. IsBlock b.rep_block b.def_block b.filled b.flat b.has_word b.word b.starts };
 }
 
 // The front of the memory becomes these levels.
@@ -56,6 +58,7 @@ impl PairBlock {
             flat: true,
             has_word: false,
             word: 0,
+            starts: None,
         }
     }
 
@@ -71,6 +74,7 @@ impl PairBlock {
         self.filled = reps.len();
         self.flat = false;
         self.has_word = false;
+        self.starts = None;
     }
 
     /// The repetition levels.
@@ -102,6 +106,7 @@ pub fn fill_flat<'a>(block: &mut PairBlock, runs: &mut LevelRuns<'a>) -> bool
     }
     block.filled = 64;
     block.has_word = false;
+    block.starts = None;
     if runs.runs.num_bits != 1 {
         return fill_whole(runs, &mut block.def_block);
     }
@@ -139,9 +144,24 @@ pub fn are_levels_within(block: &PairBlock, max: usize) -> bool
     ensures { IsTrue result → (k : ℕ) → k < length block.now.1 → slice_index block.now.1 k ≤ max }
 {
     match level_word(block) {
-        Some(_) => {
-            if max == 0 { false } else { true }
-        }
+        Some(_) => { if max == 0 { false } else { true } }
         None => are_within(block.defs(), max),
     }
+}
+
+/// Keeps the bits that 64 repetition levels are known to be.
+pub fn mark_starts(block: &mut PairBlock, starts: Option<u64>)
+    requires known { IfSome starts (λ word. length block.old.0 ≡ 64 → block.old.0 ≡ digits_of 2 64 word) }
+    ensures { block.new ≡ block.old }
+{
+    if block.filled == 64 {
+        block.starts = starts;
+    }
+}
+
+/// The repetition levels of 64 pairs as bits, where they are known to be.
+pub fn start_word(block: &PairBlock) -> Option<u64>
+    ensures { IfSome result (λ word. block.now.0 ≡ digits_of 2 64 word) }
+{
+    block.starts
 }

@@ -1,17 +1,19 @@
 //! Level pairs in blocks of 64.
-ghost use Rattle.std.specs.Prelude.{◌≡◌, ◌⊎◌, ℕ, ◌+◌, ◌-◌, ◌<◌, ◌≤◌, ◌^◌, ◌||◌, ◌&&◌, [], true, false, length, take, drop, slice_index, Ok, Some, IsTrue, count_by};
+ghost use Rattle.std.specs.Prelude.{◌≡◌, ◌⊎◌, ℕ, ◌+◌, ◌-◌, ◌<◌, ◌≤◌, ◌^◌, ◌||◌, ◌&&◌, [], true, false, length, take, drop, slice_index, Ok, Some, IfSome, IsTrue, count_by};
+ghost use Rattle.pq_numbers.specs.Bits.{digits_of};
 ghost use Rattle.read_walk.specs.LevelRuns.{runs_left, IsReading, IsFilled};
 ghost use Rattle.read_walk.specs.Levels.{levels_left, IsLevels, IsFlatNext};
 ghost use Rattle.read_walk.specs.Pairs.{TakesBlock, TakesCopies, TakesRun, is_within, rows_in, is_row};
 
 use crate::bits::put_word;
-use crate::block::{PairBlock, are_levels_within, fill_flat};
-use crate::folds::{all_bits, are_within, count_zeros};
+use crate::block::{PairBlock, are_levels_within, fill_flat, mark_starts};
+use crate::folds::{all_bits, are_within, count_starts};
 use crate::runs::{LevelRuns, copied, drop_copies, fill, stop_runs};
 use crate::words::take_word;
 use columns_base::{Error, Result, S};
 
-/// The levels that were unpacked, from one place of a block to another, those that were not, and whether a fault stands behind the block.
+/// The levels that were unpacked, from one place of a block to another, those that were not, and whether a fault stands behind the block. The
+/// repetition levels may be known as a word's bits.
 #[derive(Drop)]
 pub struct Levels<'a> {
     pub reps: LevelRuns<'a>,
@@ -20,6 +22,7 @@ pub struct Levels<'a> {
     pub max_def: usize,
     pub rep_block: [u32; 64],
     pub def_block: [u32; 64],
+    pub starts: Option<u64>,
     pub at: usize,
     pub end: usize,
     pub failed: bool,
@@ -59,15 +62,35 @@ fn first_above(reps: &[u32], defs: &[u32], end: usize, max_rep: usize, max_def: 
     end
 }
 
+// Whether no repetition level in front of a place is above this one. They may be known as a word's bits.
+fn are_starts_within(reps: &[u32], end: usize, max: usize, starts: Option<u64>) -> bool
+    requires within { end ≤ length reps.now }
+    requires known { IfSome starts (λ word. reps.now ≡ digits_of 2 64 word) }
+    ensures { IsTrue result → (k : ℕ) → k < end → slice_index reps.now k ≤ max }
+{
+    match starts {
+        Some(_) => { if max == 0 { false } else { true } }
+        None => are_within(part_of(reps, 0, end), max),
+    }
+}
+
 // How many pairs from the front on have no level above its greatest.
-fn count_within(reps: &[u32], defs: &[u32], end: usize, max_rep: usize, max_def: usize) -> usize
+fn count_within(
+    reps: &[u32],
+    defs: &[u32],
+    end: usize,
+    max_rep: usize,
+    max_def: usize,
+    starts: Option<u64>,
+) -> usize
     requires reps { end ≤ length reps.now }
     requires defs { end ≤ length defs.now }
+    requires known { IfSome starts (λ word. reps.now ≡ digits_of 2 64 word) }
     ensures within { result ≤ end }
     ensures before { (k : ℕ) → k < result → is_within max_rep max_def (slice_index reps.now k, slice_index defs.now k) ≡ true }
     ensures next { result < end → is_within max_rep max_def (slice_index reps.now result, slice_index defs.now result) ≡ false }
 {
-    if are_within(part_of(reps, 0, end), max_rep) {
+    if are_starts_within(reps, end, max_rep, starts) {
         if are_within(part_of(defs, 0, end), max_def) {
             return end;
         }
@@ -75,23 +98,25 @@ fn count_within(reps: &[u32], defs: &[u32], end: usize, max_rep: usize, max_def:
     first_above(reps, defs, end, max_rep, max_def)
 }
 
-// Fills the memory of a block as `fill` does, levels of one bit by a word of them.
-fn fill_block<'a>(levels: &mut LevelRuns<'a>, out: &mut [u32]) -> (usize, bool)
+// Fills the memory of a block as `fill` does, levels of one bit by a word of them, which is answered, too.
+fn fill_block<'a>(levels: &mut LevelRuns<'a>, out: &mut [u32]) -> (usize, bool, Option<u64>)
     requires is { IsReading levels.old }
     requires size { length out.old ≡ 64 }
     ensures is { IsReading levels.new }
     ensures within { result.0 ≤ length out.old }
     ensures filled { IsFilled (runs_left levels.old) out.new result.0 result.1 (runs_left levels.new) }
+    ensures word { IfSome result.2 (λ word. out.new ≡ digits_of 2 64 word) }
 {
     if levels.runs.num_bits == 1 {
         let mut runs = copied(levels);
         if let Some(word) = take_word(&mut runs) {
             put_word(out, word);
             *levels = runs;
-            return (64, false);
+            return (64, false, Some(word));
         }
     }
-    fill(levels, out)
+    let (count, failed) = fill(levels, out);
+    (count, failed, None)
 }
 
 // Unpacks the next block.
@@ -103,9 +128,10 @@ fn refill<'a>(levels: &mut Levels<'a>)
     ensures same { levels_left levels.new ≡ levels_left levels.old }
     ensures ended { levels.new.at ≡ levels.new.end → levels.new.failed ≡ false → levels_left levels.new ≡ [] }
 {
-    let (reps, no_rep) = fill_block(&mut levels.reps, &mut levels.rep_block);
-    let (defs, no_def) = fill_block(&mut levels.defs, &mut levels.def_block);
+    let (reps, no_rep, starts) = fill_block(&mut levels.reps, &mut levels.rep_block);
+    let (defs, no_def, _) = fill_block(&mut levels.defs, &mut levels.def_block);
     let end = reps.min(defs);
+    levels.starts = starts;
     levels.at = 0;
     levels.end = count_within(
         &levels.rep_block,
@@ -113,6 +139,7 @@ fn refill<'a>(levels: &mut Levels<'a>)
         end,
         levels.max_rep,
         levels.max_def,
+        starts,
     );
     levels.failed = either(any(no_rep, no_def, reps != defs), levels.end < end);
 }
@@ -151,8 +178,9 @@ fn first_rows(reps: &[u32], rows: usize) -> (usize, usize)
 }
 
 // How many of the pairs come before one that begins a row too many, and how many of them begin a row. Flat pairs all begin one.
-fn cut_rows(reps: &[u32], rows: usize, flat: bool) -> (usize, usize)
+fn cut_rows(reps: &[u32], rows: usize, flat: bool, starts: Option<u64>) -> (usize, usize)
     requires short { length reps.now ≤ 64 }
+    requires known { IfSome starts (λ word. length reps.now ≡ 64 → reps.now ≡ digits_of 2 64 word) }
     ensures within { result.0 ≤ length reps.now }
     ensures begun { result.1 ≡ rows_in (take result.0 reps.now) }
     ensures few { result.1 ≤ rows }
@@ -164,7 +192,7 @@ fn cut_rows(reps: &[u32], rows: usize, flat: bool) -> (usize, usize)
             return (count, count);
         }
     }
-    let begun = count_zeros(reps);
+    let begun = count_starts(reps, starts);
     if begun <= rows {
         return (reps.len(), begun);
     }
@@ -239,7 +267,7 @@ fn next_unpacked<'a>(
         return None;
     }
     let reps = part_of(&levels.rep_block, levels.at, levels.end);
-    let (count, begun) = cut_rows(reps, rows, levels.max_rep == 0);
+    let (count, begun) = cut_rows(reps, rows, levels.max_rep == 0, levels.starts);
     if count == 0 {
         return None;
     }
@@ -247,6 +275,7 @@ fn next_unpacked<'a>(
     let reps = part_of(&levels.rep_block, levels.at, end);
     let defs = part_of(&levels.def_block, levels.at, end);
     block.copy(reps, defs);
+    mark_starts(block, levels.starts);
     levels.at = end;
     Some(Ok(begun))
 }

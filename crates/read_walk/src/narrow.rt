@@ -10,7 +10,11 @@ pub fn are_bytes(levels: &[u32]) -> bool
     requires { length levels.now ≡ 64 }
     ensures { IsTrue result → (k : ℕ) → k < length levels.now → slice_index levels.now k ≤ 255 }
 {
-    if block_bits(levels) > 255 { false } else { true }
+    if block_bits(levels) > 255 {
+        false
+    } else {
+        true
+    }
 }
 
 /// 64 levels in a byte each.

@@ -1,14 +1,16 @@
 //! Whether pairs may follow one another.
 ghost use Rattle.std.specs.Prelude.{◌≡◌, ◌==◌, true, ℕ, ◌<◌, ◌≤◌, ◌^◌, OnOk, IfErr, IsTrue, IfSome, Some, Option, length, replicate, slice_index};
 ghost use Rattle.std.specs.Int.{bit_at};
+ghost use Rattle.pq_numbers.specs.Bits.{digits_of};
 ghost use Rattle.shredding.specs.Shred.{max_definition, max_repetition};
 ghost use Rattle.shredding.specs.Local.{inside};
 ghost use Rattle.read_laws.specs.State.{kept_way};
 ghost use Rattle.read_walk.specs.Order.{zipped, Follows, MayCome, WhyNot, OneMayNot, PlainlyFollow, IsInside, level_before, MayComeAt, AreLevels};
 
-use crate::block::{PairBlock, are_levels_within, is_flat};
+use crate::block::{PairBlock, are_levels_within, is_flat, start_word};
 use crate::folds::{all_bits, are_from, are_within};
 use crate::narrow::{are_bytes, are_bytes_within, bytes_at, bytes_from, narrowed};
+use crate::words::zeros_of;
 use columns_base::{Error, Result, S};
 use read_state::{NestedState, levels_at, levels_from};
 
@@ -398,6 +400,30 @@ pub fn check_pairs(
     check_each(nested, before, reps, defs, lists, top, floor)
 }
 
+// Whether 64 pairs may come, one list deep, whose repetition levels are these bits.
+fn starts_follow(
+    nested: &NestedState,
+    before: Option<usize>,
+    starts: u64,
+    defs: &[u32],
+    lists: usize,
+    top: usize,
+    floor: usize,
+) -> bool
+    requires defs { length defs.now ≡ 64 }
+    requires some { 0 < lists }
+    requires lists { lists ≡ max_repetition (kept_way nested.now) }
+    requires top { top ≡ max_definition (kept_way nested.now) }
+    requires floor { floor ≡ inside (kept_way nested.now) lists }
+    ensures { IsTrue result → Follows (kept_way nested.now) before (zipped (digits_of 2 64 starts) defs.now) }
+{
+    if !are_within(defs, top) {
+        return false;
+    }
+    let known = zeros_of(starts) | inner_bits(before, defs, floor);
+    known == u64::MAX
+}
+
 /// Whether the pairs of a block may come behind one of the definition level `before`, one after another, by the levels of the way.
 ///
 /// # Errors
@@ -417,6 +443,14 @@ pub fn check_block(
     if is_flat(block) {
         if are_levels_within(block, levels.top) {
             return Ok(());
+        }
+    }
+    if levels.lists > 0 {
+        if let Some(starts) = start_word(block) {
+            let (lists, top, floor) = (levels.lists, levels.top, levels.floor);
+            if starts_follow(nested, before, starts, block.defs(), lists, top, floor) {
+                return Ok(());
+            }
         }
     }
     check_pairs(nested, levels, before, block.reps(), block.defs())

@@ -1,5 +1,6 @@
 //! Levels of one bit, 64 at once as a word.
-ghost use Rattle.std.specs.Prelude.{◌≡◌, ◌+◌, ◌*◌, ◌%◌, ◌^◌, ◌<◌, ◌≤◌, ◌++◌, IfSome, replicate};
+ghost use Rattle.std.specs.Prelude.{◌≡◌, ◌+◌, ◌*◌, ◌%◌, ◌^◌, ◌<◌, ◌≤◌, ◌++◌, IfSome, map, nat_eq, replicate};
+ghost use Rattle.columns_core.specs.Bits.{word_bits};
 ghost use Rattle.pq_numbers.specs.Bits.{digits_of};
 ghost use Rattle.pq_runs.specs.Hybrid.{given};
 ghost use Rattle.read_walk.specs.LevelRuns.{runs_left, IsReading};
@@ -13,7 +14,11 @@ fn lowest(word: u64, count: usize) -> u64
     requires { count ≤ 64 }
     ensures { result ≡ word % 2 ^ count }
 {
-    if count == 64 { word } else { word % (1 << count) }
+    if count == 64 {
+        word
+    } else {
+        word % (1 << count)
+    }
 }
 
 // So many bits that are all like this one.
@@ -112,4 +117,11 @@ pub fn take_word<'a>(levels: &mut LevelRuns<'a>) -> Option<u64>
         done += count;
     }
     Some(word)
+}
+
+/// A bit for each of 64 levels that are a word's bits, set where it is 0.
+pub fn zeros_of(word: u64) -> u64
+    ensures { word_bits result 64 ≡ map (λ d. nat_eq d 0) (digits_of 2 64 word) }
+{
+    u64::MAX - word
 }

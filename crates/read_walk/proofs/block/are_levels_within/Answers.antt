@@ -1,4 +1,4 @@
-use Rattle.std.proofs.Common.{◌≡◌, ◌≤◌, get_or, arith}
+use Rattle.std.proofs.Common.{◌≤◌, get_or, arith}
 use Rattle.read_walk.proofs.Flat.{bit-level}
 use Rattle.read_walk.proofs.block.are_levels_within.Goals as goal
 

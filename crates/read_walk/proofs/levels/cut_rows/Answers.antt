@@ -1,4 +1,4 @@
-use Rattle.std.proofs.Common.{◌≤◌, ◌<◌, get_or, length, arith, refl, ap, sym, ◌∙◌}
+use Rattle.std.proofs.Common.{arith, refl, ap, sym, ◌∙◌}
 use Rattle.read_walk.specs.Pairs.{rows_in}
 use Rattle.read_walk.proofs.Counting.{zeros-front}
 use Rattle.read_walk.proofs.Walking.{rows-zero}

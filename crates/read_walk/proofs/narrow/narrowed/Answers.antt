@@ -1,4 +1,4 @@
-use Rattle.std.proofs.Common.{◌<◌, ◌^◌, take, arith, ◌∙◌}
+use Rattle.std.proofs.Common.{take, arith, ◌∙◌}
 use Rattle.std.proofs.lemmas.List.{take_all}
 use Rattle.std.proofs.lemmas.Simd.{Each1-from_get_or}
 use Rattle.read_state.proofs.Narrowed.{same-each}

@@ -1,4 +1,4 @@
-use Rattle.std.proofs.Common.{◌≡◌, ℕ, arith, ◌∙◌}
+use Rattle.std.proofs.Common.{◌≡◌, arith, ◌∙◌}
 use Rattle.read_walk.proofs.Joining.{zero-digits, low-digits, ones-digits}
 use Rattle.read_walk.proofs.words.repeated.Goals as goal
 

@@ -1,9 +1,5 @@
-use Rattle.std.proofs.Common.{◌≡◌, ◌++◌, ◌/◌, ◌%◌, ◌^◌, ◌<◌, ◌≤◌, ◌-◌, ℕ, arith, ap, sym, ◌∙◌}
+use Rattle.std.proofs.Common.{◌≡◌, ◌/◌, ◌^◌, ◌<◌, ◌≤◌, ◌-◌, ℕ, arith}
 use Rattle.std.proofs.lemmas.Nat.{pow_pos, mod_below}
-use Rattle.pq_numbers.specs.Bits.{digits_of}
-use Rattle.pq_numbers.specs.Texts.{number_of}
-use Rattle.pq_runs.specs.Hybrid.{given}
-use Rattle.read_walk.specs.LevelRuns.{runs_left}
 use Rattle.read_walk.proofs.Joining.{packed-bits}
 use Rattle.read_walk.proofs.words.take_packed.Goals as goal
 

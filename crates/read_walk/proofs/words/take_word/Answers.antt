@@ -1,4 +1,4 @@
-use Rattle.std.proofs.Common.{◌≡◌, ◌≤◌, ◌+◌, arith, sym, ◌∙◌}
+use Rattle.std.proofs.Common.{arith}
 use Rattle.read_walk.specs.LevelRuns.{runs_left}
 use Rattle.read_walk.proofs.Joining.{join-below, joined-bits}
 use Rattle.read_walk.proofs.words.take_word.Goals as goal

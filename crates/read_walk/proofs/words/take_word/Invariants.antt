@@ -1,4 +1,4 @@
-use Rattle.std.proofs.Common.{◌≡◌, ◌≤◌, ◌<◌, ◌+◌, ◌^◌, ◌-◌, ◌++◌, ◌∙◌, arith}
+use Rattle.std.proofs.Common.{◌≡◌, ◌≤◌, ◌<◌, ◌^◌, ◌-◌, ◌++◌}
 use Rattle.pq_numbers.specs.Bits.{digits_of}
 use Rattle.pq_runs.specs.Hybrid.{given}
 use Rattle.read_walk.specs.LevelRuns.{IsReading, runs_left}
