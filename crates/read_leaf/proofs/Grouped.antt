@@ -1,14 +1,14 @@
 -- Plain numbers among nulls, eight slots at a time.
-use Rattle.std.proofs.Common.{◌≡◌, ℕ, zero, suc, ◌+◌, ◌-◌, ◌*◌, ◌/◌, ◌%◌, ◌^◌, ◌<◌, ◌≤◌, ◌==◌, ℤ, Bool, true, false, Option, Some, None, List, [], ◌∷◌, ◌++◌, map, length, take, drop, replicate, refl, arith, ap, ap₂, sym, subst, ◌∙◌, append-nil, length-append}
-use Rattle.std.proofs.lemmas.List.{map-append, length-map, length-replicate, length-take-le, length-drop, drop-drop, take-append-le}
+use Rattle.std.proofs.Common.{◌≡◌, ℕ, zero, suc, ◌+◌, ◌-◌, ◌*◌, ◌/◌, ◌%◌, ◌^◌, ◌<◌, ◌≤◌, ◌==◌, ℤ, Bool, true, false, Option, Some, List, [], ◌∷◌, ◌++◌, map, length, take, drop, replicate, refl, arith, ap, ap₂, sym, subst, ◌∙◌, append-nil, length-append}
+use Rattle.std.proofs.lemmas.List.{map-append, length-map, length-replicate, length-take-le, length-drop, drop-drop, take-append-le, take_all}
 use Rattle.std.proofs.lemmas.Nat.{mul-le}
 use Rattle.std.proofs.Math.ListN.{drop_of_length-le}
 use Rattle.std.proofs.Math.Seq.{take-append-add, take-take}
 use borrow.Rule.Slice.PartMut.{put_mid, post_of}
 use Rattle.columns_core.specs.Bits.{word_bits}
-use Rattle.shredding.specs.Slot.{number, Slot, null, value}
+use Rattle.shredding.specs.Slot.{number, Slot, value}
 use Rattle.read_walk.specs.Values.{ones, spread}
-use Rattle.read_leaf.specs.Numbers.{plain_numbers, number_slots, TookNumbers, TookOne, TookMixed}
+use Rattle.read_leaf.specs.Numbers.{number_slots, TookNumbers, TookOne, TookMixed}
 use Rattle.read_leaf.proofs.BitRuns.{bits_split}
 use Rattle.read_leaf.proofs.NumberSlots.{slots-more, numbers-then}
 use Rattle.read_leaf.proofs.SetBits.{length-bits, most-ones, ones-append, spread-append}
@@ -100,3 +100,10 @@ bits-parts valid done n word m h w e =
 
 pub ones-parts : (valid done n word m : ℕ) → done ≤ n → word ≡ valid / 2 ^ done → m ≡ n - done → ones (word_bits valid n) ≡ ones (word_bits valid done) + ones (word_bits word m)
 ones-parts valid done n word m h w e = ap ones (bits-parts valid done n word m h w e) ∙ ones-append (word_bits valid done) (word_bits word m)
+
+-- what stands behind the first ones, and what was written there
+pub written-front : {X : Type 0} (before count n len : ℕ) (xs ys zs : List X) → before ≤ length xs → length ys ≡ count → before + count ≤ len → take (before + count) (take len (put_mid before n xs ys ++ zs)) ≡ take before xs ++ ys
+written-front before count n len xs ys zs h e l =
+    take-take (before + count) len (put_mid before n xs ys ++ zs) l
+    ∙ (take-append-le (before + count) (put_mid before n xs ys) zs (omega (arith, put-length before n xs ys h, e))
+    ∙ (put-front before n count xs ys h (omega (arith, e)) ∙ ap (λ t. take before xs ++ t) (take_all count ys (omega (arith, e)))))

@@ -274,6 +274,3 @@ module _ (loaded : ℤ → Option ℤ) (spelled : List ℕ → ℤ) (size : ℕ)
         taken = taken-front loaded spelled size (ones bits) bytes rest [] t.numbers some h t.took ∙ ap (λ (vs : List Value). map Some vs ++ stored_numbers loaded spelled size rest) same;
         pushed = ap (λ (cs : List Bool). number_slots zs' cs) b ∙ (ap (λ (ys : List ℤ). number_slots ys (bs ++ bits)) t.pushed ∙ (slots-more zs t.among bs bits even ∙ ap (λ (u : List Slot). number_slots zs bs ++ u) t.stand));
       }
-
-  pub mixed-even : (bits : List Bool) (bytes rest : List ℕ) (zs zs' : List ℤ) (bs bs' : List Bool) → length zs ≡ length bs → TookMixed loaded spelled size bits bytes rest zs zs' → bs' ≡ bs ++ bits → length zs' ≡ length bs'
-  mixed-even bits bytes rest zs zs' bs bs' even t b = rw (t.pushed, b) (omega (arith, length-append zs t.among, length-append bs bits, even, t.even))

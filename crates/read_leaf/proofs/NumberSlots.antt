@@ -2,7 +2,7 @@
 use Rattle.std.proofs.Common.{◌≡◌, ◌⊎◌, inl, inr, ℕ, zero, suc, ◌+◌, ◌-◌, ◌*◌, ◌/◌, ◌<◌, ◌≤◌, ℤ, Bool, true, false, Option, Some, None, option_map, List, [], ◌∷◌, ◌++◌, map, length, take, drop, replicate, refl, arith, ap, ap₂, sym, ◌∙◌, append_assoc, length-append}
 use Rattle.std.proofs.Math.Nat.{add-mul-div_left, mul-div-le}
 use Rattle.std.proofs.lemmas.Nat.{mul-le}
-use Rattle.std.proofs.lemmas.List.{map-append, length-map, length-replicate, length-drop, drop-drop}
+use Rattle.std.proofs.lemmas.List.{map-append, length-map, length-drop, drop-drop}
 use Rattle.columns_base.specs.declared.error.Error.{Error}
 use Rattle.columns_base.specs.declared.error.Error.TheVariants.{OutOfSpec, Memory}
 use Rattle.columns_base.specs.declared.error.S.TheVariants.{S7}
@@ -21,16 +21,13 @@ slots-there : (ys : List ℤ) → number_slots ys (replicate (length ys) true) �
 slots-there [] = refl
 slots-there (y ∷ ys) = ap (λ (t : List Slot). value (number y) ∷ t) (slots-there ys)
 
-slots-null : (n : ℕ) (z : ℤ) → number_slots (replicate n z) (replicate n false) ≡ replicate n null
-slots-null zero z = refl
-slots-null (suc n) z = ap (λ (t : List Slot). null ∷ t) (slots-null n z)
+slots-blank : (ys : List ℤ) → number_slots ys (replicate (length ys) false) ≡ replicate (length ys) null
+slots-blank [] = refl
+slots-blank (y ∷ ys) = ap (λ (t : List Slot). null ∷ t) (slots-blank ys)
 
-pub map-replicate : {A : Type 0} (f : A → ℤ) (n : ℕ) (x : A) → map f (replicate n x) ≡ replicate n (f x)
-map-replicate f zero x = refl
-map-replicate f (suc n) x = ap (λ (t : List ℤ). f x ∷ t) (map-replicate f n x)
-
-pub nulls : (n : ℕ) (z : ℤ) (zs zs' : List ℤ) (bs bs' : List Bool) → length zs ≡ length bs → zs' ≡ zs ++ replicate n z → bs' ≡ bs ++ replicate n false → number_slots zs' bs' ≡ number_slots zs bs ++ replicate n null
-nulls n z zs zs' bs bs' even e f = rw (e, f) (slots-more zs (replicate n z) bs (replicate n false) even ∙ ap (λ (t : List Slot). number_slots zs bs ++ t) (slots-null n z))
+-- whatever stands in the place of nulls
+pub blanks : (n : ℕ) (zs zs' ys : List ℤ) (bs bs' : List Bool) → length zs ≡ length bs → length ys ≡ n → zs' ≡ zs ++ ys → bs' ≡ bs ++ replicate n false → number_slots zs' bs' ≡ number_slots zs bs ++ replicate n null
+blanks n zs zs' ys bs bs' even many e f = rw (e, f) (slots-more zs ys bs (replicate n false) even ∙ ap (λ (t : List Slot). number_slots zs bs ++ t) (rw many at (slots-blank ys)))
 
 values-of : (xs : List (Option ℤ)) → List Stored
 values-of xs = map (option_map number) xs
@@ -96,6 +93,9 @@ module _ (loaded : ℤ → Option ℤ) (spelled : List ℕ → ℤ) (size : ℕ)
   pub numbers-after : (n m : ℕ) (bytes mid rest : List ℕ) (xs ys : List ℤ) → TookNumbers loaded spelled size n bytes mid [] xs → TookNumbers loaded spelled size m mid rest [] ys → TookNumbers loaded spelled size (n + m) bytes rest [] (xs ++ ys)
   numbers-after n m bytes mid rest xs ys a b = numbers-then n m bytes mid rest [] xs (xs ++ ys) a (record { numbers = b.numbers; count = b.count; are = b.are; pushed = ap (λ (t : List ℤ). xs ++ t) b.pushed; behind = b.behind })
 
+  pub took-behind : (n : ℕ) (bytes rest : List ℕ) (old new ys : List ℤ) → new ≡ old ++ ys → TookNumbers loaded spelled size n bytes rest [] ys → TookNumbers loaded spelled size n bytes rest old new
+  took-behind n bytes rest old new ys e t = record { numbers = t.numbers; count = t.count; are = t.are; pushed = e ∙ ap (λ (zs : List ℤ). old ++ zs) t.pushed; behind = t.behind }
+
   outside-more : (n k : ℕ) (bytes : List ℕ) → n ≤ k → OneIsOutside loaded spelled size n bytes → OneIsOutside loaded spelled size k bytes
   outside-more n k bytes h o =
       let others = map loaded (plain_numbers spelled size (k - n) (drop (size * n) bytes)) in
@@ -157,6 +157,3 @@ module _ (loaded : ℤ → Option ℤ) (spelled : List ℕ → ℤ) (size : ℕ)
           },
         )))
   ]
-
-pub still-even : (n : ℕ) (zs zs' ys : List ℤ) (bs bs' : List Bool) (b : Bool) → length zs ≡ length bs → zs' ≡ zs ++ ys → length ys ≡ n → bs' ≡ bs ++ replicate n b → length zs' ≡ length bs'
-still-even n zs zs' ys bs bs' b even z y f = rw (z, f) (omega (arith, length-append zs ys, length-append bs (replicate n b), length-replicate n b, even, y))

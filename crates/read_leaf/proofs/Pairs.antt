@@ -1,5 +1,5 @@
 -- Plain numbers among nulls, by pairs of slots.
-use Rattle.std.proofs.Common.{◌≡◌, ℕ, zero, suc, ◌+◌, ◌-◌, ◌*◌, ◌/◌, ◌%◌, ◌^◌, ◌<◌, ◌≤◌, ◌==◌, ℤ, Bool, true, false, Option, Some, None, List, [], ◌∷◌, ◌++◌, length, take, drop, replicate, refl, arith, ap, sym, subst, ◌∙◌}
+use Rattle.std.proofs.Common.{◌≡◌, ℕ, ◌+◌, ◌-◌, ◌*◌, ◌/◌, ◌%◌, ◌^◌, ◌<◌, ◌≤◌, ◌==◌, ℤ, Bool, true, false, Option, Some, List, [], ◌∷◌, ◌++◌, take, drop, replicate, refl, arith, ap, sym, subst, ◌∙◌}
 use Rattle.std.proofs.Math.Nat.{mul-div-le}
 use Rattle.std.proofs.lemmas.Nat.{mul-le, shr-shr}
 use Rattle.std.proofs.lemmas.List.{drop-drop}
@@ -75,6 +75,9 @@ module _ (loaded : ℤ → Option ℤ) (spelled : List ℕ → ℤ) (size : ℕ)
       let place : size * at + size * ones bits ≡ size * (at + ones bits) = omega arith in
       let behind : rest ≡ drop (size * (at + ones bits)) bytes = r ∙ (ap (drop (size * ones bits)) s ∙ (drop-drop (size * ones bits) (size * at) bytes ∙ ap (λ (k : ℕ). drop k bytes) place)) in
       rw (s, behind) at t
+
+  pub mixed-behind : (bits : List Bool) (bytes rest : List ℕ) (old new ys : List ℤ) → new ≡ old ++ ys → TookMixed loaded spelled size bits bytes rest [] ys → TookMixed loaded spelled size bits bytes rest old new
+  mixed-behind bits bytes rest old new ys e t = record { numbers = t.numbers; took = t.took; among = t.among; even = t.even; stand = t.stand; pushed = e ∙ ap (λ (zs : List ℤ). old ++ zs) t.pushed }
 
   pub all-at : (word at : ℕ) (bytes source : List ℕ) (zs : List ℤ) → word % 256 ≡ 255 → source ≡ drop (size * at) bytes → TookNumbers loaded spelled size 8 source (drop (size * 8) source) [] zs → TookMixed loaded spelled size (word_bits word 8) (drop (size * at) bytes) (drop (size * (at + ones (word_bits word 8))) bytes) [] zs
   all-at word at bytes source zs h s t =

@@ -129,7 +129,8 @@ fn decode_slots<'a, T: FixedValue>(
     ensures ok { OnOk result (DecodesMixed (word_bits valid count) (stored_fixed T.loaded size state.old.values.now) (stored_fixed T.loaded size state.new.values.now) (value_slots (map T.held decoded.old.0) decoded.old.1) (value_slots (map T.held decoded.new.0) decoded.new.1)) }
     ensures err { IfErr result (CannotDecode 0 (ones (word_bits valid count)) (stored_fixed T.loaded size state.old.values.now) (value_slots (map T.held decoded.old.0) decoded.old.1)) }
 {
-    let before = decoded.values.len();
+    let before = decoded.validity.len();
+    decoded.values.truncate(before);
     match take_slots(&mut decoded.values, state.values, size, valid, count) {
         Ok(rest) => state.values = rest,
         Err(error) => {
@@ -185,7 +186,8 @@ impl<'a, T: FixedValue> NestedDecoder<'a> for FixedDecoder<T> {
         ensures ok { OnOk result (value_slots (map T.held decoded.new.0) decoded.new.1 ≡ value_slots (map T.held decoded.old.0) decoded.old.1 ++ replicate count null) }
         ensures err { IfErr result (λ e. e ≡ Error.Memory) }
     {
-        let before = decoded.values.len();
+        let before = decoded.validity.len();
+        decoded.values.truncate(before);
         match push_copies(&mut decoded.values, T::blank(), count) {
             Ok(()) => {}
             Err(error) => {

@@ -23,7 +23,7 @@ pub struct PlainNumbers<'a> {
     pub values: &'a [u8],
 }
 
-/// Numbers, and which of them are there.
+/// Numbers, and which of them are there. Behind the last slot are places that wait to be written.
 #[derive(Debug, Drop)]
 pub struct NumberValues<T: Drop> {
     pub(crate) values: Vec<T>,
@@ -31,13 +31,13 @@ pub struct NumberValues<T: Drop> {
 }
 
 impl<T: Drop> Model for NumberValues<T> {
-    ghost use Rattle.std.specs.Prelude.{List, Bool, length, ◌≡◌};
+    ghost use Rattle.std.specs.Prelude.{List, Bool, length, take, ◌≤◌};
 
     ghost Value = { List T × List Bool };
 
-    ghost view = { λ d. (d.values.items, d.validity.0) };
+    ghost view = { λ d. (take (length d.validity.0) d.values.items, d.validity.0) };
 
-    ghost invariant = { λ d. length d.values.items ≡ length d.validity.0 };
+    ghost invariant = { λ d. length d.validity.0 ≤ length d.values.items };
 }
 
 impl<T: Drop> NumberValues<T> {
@@ -65,7 +65,12 @@ impl<T: Drop> NumberValues<T> {
         ensures validity { result.1.0 ≡ self.1 }
         ensures even { list_length self.0 ≡ list_length self.1 }
     {
-        (self.values, self.validity)
+        let NumberValues {
+            mut values,
+            validity,
+        } = self;
+        values.truncate(validity.len());
+        (values, validity)
     }
 }
 
@@ -197,88 +202,99 @@ fn fill_numbers<'a, T: FromStored<P>, P: StoredNumber>(
     }
 }
 
-// Appends the next `count` numbers one by one, and gives the bytes behind them.
-fn push_each<'a, T: FromStored<P>, P: StoredNumber>(
+// Places for so many numbers behind the first ones, and for more where room is made for them, up to a block.
+#[inline(never)]
+fn add_places<T: Copy>(
     values: &mut Vec<T>,
-    bytes: &'a [u8],
+    before: usize,
     count: usize,
-) -> Result<&'a [u8]>
-    requires enough { P.byte_count * count ≤ list_length bytes.now }
-    ensures ok { IfOk result (λ rest. TookNumbers T.loaded P.spelled P.byte_count count bytes.now rest.now (map T.loaded_number values.old.items) (map T.loaded_number values.new.items)) }
-    ensures kept { list_length values.old.items ≤ list_length values.new.items }
-    ensures err { IfErr result (λ e. (e ≡ Error.Memory) ⊎ ((e ≡ Error.OutOfSpec S.S7) × OneIsOutside T.loaded P.spelled P.byte_count count bytes.now)) }
+    left: usize,
+    blank: T,
+) -> Result<()>
+    requires some { before ≤ list_length values.old.items }
+    requires few { list_length values.old.items < before + count }
+    ensures ok { OnOk result (before + count ≤ list_length values.new.items) }
+    ensures same { take before values.new.items ≡ take before values.old.items }
+    ensures kept { before ≤ list_length values.new.items }
+    ensures err { IfErr result (λ e. e ≡ Error.Memory) }
 {
-    values.reserve(count)?;
-    let mut rest = bytes;
-    for i in 0..count {
-        match load::<T, P>(rest) {
-            Some(number) => values.push(number)?,
-            None => return Err(Error::OutOfSpec(S::S7)),
-        }
-        rest = skip(rest, P::width());
-    }
-    Ok(rest)
+    want_room(values, count, left)?;
+    let Some(end) = before.checked_add(count) else {
+        return Err(Error::Memory);
+    };
+    let more = before.saturating_add(BLOCK).min(values.capacity());
+    values.resize(end.max(more), blank)?;
+    Ok(())
 }
 
-// Appends the next `count` numbers, and gives the bytes behind them: makes all places, and writes them.
-fn append_block<'a, T: FromStored<P>, P: StoredNumber>(
+// The same, where they are not there.
+#[inline(always)]
+fn make_places<T: Copy>(
     values: &mut Vec<T>,
+    before: usize,
+    count: usize,
+    left: usize,
+    blank: T,
+) -> Result<()>
+    requires some { before ≤ list_length values.old.items }
+    ensures ok { OnOk result (before + count ≤ list_length values.new.items) }
+    ensures same { take before values.new.items ≡ take before values.old.items }
+    ensures kept { before ≤ list_length values.new.items }
+    ensures err { IfErr result (λ e. e ≡ Error.Memory) }
+{
+    if count <= values.len() - before {
+        return Ok(());
+    }
+    add_places(values, before, count, left, blank)
+}
+
+// Writes the next `count` numbers behind the first ones, and gives the bytes behind them.
+fn write_block<'a, T: FromStored<P>, P: StoredNumber>(
+    values: &mut Vec<T>,
+    before: usize,
     bytes: &'a [u8],
     count: usize,
 ) -> Result<&'a [u8]>
+    requires some { before ≤ list_length values.old.items }
     requires enough { P.byte_count * count ≤ list_length bytes.now }
-    ensures ok { IfOk result (λ rest. TookNumbers T.loaded P.spelled P.byte_count count bytes.now rest.now (map T.loaded_number values.old.items) (map T.loaded_number values.new.items)) }
-    ensures kept { list_length values.old.items ≤ list_length values.new.items }
+    ensures ok { IfOk result (λ rest. TookNumbers T.loaded P.spelled P.byte_count count bytes.now rest.now (map T.loaded_number (take before values.old.items)) (map T.loaded_number (take (before + count) values.new.items))) }
+    ensures long { OnOk result (before + count ≤ list_length values.new.items) }
+    ensures kept { before ≤ list_length values.new.items }
     ensures err { IfErr result (λ e. (e ≡ Error.Memory) ⊎ ((e ≡ Error.OutOfSpec S.S7) × OneIsOutside T.loaded P.spelled P.byte_count count bytes.now)) }
 {
-    let before = values.len();
-    push_copies(values, T::zero(), count)?;
-    match fill_numbers::<T, P>(&mut values[before..], bytes) {
+    make_places(values, before, count, bytes.len() / P::width(), T::zero())?;
+    match fill_numbers::<T, P>(&mut values[before..before + count], bytes) {
         Some(rest) => Ok(rest),
         None => Err(Error::OutOfSpec(S::S7)),
     }
 }
 
 // The same block by block, each small enough that it is still at hand when it is written.
-fn append_blocks<'a, T: FromStored<P>, P: StoredNumber>(
+fn write_numbers<'a, T: FromStored<P>, P: StoredNumber>(
     values: &mut Vec<T>,
+    before: usize,
     bytes: &'a [u8],
     count: usize,
 ) -> Result<&'a [u8]>
+    requires some { before ≤ list_length values.old.items }
     requires enough { P.byte_count * count ≤ list_length bytes.now }
-    ensures ok { IfOk result (λ rest. TookNumbers T.loaded P.spelled P.byte_count count bytes.now rest.now (map T.loaded_number values.old.items) (map T.loaded_number values.new.items)) }
-    ensures kept { list_length values.old.items ≤ list_length values.new.items }
-    ensures err { IfErr result (λ e. (e ≡ Error.Memory) ⊎ ((e ≡ Error.OutOfSpec S.S7) × OneIsOutside T.loaded P.spelled P.byte_count count bytes.now)) }
-{
-    let mut rest = bytes;
-    let mut left = count;
-    while left > 0 {
-        let some = left.min(BLOCK);
-        match append_block::<T, P>(values, rest, some) {
-            Ok(behind) => rest = behind,
-            Err(error) => return Err(error),
-        }
-        left -= some;
-    }
-    Ok(rest)
-}
-
-// Appends the next `count` numbers, and gives the bytes behind them. From eight on it costs less to make their places first.
-fn append_numbers<'a, T: FromStored<P>, P: StoredNumber>(
-    values: &mut Vec<T>,
-    bytes: &'a [u8],
-    count: usize,
-) -> Result<&'a [u8]>
-    requires enough { P.byte_count * count ≤ list_length bytes.now }
-    ensures ok { IfOk result (λ rest. TookNumbers T.loaded P.spelled P.byte_count count bytes.now rest.now (map T.loaded_number values.old.items) (map T.loaded_number values.new.items)) }
-    ensures kept { list_length values.old.items ≤ list_length values.new.items }
+    ensures ok { IfOk result (λ rest. TookNumbers T.loaded P.spelled P.byte_count count bytes.now rest.now (map T.loaded_number (take before values.old.items)) (map T.loaded_number (take (before + count) values.new.items))) }
+    ensures long { OnOk result (before + count ≤ list_length values.new.items) }
+    ensures kept { before ≤ list_length values.new.items }
     ensures err { IfErr result (λ e. (e ≡ Error.Memory) ⊎ ((e ≡ Error.OutOfSpec S.S7) × OneIsOutside T.loaded P.spelled P.byte_count count bytes.now)) }
 {
     want_room(values, count, bytes.len() / P::width())?;
-    if count < 8 {
-        return push_each::<T, P>(values, bytes, count);
+    let mut rest = bytes;
+    let mut done = 0;
+    while done < count {
+        let some = (count - done).min(BLOCK);
+        match write_block::<T, P>(values, before + done, rest, some) {
+            Ok(behind) => rest = behind,
+            Err(error) => return Err(error),
+        }
+        done += some;
     }
-    append_blocks::<T, P>(values, bytes, count)
+    Ok(rest)
 }
 
 // Writes the next numbers to the places of which the bits are set, the lowest first, and gives the bytes behind them; none where one of them is
@@ -423,22 +439,23 @@ fn fill_mixed<'a, T: FromStored<P>, P: StoredNumber>(
     }
 }
 
-// Appends a slot for each of the low bits: the next number where it is set. Gives the bytes behind the numbers.
-fn append_mixed<'a, T: FromStored<P>, P: StoredNumber>(
+// Writes a slot for each of the low bits behind the first ones: the next number where it is set. Gives the bytes behind the numbers.
+fn write_mixed<'a, T: FromStored<P>, P: StoredNumber>(
     values: &mut Vec<T>,
+    before: usize,
     bytes: &'a [u8],
     valid: u64,
     count: usize,
 ) -> Result<&'a [u8]>
+    requires some { before ≤ list_length values.old.items }
     requires enough { P.byte_count * ones (word_bits valid count) ≤ list_length bytes.now }
-    ensures ok { IfOk result (λ rest. TookMixed T.loaded P.spelled P.byte_count (word_bits valid count) bytes.now rest.now (map T.loaded_number values.old.items) (map T.loaded_number values.new.items)) }
-    ensures kept { list_length values.old.items ≤ list_length values.new.items }
+    ensures ok { IfOk result (λ rest. TookMixed T.loaded P.spelled P.byte_count (word_bits valid count) bytes.now rest.now (map T.loaded_number (take before values.old.items)) (map T.loaded_number (take (before + count) values.new.items))) }
+    ensures long { OnOk result (before + count ≤ list_length values.new.items) }
+    ensures kept { before ≤ list_length values.new.items }
     ensures err { IfErr result (λ e. (e ≡ Error.Memory) ⊎ ((e ≡ Error.OutOfSpec S.S7) × OneIsOutside T.loaded P.spelled P.byte_count (ones (word_bits valid count)) bytes.now)) }
 {
-    want_room(values, count, bytes.len() / P::width())?;
-    let before = values.len();
-    push_copies(values, T::zero(), count)?;
-    match fill_mixed::<T, P>(&mut values[before..], bytes, valid) {
+    make_places(values, before, count, bytes.len() / P::width(), T::zero())?;
+    match fill_mixed::<T, P>(&mut values[before..before + count], bytes, valid) {
         Some(rest) => Ok(rest),
         None => Err(Error::OutOfSpec(S::S7)),
     }
@@ -481,13 +498,10 @@ fn decode_mixed<'a, T: FromStored<P>, P: StoredNumber>(
     ensures ok { OnOk result (DecodesMixed (word_bits valid count) (stored_numbers T.loaded P.spelled P.byte_count state.old.values.now) (stored_numbers T.loaded P.spelled P.byte_count state.new.values.now) (number_slots (map T.loaded_number decoded.old.0) decoded.old.1) (number_slots (map T.loaded_number decoded.new.0) decoded.new.1)) }
     ensures err { IfErr result (CannotDecode 1 (ones (word_bits valid count)) (stored_numbers T.loaded P.spelled P.byte_count state.old.values.now) (number_slots (map T.loaded_number decoded.old.0) decoded.old.1)) }
 {
-    let before = decoded.values.len();
-    match append_mixed::<T, P>(&mut decoded.values, state.values, valid, count) {
+    let before = decoded.validity.len();
+    match write_mixed::<T, P>(&mut decoded.values, before, state.values, valid, count) {
         Ok(rest) => state.values = rest,
-        Err(error) => {
-            decoded.values.truncate(before);
-            return Err(error);
-        }
+        Err(error) => return Err(error),
     }
     match decoded.validity.extend_from_word(valid, count) {
         Ok(()) => Ok(()),
@@ -524,13 +538,10 @@ impl<'a, T: FromStored<P>, P: StoredNumber> NestedDecoder<'a> for PrimitiveDecod
         if state.values.len() / P::width() < count {
             return Err(Error::OutOfSpec(S::S6));
         }
-        let before = decoded.values.len();
-        match append_numbers::<T, P>(&mut decoded.values, state.values, count) {
+        let before = decoded.validity.len();
+        match write_numbers::<T, P>(&mut decoded.values, before, state.values, count) {
             Ok(rest) => state.values = rest,
-            Err(error) => {
-                decoded.values.truncate(before);
-                return Err(error);
-            }
+            Err(error) => return Err(error),
         }
         match push_validities(&mut decoded.validity, true, count) {
             Ok(()) => Ok(()),
@@ -545,13 +556,10 @@ impl<'a, T: FromStored<P>, P: StoredNumber> NestedDecoder<'a> for PrimitiveDecod
         ensures ok { OnOk result (number_slots (map T.loaded_number decoded.new.0) decoded.new.1 ≡ number_slots (map T.loaded_number decoded.old.0) decoded.old.1 ++ replicate count null) }
         ensures err { IfErr result (λ e. e ≡ Error.Memory) }
     {
-        let before = decoded.values.len();
-        match push_copies(&mut decoded.values, T::zero(), count) {
+        let before = decoded.validity.len();
+        match make_places(&mut decoded.values, before, count, 0, T::zero()) {
             Ok(()) => {}
-            Err(error) => {
-                decoded.values.truncate(before);
-                return Err(error);
-            }
+            Err(error) => return Err(error),
         }
         match push_validities(&mut decoded.validity, false, count) {
             Ok(()) => Ok(()),

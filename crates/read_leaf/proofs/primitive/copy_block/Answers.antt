@@ -1,4 +1,4 @@
-use Rattle.std.proofs.Common.{◌≡◌, ◌∷◌, ◌++◌, ◌+◌, ◌*◌, ◌<◌, ℕ, [], length, map, take, drop, arith, ap, sym, ◌∙◌}
+use Rattle.std.proofs.Common.{◌≡◌, ◌∷◌, ◌+◌, ◌*◌, ◌<◌, ℕ, [], length, map, take, drop, arith, ap, sym, ◌∙◌}
 use Rattle.std.proofs.lemmas.List.{map-append, take_more_set, take_all, drop-drop, length-set, length-replicate}
 use Rattle.read_leaf.proofs.Reading.{nothing-read, one-read, all-read}
 use Rattle.read_leaf.proofs.primitive.copy_block.Goals as goal

@@ -1,4 +1,4 @@
-use Rattle.std.proofs.Common.{◌≡◌, ◌+◌, ◌-◌, ◌*◌, ◌++◌, ℕ, length, map, take, drop, refl, arith, ap, sym, ◌∙◌}
+use Rattle.std.proofs.Common.{◌≡◌, ◌+◌, ◌-◌, ◌*◌, ◌++◌, ℕ, length, map, take, drop, refl, arith, ap, ◌∙◌}
 use Rattle.std.proofs.lemmas.List.{map-append, take_all, length-take, length-drop, drop-drop}
 use Rattle.read_leaf.proofs.Grouped.{put-front, put-length}
 use Rattle.read_leaf.proofs.NumberSlots.{numbers-after}

@@ -1,4 +1,4 @@
-use Rattle.std.proofs.Common.{◌≡◌, ◌-◌, ◌*◌, ◌<◌, ℕ, map, drop, arith, ap, ap₂, sym, refl, ◌∙◌}
+use Rattle.std.proofs.Common.{◌-◌, ◌*◌, ℕ, map, drop, arith, ap, refl, ◌∙◌}
 use Rattle.columns_core.specs.Bits.{word_bits}
 use Rattle.read_walk.specs.Values.{ones}
 use Rattle.read_leaf.proofs.Pairs.{all-at, mixed-at, one-before}

@@ -1,4 +1,4 @@
-use Rattle.std.proofs.Common.{◌≡◌, ◌+◌, ◌-◌, ◌*◌, ◌≤◌, ◌++◌, ℕ, length, map, take, drop, arith, ap, ◌∙◌}
+use Rattle.std.proofs.Common.{◌≡◌, ◌-◌, ℕ, length, map, take, drop, arith, ap, ◌∙◌}
 use Rattle.std.proofs.lemmas.List.{map-append, length-take, length-drop}
 use Rattle.columns_core.specs.Bits.{word_bits}
 use Rattle.read_walk.specs.Values.{ones}

@@ -1,6 +1,6 @@
-use Rattle.std.proofs.Common.{◌≡◌, ◌+◌, ◌-◌, ◌*◌, ◌++◌, ℕ, [], length, map, take, drop, arith, ap, sym, subst, ◌∙◌}
+use Rattle.std.proofs.Common.{◌≡◌, ◌+◌, ◌-◌, ◌*◌, ◌++◌, ℕ, [], length, map, take, drop, arith, ap, subst, ◌∙◌}
 use Rattle.std.proofs.lemmas.List.{map-append, length-take, length-drop}
-use Rattle.read_leaf.specs.Numbers.{TookNumbers, OneIsOutside}
+use Rattle.read_leaf.specs.Numbers.{TookNumbers}
 use Rattle.read_leaf.proofs.Grouped.{put-whole}
 use Rattle.read_leaf.proofs.NumberSlots.{numbers-after, outside-then}
 use Rattle.read_leaf.proofs.primitive.fill_numbers.Goals as goal

@@ -1,9 +1,9 @@
-use Rattle.std.proofs.Common.{◌≡◌, ◌∷◌, ◌++◌, ◌+◌, ◌*◌, ◌/◌, ◌^◌, ◌<◌, ◌≤◌, ℕ, [], length, map, take, drop, set, arith, ap, ap₂, sym, subst, ◌∙◌}
+use Rattle.std.proofs.Common.{◌≡◌, ◌∷◌, ◌++◌, ◌+◌, ◌*◌, ◌/◌, ◌^◌, ◌<◌, ℕ, [], length, map, take, drop, set, arith, ap, ap₂, sym, subst, ◌∙◌}
 use Rattle.std.proofs.lemmas.List.{map-append, take_more_set, take_all, length-drop, length-set}
 use Rattle.columns_core.specs.Bits.{word_bits}
 use Rattle.read_walk.specs.Values.{ones}
 use Rattle.read_leaf.specs.Numbers.{TookMixed}
-use Rattle.read_leaf.proofs.MixedNumbers.{IsMixing, mixing-none, mixing-done}
+use Rattle.read_leaf.proofs.MixedNumbers.{mixing-none, mixing-done}
 use Rattle.read_leaf.proofs.Pairs.{pair-more, pair-within}
 use Rattle.read_leaf.proofs.primitive.spread_pairs.Goals as goal
 
