@@ -1,8 +1,8 @@
 -- Levels of slots side by side.
 use Rattle.std.proofs.Common.{◌≡◌, ◌≢◌, ◌⊎◌, ℕ, zero, suc, ◌+◌, ◌-◌, ◌<◌, ◌≤◌, Bool, true, false, cond, Option, List, [], ◌∷◌, ◌++◌, drop, length, map, take, inl, inr, refl, arith, ap, sym, ◌∙◌, append_assoc, append-nil}
 use Rattle.std.proofs.lemmas.Bool.{cases_lt}
-use Rattle.std.proofs.lemmas.List.{length-append, length-take-le, map-append, take_at, drop_at, drop-drop}
-use Rattle.std.specs.Prelude.{slice_index}
+use Rattle.std.proofs.lemmas.List.{length-append, length-drop, length-take-le, map-append, take_at, drop_at}
+use Rattle.std.specs.Prelude.{slice_index, slice_set}
 use Rattle.shredding.specs.Parts.{Part, leaf_part, list_part, struct_part, is_present, item_count, item_start, path_way, FitTogether}
 use Rattle.shredding.specs.Shred.{max_repetition}
 use Rattle.levels.specs.Levels.{bit, run, run_or, slot_pairs}
@@ -230,25 +230,29 @@ told-flat level parts above place count pieces fits flat few starts told = recor
 
 -- ---- a level and those behind it
 
-pub first-levels : (level : Level) (rep from to : ℕ) (xs : List ℕ) → level ≡ Repetition → from < to → rep ∷ take (to - (from + 1)) (drop (from + 1) xs) ≡ with_first level rep (take (to - from) (drop from xs))
-unfolding with_first
-first-levels level rep from to xs l some =
-    let n : to - from ≡ suc (to - (from + 1)) = omega (arith, some) in
-    rw (l, n) (ap (λ (ys : List ℕ). rep ∷ ys) (sym (drop-take (to - (from + 1)) (drop from xs) ∙ ap (take (to - (from + 1))) (drop-drop 1 from xs))))
-  where
-    drop-take : (n : ℕ) (ys : List ℕ) → drop 1 (take (suc n) ys) ≡ take n (drop 1 ys)
-    drop-take zero [] = refl
-    drop-take (suc n) [] = refl
-    drop-take n (y ∷ ys) = refl
-
 pub as-definition : (level : Level) (rep : ℕ) (xs : List ℕ) → level ≡ Definition → with_first level rep xs ≡ xs
 unfolding with_first
 as-definition level rep xs l = rw l refl
 
-pub told-first : (level : Level) (rep from to : ℕ) (old mid new xs : List ℕ) → level ≡ Repetition → from < to → mid ≡ old ++ rep ∷ [] → new ≡ mid ++ take (to - (from + 1)) (drop (from + 1) xs) → new ≡ old ++ with_first level rep (take (to - from) (drop from xs))
-told-first level rep from to old mid new xs l some e f =
-    let others = take (to - (from + 1)) (drop (from + 1) xs) in
-    f ∙ (ap (λ (ys : List ℕ). ys ++ others) e ∙ (append_assoc old (rep ∷ []) others ∙ ap (λ (ys : List ℕ). old ++ ys) (first-levels level rep from to xs l some)))
+as-repetition : (level : Level) (rep : ℕ) (xs : List ℕ) → level ≡ Repetition → with_first level rep xs ≡ rep ∷ drop 1 xs
+unfolding with_first
+as-repetition level rep xs l = rw l refl
+
+set-front : (front piece : List ℕ) (level : ℕ) → 0 < length piece → slice_set (front ++ piece) (length front) level ≡ front ++ level ∷ drop 1 piece
+set-front [] [] level some = absurd (omega (arith, some))
+set-front [] (x ∷ xs) level some = refl
+set-front (y ∷ front) piece level some = ap (λ (ys : List ℕ). y ∷ ys) (set-front front piece level some)
+
+pub set-repetition : (level : Level) (depth at : ℕ) (told new front piece : List ℕ) → level ≡ Repetition → new ≡ slice_set told at depth → told ≡ front ++ piece → length front ≡ at → 0 < length piece → new ≡ front ++ with_first level depth piece
+set-repetition level depth at told new front piece l e is size some =
+    e ∙ (ap (λ (xs : List ℕ). slice_set xs at depth) is ∙ (ap (λ (n : ℕ). slice_set (front ++ piece) n depth) (sym size) ∙ (set-front front piece depth some ∙ ap (λ (xs : List ℕ). front ++ xs) (sym (as-repetition level depth piece l)))))
+
+pub set-definition : (level : Level) (depth : ℕ) (told front piece : List ℕ) → level ≡ Definition → told ≡ front ++ piece → told ≡ front ++ with_first level depth piece
+set-definition level depth told front piece l is = is ∙ ap (λ (xs : List ℕ). front ++ xs) (sym (as-definition level depth piece l))
+
+-- some levels are not none
+pub cut-size : (xs : List ℕ) (from to : ℕ) → to ≤ length xs → length (take (to - from) (drop from xs)) ≡ to - from
+cut-size xs from to within = length-take-le (to - from) (drop from xs) (omega (arith, within, length-drop from xs))
 
 -- ---- a slot by those beneath it
 
@@ -275,6 +279,34 @@ items-some offsets i from to rise within f t apart = omega (arith, items-rise of
 pub list-cut : (level : Level) (is_optional : Bool) (rest : List Part) (above : Above) (first last from to : ℕ) (pieces : Pieces) → from < to → first ≤ from → to ≤ last → AreTold (λ n. walked level rest (above_items above is_optional) first n) (last - first) pieces → IsCut level rest (above_items above is_optional) first (from - first) (to - first) pieces
 list-cut level is_optional rest above first last from to pieces some after before h =
     cut level rest (above_items above is_optional) first (last - first) (from - first) (to - first) pieces refl (omega (arith, some, after)) (omega (arith, before)) h
+
+pub record IsAt (level : Level) (parts : List Part) (above : Above) (place count start stop : ℕ) (pieces : Pieces) : Type 0 where
+  pub ordered : slice_index pieces.starts start < slice_index pieces.starts stop
+  pub within : slice_index pieces.starts stop ≤ length pieces.told
+  pub levels : take (slice_index pieces.starts stop - slice_index pieces.starts start) (drop (slice_index pieces.starts start) pieces.told) ≡ walked level parts above place count
+
+pub list-at : (level : Level) (is_optional : Bool) (rest : List Part) (above : Above) (first last from to start stop : ℕ) (pieces : Pieces) → start ≡ from - first → stop ≡ to - first → from < to → first ≤ from → to ≤ last → AreTold (λ n. walked level rest (above_items above is_optional) first n) (last - first) pieces → IsAt level rest (above_items above is_optional) (first + (from - first)) (to - first - (from - first)) start stop pieces
+list-at level is_optional rest above first last from to start stop pieces es et some after before h =
+    let is = list-cut level is_optional rest above first last from to pieces some after before h in
+    record {
+      ordered = rw (es, et) is.ordered;
+      within = rw et is.within;
+      levels = rw (es, et) is.levels;
+    }
+
+-- where items lie, counted from those of the first list
+pub items-apart : (offsets : List ℕ) (from i start stop : ℕ) → IsRising offsets → from ≤ i → i + 1 < length offsets → start ≡ item_start offsets i - item_start offsets from → stop ≡ item_start offsets (i + 1) - item_start offsets from → start ≢ stop → item_start offsets i < item_start offsets (i + 1)
+items-apart offsets from i start stop rise le within s t apart =
+    omega (arith, s, t, apart, items-rise offsets from i rise le (omega (arith, within)), items-rise offsets i (i + 1) rise (omega arith) within)
+
+pub items-same : (offsets : List ℕ) (from i start stop : ℕ) → IsRising offsets → from ≤ i → i + 1 < length offsets → start ≡ item_start offsets i - item_start offsets from → stop ≡ item_start offsets (i + 1) - item_start offsets from → start ≡ stop → item_start offsets i ≡ item_start offsets (i + 1)
+items-same offsets from i start stop rise le within s t same =
+    omega (arith, s, t, same, items-rise offsets from i rise le (omega (arith, within)), items-rise offsets i (i + 1) rise (omega arith) within)
+
+-- the same by the offsets themselves
+pub offsets-apart : (offsets : List ℕ) (from i start : ℕ) → IsRising offsets → from ≤ i → i < length offsets → start ≡ slice_index offsets i - slice_index offsets from → start ≡ item_start offsets i - item_start offsets from
+offsets-apart offsets from i start rise le within s =
+    omega (arith, s, rising offsets 0 from rise (omega arith) (omega (arith, le, within)), rising offsets from i rise le within)
 
 pub list-by-cut : (level : Level) (is_optional : Bool) (mask : Option (List Bool)) (offsets : List ℕ) (rest : List Part) (above : Above) (i first from to : ℕ) (levels : List ℕ) → above.rep ≡ above.depth → is_present is_optional mask i ≡ true → from ≡ item_start offsets i → to ≡ item_start offsets (i + 1) → from < to → first ≤ from → levels ≡ walked level rest (above_items above is_optional) (first + (from - first)) (to - first - (from - first)) → with_first level above.depth levels ≡ walked level (list_part is_optional mask offsets ∷ rest) above i 1
 list-by-cut level is_optional mask offsets rest above i first from to levels same there f t some after e =

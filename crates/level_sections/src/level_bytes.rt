@@ -1,5 +1,5 @@
 //! Levels that wait for their writer, as bytes.
-ghost use Rattle.std.specs.Prelude.{◌≡◌, ℕ, ◌+◌, ◌-◌, ◌<◌, ◌≤◌, ◌++◌, ◌∷◌, [], List, IsTrue, drop, length, replicate, take};
+ghost use Rattle.std.specs.Prelude.{◌≡◌, ℕ, ◌+◌, ◌-◌, ◌<◌, ◌≤◌, ◌++◌, ◌∷◌, [], List, IsTrue, drop, length, replicate, slice_set, take};
 
 use std::marker::Model;
 
@@ -122,6 +122,16 @@ impl LevelBytes {
         put_some(&mut self.bytes, self.filled, &others.bytes, from, count);
         self.filled += count;
         true
+    }
+
+    // Another level in the place of one.
+    #[inline(always)]
+    pub fn set(&mut self, at: usize, level: u32)
+        requires within { at < length self.old }
+        requires low { level < 256 }
+        ensures { self.new ≡ slice_set self.old at level }
+    {
+        self.bytes[at] = level as u8;
     }
 
     // A level and copies of another one, so many together. They have no room where the answer is no.

@@ -1,6 +1,8 @@
 //! Levels of lists above lists, part by part from the leaf up.
-ghost use Rattle.std.specs.Prelude.{◌≡◌, ℕ, ◌+◌, ◌-◌, ◌<◌, ◌≤◌, ◌++◌, ◌∷◌, [], IsTrue, drop, length, slice_index, take};
-ghost use Rattle.shredding.specs.Parts.{IsPath, MaskFits, item_span, item_start, list_part, path_way, slot_count, struct_part};
+ghost use Rattle.std.specs.Prelude.{◌≡◌, ℕ, ◌+◌, ◌-◌, ◌<◌, ◌≤◌, ◌++◌, ◌∷◌, ◌==◌, [], IsTrue, List, drop, length, slice_index, take};
+ghost use Rattle.std.specs.Int.{bit_at};
+ghost use Rattle.columns_core.specs.Rising.{IsRising};
+ghost use Rattle.shredding.specs.Parts.{IsPath, MaskFits, is_present, item_span, item_start, list_part, path_way, slot_count, struct_part};
 ghost use Rattle.shredding.specs.Shred.{max_repetition};
 ghost use Rattle.levels.specs.Nested.{parts_of};
 ghost use Rattle.levels.specs.Stretch.{level_of};
@@ -14,7 +16,7 @@ use crate::list_stretch::is_there;
 use crate::tell::tell_flat;
 use crate::walk::Above;
 use columns_core::{Bitmap, Offset};
-use levels::{Level, ListNested, Nested, has_lists};
+use levels::{Level, ListNested, Nested, has_lists, present_word};
 
 // Levels of up to 2,048 slots side by side, and where those of each slot begin.
 #[derive(Drop)]
@@ -97,6 +99,19 @@ fn tell_flats(
     tell_flat(&mut upper.told, level, parts, above, from, to)
 }
 
+// The first of the last levels, where it is a repetition level.
+#[inline(always)]
+fn set_first(told: &mut LevelBytes, level: Level, at: usize, depth: u32)
+    requires within { at < length told.old }
+    requires low { depth < 256 }
+    ensures { (front piece : List ℕ) → told.old ≡ front ++ piece → length front ≡ at → 0 < length piece → told.new ≡ front ++ with_first level depth piece }
+{
+    match level {
+        Level::Definition => (),
+        Level::Repetition => told.set(at, depth),
+    }
+}
+
 // The levels of some slots beneath one, the first with its repetition level.
 #[inline(always)]
 fn push_beneath(
@@ -116,15 +131,12 @@ fn push_beneath(
 {
     let from = lower.starts[first] as usize;
     let to = lower.starts[last] as usize;
-    match level {
-        Level::Definition => told.push_part(&lower.told, from, to),
-        Level::Repetition => {
-            if !told.push_level(depth) {
-                return false;
-            }
-            told.push_part(&lower.told, from + 1, to)
-        }
+    let at = told.len();
+    if !told.push_part(&lower.told, from, to) {
+        return false;
     }
+    set_first(told, level, at, depth);
+    true
 }
 
 // Where the items of some lists begin and end.
@@ -146,8 +158,8 @@ fn items_between<O: Offset>(list: &ListNested<O>, from: usize, to: usize) -> (us
     )
 }
 
-// The levels of a list, by those of the items of some lists, from the first of these items to the last. What is beneath the list is named for the
-// contract alone.
+// The levels of a list, by those of the items of some lists from one on, of which its own stand from one to another. What is beneath the list is named
+// for the contract alone.
 #[inline(always)]
 fn push_list<O: Offset>(
     told: &mut LevelBytes,
@@ -156,32 +168,36 @@ fn push_list<O: Offset>(
     list: &ListNested<O>,
     rest: &[Nested],
     above: Above,
+    there: bool,
+    from: usize,
     place: usize,
-    first: usize,
+    start: usize,
+    stop: usize,
     last: usize,
 ) -> bool
-    requires fits { MaskFits list.now.validity (length list.now.offsets - 1) }
+    requires after { from ≤ place }
     requires within { place < length list.now.offsets - 1 }
-    requires after { first ≤ item_start list.now.offsets place }
+    requires rises { IsRising list.now.offsets }
+    requires there { there ≡ is_present list.now.is_optional list.now.validity place }
+    requires start { start ≡ item_start list.now.offsets place - item_start list.now.offsets from }
+    requires stop { stop ≡ item_start list.now.offsets (place + 1) - item_start list.now.offsets from }
     requires before { item_start list.now.offsets (place + 1) ≤ last }
     requires same { above.rep ≡ above.depth }
     requires def { above.def < 255 }
     requires depth { above.depth < 256 }
-    requires beneath { AreTold (λ n. walked level (parts_of rest.now) (above_items above list.now.is_optional) first n) (last - first) lower.now }
+    requires beneath { AreTold (λ n. walked level (parts_of rest.now) (above_items above list.now.is_optional) (item_start list.now.offsets from) n) (last - item_start list.now.offsets from) lower.now }
     ensures { IsTrue result → told.new ≡ told.old ++ walked level (list_part list.now.is_optional list.now.validity list.now.offsets ∷ parts_of rest.now) above place 1 }
 {
     let _beneath = rest;
-    let lists = list.offsets.len_proxy();
-    if !is_there(list.is_optional, &list.validity, lists, place) {
+    let _named = (from, place, last);
+    if !there {
         return told.push_level(level_at(level, above.def, above.depth));
     }
-    let from = item_place(&list.offsets, place);
-    let to = item_place(&list.offsets, place + 1);
-    if from == to {
+    if start == stop {
         let def = above.def + step_of(list.is_optional);
         return told.push_level(level_at(level, def, above.depth));
     }
-    push_beneath(told, lower, level, above.depth, from - first, to - first)
+    push_beneath(told, lower, level, above.depth, start, stop)
 }
 
 // The levels of a struct, by those of what is beneath some structs from one on.
@@ -223,6 +239,66 @@ fn push_struct(
     )
 }
 
+// The levels of up to 64 lists, behind those of the lists before them, by those of the items. A word tells which are there.
+#[inline(never)]
+fn raise_word<O: Offset>(
+    upper: &mut Pieces,
+    lower: &Pieces,
+    level: Level,
+    list: &ListNested<O>,
+    rest: &[Nested],
+    above: Above,
+    word: u64,
+    from: usize,
+    place: usize,
+    count: usize,
+    last: usize,
+) -> bool
+    requires after { from ≤ place }
+    requires few { count ≤ 64 }
+    requires room { place + count - from ≤ 2048 }
+    requires within { place + count ≤ length list.now.offsets - 1 }
+    requires bits { (i : ℕ) → i < count → (bit_at word i == 1) ≡ is_present list.now.is_optional list.now.validity (place + i) }
+    requires before { item_start list.now.offsets (place + count) ≤ last }
+    requires same { above.rep ≡ above.depth }
+    requires def { above.def < 255 }
+    requires depth { above.depth < 256 }
+    requires beneath { AreTold (λ n. walked level (parts_of rest.now) (above_items above list.now.is_optional) (item_start list.now.offsets from) n) (last - item_start list.now.offsets from) lower.now }
+    requires told { AreTold (λ n. walked level (list_part list.now.is_optional list.now.validity list.now.offsets ∷ parts_of rest.now) above from n) (place - from) upper.old }
+    ensures { IsTrue result → AreTold (λ n. walked level (list_part list.now.is_optional list.now.validity list.now.offsets ∷ parts_of rest.now) above from n) (place + count - from) upper.new }
+{
+    list.offsets.know();
+    // the number of lists fits its type, so `place + i` does
+    let _lists = list.offsets.len_proxy();
+    let begin = list.offsets.place(from);
+    let mut start = list.offsets.place(place) - begin;
+    let mut i = 0;
+    while i < count {
+        let there = (word >> i) & 1 == 1;
+        let stop = list.offsets.place(place + i + 1) - begin;
+        if !push_list(
+            &mut upper.told,
+            lower,
+            level,
+            list,
+            rest,
+            above,
+            there,
+            from,
+            place + i,
+            start,
+            stop,
+            last,
+        ) {
+            return false;
+        }
+        i += 1;
+        start = stop;
+        mark(upper, place + i - from);
+    }
+    true
+}
+
 // The levels of lists, by those of their items.
 #[inline(never)]
 fn raise_lists<O: Offset>(
@@ -249,26 +325,18 @@ fn raise_lists<O: Offset>(
     if to - from > 2048 {
         return false;
     }
-    let _lists = list.offsets.len_proxy();
-    let first = item_place(&list.offsets, from);
+    let lists = list.offsets.len_proxy();
     let last = item_place(&list.offsets, to);
     let mut place = from;
     while place < to {
-        if !push_list(
-            &mut upper.told,
-            lower,
-            level,
-            list,
-            rest,
-            above,
-            place,
-            first,
-            last,
+        let count = (to - place).min(64);
+        let word = present_word(list.is_optional, &list.validity, lists, place, count);
+        if !raise_word(
+            upper, lower, level, list, rest, above, word, from, place, count, last,
         ) {
             return false;
         }
-        place += 1;
-        mark(upper, place - from);
+        place += count;
     }
     true
 }
