@@ -1,5 +1,5 @@
 //! Levels of lists above lists, part by part from the leaf up.
-ghost use Rattle.std.specs.Prelude.{◌≡◌, ℕ, ◌+◌, ◌-◌, ◌<◌, ◌≤◌, ◌++◌, ◌∷◌, ◌==◌, [], IsTrue, List, drop, length, slice_index, take};
+ghost use Rattle.std.specs.Prelude.{◌≡◌, ℕ, ◌+◌, ◌-◌, ◌<◌, ◌≤◌, ◌++◌, ◌∷◌, ◌==◌, IsTrue, List, drop, length, slice_index, take};
 ghost use Rattle.std.specs.Int.{bit_at};
 ghost use Rattle.columns_core.specs.Rising.{IsRising};
 ghost use Rattle.shredding.specs.Parts.{IsPath, MaskFits, is_present, item_span, item_start, list_part, path_way, slot_count, struct_part};
@@ -12,7 +12,6 @@ ghost use Rattle.level_sections.specs.Walk.{IsLow, walked};
 use crate::block::step_of;
 use crate::items::item_place;
 use crate::level_bytes::LevelBytes;
-use crate::list_stretch::is_there;
 use crate::tell::tell_flat;
 use crate::walk::Above;
 use columns_core::{Bitmap, Offset};
@@ -211,22 +210,24 @@ fn push_struct(
     slots: usize,
     rest: &[Nested],
     above: Above,
+    there: bool,
     place: usize,
     from: usize,
     to: usize,
 ) -> bool
-    requires fits { MaskFits mask.now slots }
     requires after { from ≤ place }
     requires before { place < to }
-    requires within { to ≤ slots }
+    requires there { there ≡ is_present is_optional mask.now place }
     requires same { above.rep ≡ above.depth }
     requires def { above.def < 255 }
     requires depth { above.depth < 256 }
     requires beneath { AreTold (λ n. walked level (parts_of rest.now) (above_fields above is_optional) from n) (to - from) lower.now }
     ensures { IsTrue result → told.new ≡ told.old ++ walked level (struct_part is_optional mask.now slots ∷ parts_of rest.now) above place 1 }
 {
+    let _mask = mask;
     let _beneath = rest;
-    if !is_there(is_optional, mask, slots, place) {
+    let _named = (is_optional, slots, to);
+    if !there {
         return told.push_level(level_at(level, above.def, above.depth));
     }
     push_beneath(
@@ -341,6 +342,60 @@ fn raise_lists<O: Offset>(
     true
 }
 
+// The levels of up to 64 structs, behind those of the structs before them, by those of what is beneath them. A word tells which are there.
+#[inline(never)]
+fn raise_struct_word(
+    upper: &mut Pieces,
+    lower: &Pieces,
+    level: Level,
+    mask: &Option<Bitmap>,
+    is_optional: bool,
+    slots: usize,
+    rest: &[Nested],
+    above: Above,
+    word: u64,
+    from: usize,
+    place: usize,
+    count: usize,
+    to: usize,
+) -> bool
+    requires after { from ≤ place }
+    requires few { count ≤ 64 }
+    requires room { to - from ≤ 2048 }
+    requires within { place + count ≤ to }
+    requires bits { (i : ℕ) → i < count → (bit_at word i == 1) ≡ is_present is_optional mask.now (place + i) }
+    requires same { above.rep ≡ above.depth }
+    requires def { above.def < 255 }
+    requires depth { above.depth < 256 }
+    requires beneath { AreTold (λ n. walked level (parts_of rest.now) (above_fields above is_optional) from n) (to - from) lower.now }
+    requires told { AreTold (λ n. walked level (struct_part is_optional mask.now slots ∷ parts_of rest.now) above from n) (place - from) upper.old }
+    ensures { IsTrue result → AreTold (λ n. walked level (struct_part is_optional mask.now slots ∷ parts_of rest.now) above from n) (place + count - from) upper.new }
+{
+    let mut i = 0;
+    while i < count {
+        let there = (word >> i) & 1 == 1;
+        if !push_struct(
+            &mut upper.told,
+            lower,
+            level,
+            mask,
+            is_optional,
+            slots,
+            rest,
+            above,
+            there,
+            place + i,
+            from,
+            to,
+        ) {
+            return false;
+        }
+        i += 1;
+        mark(upper, place + i - from);
+    }
+    true
+}
+
 // The levels of structs, by those of what is beneath them.
 #[inline(never)]
 fn raise_structs(
@@ -371,8 +426,10 @@ fn raise_structs(
     }
     let mut place = from;
     while place < to {
-        if !push_struct(
-            &mut upper.told,
+        let count = (to - place).min(64);
+        let word = present_word(is_optional, mask, slots, place, count);
+        if !raise_struct_word(
+            upper,
             lower,
             level,
             mask,
@@ -380,14 +437,15 @@ fn raise_structs(
             slots,
             rest,
             above,
-            place,
+            word,
             from,
+            place,
+            count,
             to,
         ) {
             return false;
         }
-        place += 1;
-        mark(upper, place - from);
+        place += count;
     }
     true
 }
