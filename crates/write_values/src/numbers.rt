@@ -1,5 +1,5 @@
 //! Numbers that are stored as numbers of 32 or 64 bits.
-ghost use Rattle.std.specs.Prelude.{◌≡◌, ◌<◌, ◌≤◌, ◌+◌, ◌*◌, ◌^◌, ◌∷◌, [], true, ℕ, length, take, map, OnOk, IfErr};
+ghost use Rattle.std.specs.Prelude.{◌≡◌, ◌<◌, ◌≤◌, ◌+◌, ◌*◌, ◌^◌, ◌∷◌, [], true, ℕ, length, take, map, IsTrue, OnOk, IfErr};
 ghost use Rattle.columns_base.specs.declared.error.Error.TheVariants.{Memory};
 ghost use Rattle.shredding.specs.Slot.{number};
 ghost use Rattle.columns_core.specs.Shapes.{base, leaf_type};
@@ -229,31 +229,69 @@ pub fn block_end(at: usize, len: usize) -> usize
     if len - at < 64 { len } else { at + 64 }
 }
 
-// Appends numbers one behind the other, in blocks that are spelled before they are appended.
-fn push_blocks<T: AlwaysStored<P>, P: StoredNumber>(out: &mut Vec<u8>, values: &[T]) -> Result<()>
+// Where a block of at most so many numbers ends.
+fn part_end(at: usize, len: usize, most: usize) -> usize
+    requires some { 0 < most }
+    requires more { at < len }
+    ensures past { at < result }
+    ensures within { result ≤ len }
+    ensures few { result ≤ at + most }
+{
+    if len - at < most { len } else { at + most }
+}
+
+// Appends numbers one behind the other, at most so many at a time, which are spelled in a block before they are appended.
+#[inline(always)]
+fn push_through<T: AlwaysStored<P>, P: StoredNumber>(
+    out: &mut Vec<u8>,
+    values: &[T],
+    block: &mut [u8],
+    most: usize,
+) -> Result<()>
+    requires some { 0 < most }
+    requires room { most * 8 ≤ length block.old }
     ensures ok { OnOk result (AppendsRow (physical_view P.physical) out.old.items out.new.items (map (λ x. number (T.stored_number x)) values.now)) }
     ensures err { IfErr result (λ e. e ≡ Memory) }
 {
-    let mut block = [0; 512];
     let mut at = 0;
     while at < values.len() {
-        let end = block_end(at, values.len());
-        let size = put_numbers::<T, P>(&mut block, &values[at..end]);
+        let end = part_end(at, values.len(), most);
+        let size = put_numbers::<T, P>(block, &values[at..end]);
         out.extend_from_slice(&block[..size])?;
         at = end;
     }
     Ok(())
 }
 
-// Appends numbers one behind the other. For a few a block costs more than it saves.
+// Appends numbers one behind the other, in short blocks.
+fn push_blocks<T: AlwaysStored<P>, P: StoredNumber>(out: &mut Vec<u8>, values: &[T]) -> Result<()>
+    ensures ok { OnOk result (AppendsRow (physical_view P.physical) out.old.items out.new.items (map (λ x. number (T.stored_number x)) values.now)) }
+    ensures err { IfErr result (λ e. e ≡ Memory) }
+{
+    let mut block = [0; 512];
+    push_through::<T, P>(out, values, &mut block, 64)
+}
+
+// Appends numbers one behind the other, in long blocks.
+fn push_long<T: AlwaysStored<P>, P: StoredNumber>(out: &mut Vec<u8>, values: &[T]) -> Result<()>
+    ensures ok { OnOk result (AppendsRow (physical_view P.physical) out.old.items out.new.items (map (λ x. number (T.stored_number x)) values.now)) }
+    ensures err { IfErr result (λ e. e ≡ Memory) }
+{
+    let mut block = [0; 4096];
+    push_through::<T, P>(out, values, &mut block, 512)
+}
+
+// Appends numbers one behind the other. For a few a block costs more than it saves, and a long one for fewer than thousands.
 fn push_numbers<T: AlwaysStored<P>, P: StoredNumber>(out: &mut Vec<u8>, values: &[T]) -> Result<()>
     ensures ok { OnOk result (AppendsRow (physical_view P.physical) out.old.items out.new.items (map (λ x. number (T.stored_number x)) values.now)) }
     ensures err { IfErr result (λ e. e ≡ Memory) }
 {
     if values.len() < 8 {
         push_each::<T, P>(out, values)
-    } else {
+    } else if values.len() < 8192 {
         push_blocks::<T, P>(out, values)
+    } else {
+        push_long::<T, P>(out, values)
     }
 }
 
@@ -292,7 +330,7 @@ fn put_first<T: AlwaysStored<P>, P: StoredNumber>(
 }
 
 // At most eight numbers side by side take their places, and the bytes before them stay. Answers where they end. Where there are eight, all are put
-// without a count.
+// without a count; the caller may know that there are.
 #[inline(always)]
 fn put_run<T: AlwaysStored<P>, P: StoredNumber>(
     places: &mut [u8],
@@ -300,14 +338,19 @@ fn put_run<T: AlwaysStored<P>, P: StoredNumber>(
     values: &[T],
     from: usize,
     few: usize,
+    has_eight: bool,
 ) -> usize
     requires few { few ≤ 8 }
     requires within { from + few ≤ length values.now }
+    requires eight { IsTrue has_eight → from + 8 ≤ length values.now }
     requires room { at + 8 * P.byte_count ≤ length places.old }
     ensures at { result ≡ at + few * P.byte_count }
     ensures len { length places.new ≡ length places.old }
     ensures are { AppendsRow (physical_view P.physical) (take at places.old) (take result places.new) (map (at_place (map (λ x. number (T.stored_number x)) values.now)) (range from few)) }
 {
+    if has_eight {
+        return put_first::<T, P>(places, at, &values[from..from + 8], few);
+    }
     if values.len() - from < 8 {
         put_first::<T, P>(places, at, &values[from..from + few], few)
     } else {
@@ -316,16 +359,19 @@ fn put_run<T: AlwaysStored<P>, P: StoredNumber>(
 }
 
 // The numbers at picked places stand one behind the other from the front on, in so many bytes. They are put by runs, with room for eight more.
+#[inline(always)]
 fn put_some<T: AlwaysStored<P>, P: StoredNumber>(
     places: &mut [u8],
     values: &[T],
     from: usize,
     bits: u64,
     count: usize,
+    has_more: bool,
 ) -> usize
     requires few { count ≤ 64 }
     requires low { bits < 2 ^ count }
     requires within { from + count ≤ length values.now }
+    requires more { IsTrue has_more → from + count + 8 ≤ length values.now }
     requires room { (count + 8) * P.byte_count ≤ length places.old }
     ensures len { length places.new ≡ length places.old }
     ensures within { result ≤ length places.new }
@@ -337,7 +383,7 @@ fn put_some<T: AlwaysStored<P>, P: StoredNumber>(
     while left != 0 {
         let gap = left.trailing_zeros() as usize;
         let few = few_ones(left >> gap);
-        at = put_run::<T, P>(places, at, values, place + gap, few);
+        at = put_run::<T, P>(places, at, values, place + gap, few, has_more);
         left = (left >> gap) >> few;
         place += gap + few;
     }
@@ -359,7 +405,11 @@ fn push_picked<T: AlwaysStored<P>, P: StoredNumber>(
     ensures err { IfErr result (λ e. e ≡ Memory) }
 {
     let mut block = [0; 576];
-    let size = put_some::<T, P>(&mut block, values, from, bits, count);
+    let size = if values.len() - from < count + 8 {
+        put_some::<T, P>(&mut block, values, from, bits, count, false)
+    } else {
+        put_some::<T, P>(&mut block, values, from, bits, count, true)
+    };
     out.extend_from_slice(&block[..size])?;
     Ok(())
 }

@@ -35,6 +35,13 @@ put_run-at-requires-clause-within g c =
     let n = first_few c.loop-left.left c.loop-left.place (c.args.from + c.args.count - c.loop-left.place) c.few_ones-few.result (omega (arith, c.loop-left-test.true)) (omega (arith, i.after, c.requires.few)) i.low e.set e.some in
     omega (arith, n.within, i.before, c.requires.within)
 
+pub put_run-at-requires-clause-eight : goal.put_run-at-requires-clause-eight
+put_run-at-requires-clause-eight g c = λ yes.
+    let i = c.loop-left.invariant in
+    let e = c.few_ones-few.ensures in
+    let n = first_few c.loop-left.left c.loop-left.place (c.args.from + c.args.count - c.loop-left.place) c.few_ones-few.result (omega (arith, c.loop-left-test.true)) (omega (arith, i.after, c.requires.few)) i.low e.set e.some in
+    omega (arith, n.within, i.before, c.requires.more yes)
+
 pub overflow_add-place-in-loop-left-2 : goal.overflow_add-place-in-loop-left-2
 overflow_add-place-in-loop-left-2 g c =
     let i = c.loop-left.invariant in

@@ -1,8 +1,8 @@
-use Rattle.std.proofs.Common.{◌≤◌, ◌-◌, length, map, take}
+use Rattle.std.proofs.Common.{◌≤◌, ◌-◌, ◌*◌, length, map, take}
 use Rattle.shredding.specs.Slot.{number}
 use Rattle.pq_tree.specs.Views.{physical_view}
 use Rattle.write_values.specs.Rows.{AppendsRow}
-use Rattle.write_values.proofs.numbers.push_blocks.Given as goal
+use Rattle.write_values.proofs.numbers.push_through.Given as goal
 
 abbrev pub decreases-loop-at : goal.decreases-loop-at
 decreases-loop-at g l = length l.values - l.at
@@ -10,4 +10,5 @@ decreases-loop-at g l = length l.values - l.at
 abbrev pub invariant-loop-at : goal.invariant-loop-at
 invariant-loop-at g l =
     (l.at ≤ length l.values)
+    × (l.most * 8 ≤ length l.block)
     × AppendsRow (physical_view g.P.ParquetNativeType.physical) l.fn.out.items l.out.items (map (λ x. number (g.T.StoredAs.stored_number x)) (take l.at l.values))
