@@ -9,7 +9,7 @@ ghost use Rattle.read_walk.specs.Values.{ones};
 ghost use Rattle.read_leaf.specs.Strings.{string_at, TookBytes, IsFault};
 
 use crate::binary::push_first;
-use crate::cut::{front, skip};
+use crate::cut::skip;
 use crate::room::want_room;
 use crate::set_bits::bits_behind;
 use columns_base::{Error, Result, S};
@@ -83,6 +83,15 @@ fn take_short_length(text: &[u8]) -> Option<(usize, &[u8])>
     Some((count, skip(text, 4)))
 }
 
+// Writes bytes to a place on, and keeps what stands before it.
+#[inline(always)]
+fn put_bytes(places: &mut [u8], at: usize, text: &[u8])
+    requires { at + list_length text.now ≤ list_length places.old }
+    ensures { take (at + list_length text.now) places.new ≡ take at places.old ++ text.now }
+{
+    places[at..at + text.len()].copy_from_slice(text);
+}
+
 // Writes the first bytes to a place on: as many as a short string may have, which costs less than to copy so many as it has.
 #[inline(always)]
 fn put_short(places: &mut [u8], at: usize, bytes: &[u8])
@@ -90,8 +99,13 @@ fn put_short(places: &mut [u8], at: usize, bytes: &[u8])
     requires enough { 32 ≤ list_length bytes.now }
     ensures { take (at + 32) places.new ≡ take at places.old ++ take 32 bytes.now }
 {
-    let room = &mut places[at..at + SHORT];
-    room.copy_from_slice(front(bytes, SHORT));
+    match bytes.first_chunk::<32>() {
+        Some(chunk) => {
+            let chunk = *chunk;
+            put_bytes(places, at, &chunk);
+        }
+        None => unreachable!(),
+    }
 }
 
 // Writes the next string, where one is wanted, to a place on, if it is short. Gives its length, 0 where none is wanted, and the bytes behind it.
