@@ -8,6 +8,7 @@ pub mod WideColumns
 pub mod FixedPlaces
 pub mod InRows
 pub mod IntervalPlaces
+pub mod Lowest
 pub mod Made
 pub mod NullPlaces
 pub mod NumberPlaces

@@ -1,5 +1,6 @@
 //! Byte strings, texts among them.
-ghost use Rattle.std.specs.Prelude.{◌≡◌, ◌+◌, ◌-◌, ◌*◌, ◌^◌, ◌<◌, ◌≤◌, ◌++◌, map, length, take, drop, sum_by, slice_index_or, vec_len, [], ◌∷◌, IfSome, OnOk, IfErr};
+ghost use Rattle.std.specs.Prelude.{◌≡◌, ◌+◌, ◌-◌, ◌*◌, ◌%◌, ◌^◌, ◌<◌, ◌≤◌, ◌++◌, map, length, take, drop, sum_by, slice_index_or, vec_len, bit_xor, [], ◌∷◌, IfSome, OnOk, IfErr};
+ghost use Rattle.std.specs.Int.{w64, trailing_zeros};
 ghost use Rattle.columns_base.specs.declared.error.Error.TheVariants.{Memory};
 ghost use Rattle.shredding.specs.Slot.{bytes};
 ghost use Rattle.columns_slots.specs.Slots.{IsPlaces};
@@ -134,6 +135,15 @@ fn put_string(places: &mut [u8], at: usize, all: &[u8], from: usize, to: usize) 
     at + 4 + size
 }
 
+// A word without its lowest set bit.
+#[inline(always)]
+fn without_lowest(word: u64) -> u64
+    requires { 0 < word }
+    ensures { result ≡ bit_xor word (1 * 2 ^ trailing_zeros w64 word % 2 ^ 64) }
+{
+    word & (word - 1)
+}
+
 // The strings at picked places stand one behind the other from the front on, each behind its length, in so many bytes.
 fn put_picked<O: Offset>(
     offsets: &OffsetsBuffer<O>,
@@ -160,7 +170,7 @@ fn put_picked<O: Offset>(
         let i = left.trailing_zeros() as usize;
         let start = offsets.place(from + i);
         at = put_string(places, at, all, start, offsets.place(from + i + 1));
-        left ^= 1 << i;
+        left = without_lowest(left);
     }
     at
 }

@@ -1,11 +1,11 @@
-use Rattle.std.proofs.Common.{◌+◌, ◌-◌, ◌<◌, [], length, map, take, drop, refl, ◌∙◌, arith}
+use Rattle.std.proofs.Common.{◌+◌, ◌-◌, ◌<◌, [], length, map, take, drop, refl, subst, sym, ◌∙◌, arith}
 use Rattle.std.specs.Int.{w64, trailing_zeros}
 use Rattle.columns_slots.specs.Bytes.{pieces_values}
 use Rattle.columns_leaf.proofs.Texts.{step_of_places}
 use Rattle.shredding.specs.Slot.{bytes}
 use Rattle.pq_tree.specs.Physical.{byte_array}
 use Rattle.write_places.specs.Places.{picked}
-use Rattle.write_places.proofs.Picked.{next_picked}
+use Rattle.write_places.proofs.Picked.{IsNext, next_picked}
 use Rattle.write_values.specs.Numbers.{at_place}
 use Rattle.write_values.proofs.Picked.{partly_none, partly_more, partly_all, one_less}
 use Rattle.write_values.proofs.StringPlaces.{picked_less, picked_short, others_fit, piece_between, string_size}
@@ -71,7 +71,7 @@ put_string-at-requires-clause-room g c =
 
 pub loop-left-smaller : goal.loop-left-smaller
 loop-left-smaller g c =
-    let n = next_picked c.loop-left.left c.args.from c.args.count (omega (arith, c.loop-left-test.true)) c.requires.few c.loop-left.invariant.low in
+    let n = subst (λ k. IsNext c.loop-left.left k c.args.from c.args.count (trailing_zeros w64 c.loop-left.left)) (sym c.without_lowest-left.ensures) (next_picked c.loop-left.left c.args.from c.args.count (omega (arith, c.loop-left-test.true)) c.requires.few c.loop-left.invariant.low) in
     omega (arith, one_less _ _ _ _ _ n)
 
 pub loop-left-preserved : goal.loop-left-preserved
@@ -80,7 +80,7 @@ loop-left-preserved g c =
     let os = c.args.offsets.now in
     let bs = c.args.all.now in
     let f = at_place (pieces_values os bs) in
-    let n = next_picked c.loop-left.left c.args.from c.args.count (omega (arith, c.loop-left-test.true)) c.requires.few c.loop-left.invariant.low in
+    let n = subst (λ k. IsNext c.loop-left.left k c.args.from c.args.count (trailing_zeros w64 c.loop-left.left)) (sym c.without_lowest-left.ensures) (next_picked c.loop-left.left c.args.from c.args.count (omega (arith, c.loop-left-test.true)) c.requires.few c.loop-left.invariant.low) in
     let e = c.put_string-at.ensures in
     let within : c.args.from + trailing_zeros w64 c.loop-left.left + 1 < length os = omega (arith, n.within, c.requires.within) in
     let less = picked_less os bs c.loop-left.left _ c.args.from c.args.count _ n in
