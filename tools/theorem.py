@@ -139,6 +139,25 @@ def head_of(path):
     return " ".join(head)
 
 
+def in_reading_order(by_file):
+    """Returns the files by crates, in a crate each behind those that it rests on."""
+    places = {crate: at for at, crate in enumerate(crates())}
+    placed = {}
+
+    def place(path):
+        if path in placed:
+            return
+        placed[path] = by_file[path]
+        for target, _ in file_at(path).imports.values():
+            if target in by_file and parts(target)[0] == parts(path)[0]:
+                place(target)
+        placed[path] = placed.pop(path)
+
+    for path in sorted(by_file, key=lambda path: places[parts(path)[0]]):
+        place(path)
+    return placed
+
+
 def found_in(path_of_source, function):
     """Returns the definitions that the contracts reach, each behind what it names, by files."""
     with open(path_of_source, encoding="utf-8") as file:
@@ -157,8 +176,7 @@ def found_in(path_of_source, function):
     by_file = {}
     for path, name in order:
         by_file.setdefault(path, []).append(name)
-    places = {crate: at for at, crate in enumerate(crates())}
-    return dict(sorted(by_file.items(), key=lambda item: places[parts(item[0])[0]]))
+    return in_reading_order(by_file)
 
 
 def size(path, found):
