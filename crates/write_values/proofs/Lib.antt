@@ -9,6 +9,7 @@ pub mod FixedPlaces
 pub mod InRows
 pub mod IntervalPlaces
 pub mod Lowest
+pub mod Kept
 pub mod Made
 pub mod NullPlaces
 pub mod NumberPlaces

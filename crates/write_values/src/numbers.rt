@@ -6,15 +6,24 @@ ghost use Rattle.columns_core.specs.Shapes.{base, leaf_type};
 ghost use Rattle.pq_tree.specs.Views.{physical_view};
 ghost use Rattle.pq_files.specs.Statistics.{has_order};
 ghost use Rattle.std.specs.Int.{bit_at};
-ghost use Rattle.write_places.specs.Places.{picked, range};
+ghost use Rattle.columns_slots.specs.Tree.{leaf_array};
+ghost use Rattle.columns_slots.specs.Slots.{tree_len};
+ghost use Rattle.shredding.specs.Parts.{IsPath};
+ghost use Rattle.levels.specs.Nested.{parts_of};
+ghost use Rattle.levels.specs.Ranges.{leaf_count_or};
+ghost use Rattle.write_places.specs.Places.{path_places, picked, range};
 ghost use Rattle.write_values.specs.Numbers.{at_place};
-ghost use Rattle.write_values.specs.Rows.{AppendsRow};
+ghost use Rattle.write_values.specs.Rows.{AppendsRow, Measures};
+ghost use Rattle.write_values.specs.Stored.{stored_at};
 
 use crate::feeding::DeltaValues;
+use crate::measure::measure_fixed;
+use crate::measured::Measured;
 use crate::row::LeafValues;
 use columns_core::{ParquetNativeType, Result};
 use columns_leaf::PrimitiveArray;
 use columns_native::{AsPrimitive, PlainNumber, StoredAs};
+use levels::Nested;
 use pq_deltas::delta_bitpacked::Encoder;
 use std::alloc::AllocError;
 use std::marker::PhantomData;
@@ -472,6 +481,18 @@ impl<'a, T: AlwaysStored<P>, P: StoredNumber> LeafValues for Numbers<'a, T, P> {
         self.array.know();
         push_picked::<T, P>(out, self.array.values(), from, bits, places)
     }
+}
+
+// The number of the numbers that a path reaches and that of the bytes of their plain spelling. It takes no memory.
+pub fn measure_numbers<T: AlwaysStored<P>, P: StoredNumber>(
+    leaf: &Numbers<'_, T, P>,
+    nested: &[Nested],
+) -> Measured
+    requires well { IsPath (parts_of nested.now) }
+    requires leaf { leaf_count_or 0 (parts_of nested.now) ≤ tree_len (leaf_array leaf.now.array.now.0 (map (T.value (base leaf.now.array.now.0)) leaf.now.array.now.1.0) leaf.now.array.now.1.1) }
+    ensures { Measures (physical_view P.physical) (tree_len (leaf_array leaf.now.array.now.0 (map (T.value (base leaf.now.array.now.0)) leaf.now.array.now.1.0) leaf.now.array.now.1.1)) (stored_at (leaf_array leaf.now.array.now.0 (map (T.value (base leaf.now.array.now.0)) leaf.now.array.now.1.0) leaf.now.array.now.1.1) (physical_view P.physical)) (path_places (parts_of nested.now)) result }
+{
+    measure_fixed(leaf, P::width(), nested)
 }
 
 impl<'a, T: AlwaysStored<P>, P: StoredNumber> DeltaValues for Numbers<'a, T, P> {

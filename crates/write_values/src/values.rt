@@ -23,7 +23,7 @@ use crate::intervals::{Days, Months};
 use crate::leaf::{Leaf, know_order, leaf_of};
 use crate::measure::measure_row;
 use crate::measured::Measured;
-use crate::numbers::Numbers;
+use crate::numbers::{Numbers, measure_numbers};
 use crate::plain::push_row;
 use crate::strings::{Strings, Texts};
 use crate::truths::{measure_truths, push_truths};
@@ -44,15 +44,15 @@ pub fn measure(leaf: Leaf<'_>, nested: &[Nested]) -> Measured
     know_order(leaf);
     match leaf {
         Leaf::Boolean(array) => measure_truths(array, nested),
-        Leaf::Int8(a) => measure_row(&Numbers::<i8, i32>::new(a), nested),
-        Leaf::Int16(a) => measure_row(&Numbers::<i16, i32>::new(a), nested),
-        Leaf::Int32(a) => measure_row(&Numbers::<i32, i32>::new(a), nested),
-        Leaf::UInt8(a) => measure_row(&Numbers::<u8, i32>::new(a), nested),
-        Leaf::UInt16(a) => measure_row(&Numbers::<u16, i32>::new(a), nested),
-        Leaf::UInt32(a) => measure_row(&Numbers::<u32, i32>::new(a), nested),
-        Leaf::WideUInt32(a) => measure_row(&Numbers::<u32, i64>::new(a), nested),
-        Leaf::Int64(a) => measure_row(&Numbers::<i64, i64>::new(a), nested),
-        Leaf::UInt64(a) => measure_row(&Numbers::<u64, i64>::new(a), nested),
+        Leaf::Int8(a) => measure_numbers(&Numbers::<i8, i32>::new(a), nested),
+        Leaf::Int16(a) => measure_numbers(&Numbers::<i16, i32>::new(a), nested),
+        Leaf::Int32(a) => measure_numbers(&Numbers::<i32, i32>::new(a), nested),
+        Leaf::UInt8(a) => measure_numbers(&Numbers::<u8, i32>::new(a), nested),
+        Leaf::UInt16(a) => measure_numbers(&Numbers::<u16, i32>::new(a), nested),
+        Leaf::UInt32(a) => measure_numbers(&Numbers::<u32, i32>::new(a), nested),
+        Leaf::WideUInt32(a) => measure_numbers(&Numbers::<u32, i64>::new(a), nested),
+        Leaf::Int64(a) => measure_numbers(&Numbers::<i64, i64>::new(a), nested),
+        Leaf::UInt64(a) => measure_numbers(&Numbers::<u64, i64>::new(a), nested),
         Leaf::Utf8(array) => measure_row(&Texts { array }, nested),
         Leaf::LargeUtf8(array) => measure_row(&Texts { array }, nested),
         Leaf::Binary(array) => measure_row(&Strings { array }, nested),
