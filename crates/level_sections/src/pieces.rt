@@ -450,6 +450,32 @@ fn raise_structs(
     true
 }
 
+// What lies above what is in structs.
+#[inline(always)]
+fn beneath_struct(above: Above, is_optional: bool) -> Above
+    requires def { above.def < 255 }
+    ensures { result ≡ above_fields above is_optional }
+{
+    Above {
+        def: above.def + step_of(is_optional),
+        ..above
+    }
+}
+
+// What lies above the items of lists.
+#[inline(always)]
+fn beneath_list(above: Above, is_optional: bool) -> Above
+    requires def { above.def < 255 }
+    requires depth { above.depth < 255 }
+    ensures { result ≡ above_items above is_optional }
+{
+    Above {
+        rep: above.depth + 1,
+        def: above.def + step_of(is_optional) + 1,
+        depth: above.depth + 1,
+    }
+}
+
 // The levels of some slots, from the leaf up.
 pub fn tell_pieces(
     upper: &mut Pieces,
@@ -476,10 +502,7 @@ pub fn tell_pieces(
     match part {
         Nested::Primitive(..) => false,
         Nested::Struct(mask, is_optional, slots) => {
-            let here = Above {
-                def: above.def + step_of(*is_optional),
-                ..above
-            };
+            let here = beneath_struct(above, *is_optional);
             if !tell_pieces(lower, upper, level, rest, here, from, to) {
                 return false;
             }
@@ -498,11 +521,7 @@ pub fn tell_pieces(
         }
         Nested::List(list) => {
             let (first, last) = items_between(list, from, to);
-            let here = Above {
-                rep: above.depth + 1,
-                def: above.def + step_of(list.is_optional) + 1,
-                depth: above.depth + 1,
-            };
+            let here = beneath_list(above, list.is_optional);
             if !tell_pieces(lower, upper, level, rest, here, first, last) {
                 return false;
             }
@@ -510,11 +529,7 @@ pub fn tell_pieces(
         }
         Nested::LargeList(list) => {
             let (first, last) = items_between(list, from, to);
-            let here = Above {
-                rep: above.depth + 1,
-                def: above.def + step_of(list.is_optional) + 1,
-                depth: above.depth + 1,
-            };
+            let here = beneath_list(above, list.is_optional);
             if !tell_pieces(lower, upper, level, rest, here, first, last) {
                 return false;
             }
