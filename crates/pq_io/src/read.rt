@@ -13,6 +13,9 @@ use std::alloc::Global;
 /// The most bytes that a source is asked for at once.
 const PULL_LENGTH: usize = 65_536;
 
+/// How much room the vector begins with: so much that the C library moves it by pages where it grows, and copies nothing.
+const FIRST_ROOM: usize = 262_144;
+
 /// The most bytes that are cleared by one call: the C library clears longer stretches by one instruction that repeats (`rep stosb`).
 const PIECE_LENGTH: usize = 2048;
 
@@ -50,7 +53,8 @@ fn pull_behind<S: Source>(
     source.pull(&mut places[filled..])
 }
 
-/// Reads all the bytes that are left, or one more than the limit. The vector grows by what came, never by the limit.
+/// Reads all the bytes that are left, or one more than the limit. The vector begins with room for 256 KiB, and grows by what came, never by the
+/// limit.
 ///
 /// `ReadFault` comes only where the source's count of faults rose in this call, and `InputLimit(Bytes)` where it gave
 /// more bytes than the limit.
@@ -62,7 +66,7 @@ pub fn read_all<S: Source>(alloc: Global, source: &mut S, byte_limit: usize) -> 
     ensures fault { IsErrOf result Error.ReadFault → Rose (S.faults source.old) (S.faults source.new) }
     ensures only { IfErr result (λ e. (e ≡ Error.ReadFault) ⊎ (e ≡ Error.InputLimit Limit.Bytes) ⊎ (e ≡ Error.Memory)) }
 {
-    let mut bytes = Vec::new(alloc);
+    let mut bytes = Vec::with_capacity(alloc, FIRST_ROOM)?;
     let mut filled = 0;
     'reading: while filled <= byte_limit {
         if filled == bytes.len() {
