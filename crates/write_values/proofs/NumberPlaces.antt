@@ -1,6 +1,6 @@
 -- Numbers by place, as they are stored.
-use Rattle.std.proofs.Common.{◌≡◌, ℕ, zero, suc, ◌+◌, ◌-◌, ◌*◌, ◌≤◌, ◌<◌, pos, Bool, true, false, true≢false, List, [], ◌∷◌, ◌++◌, length, map, take, drop, get_or, drop-cons, refl, ap, sym, subst, ◌∙◌, arith}
-use Rattle.std.specs.Prelude.{sum_by}
+use Rattle.std.proofs.Common.{◌≡◌, ℕ, zero, suc, ◌+◌, ◌-◌, ◌*◌, ◌/◌, ◌≤◌, ◌<◌, pos, Bool, true, false, true≢false, List, [], ◌∷◌, ◌++◌, length, map, take, drop, get_or, drop-cons, refl, ap, sym, subst, ◌∙◌, arith, take_all, inl, inr, lit≤}
+use Rattle.std.specs.Prelude.{Result, Ok, Err, ◌⊎◌, sum_by, OnOk}
 use Rattle.std.proofs.lemmas.List.{length-map, map-append, take-map, take_more, drop-map}
 use Rattle.std.proofs.lemmas.List.Sums.{sum_by-cons}
 use Rattle.shredding.specs.Shape.{LeafType, signed, unsigned, decimal}
@@ -128,12 +128,41 @@ take_on {X} (x ∷ xs) (suc i) n =
     let e : suc i + n ≡ suc (i + n) = omega arith in
     ap (λ (k : ℕ). take k (x ∷ xs)) e ∙ ap (λ (ys : List X). x ∷ ys) (take_on xs i n)
 
--- the numbers of one more block
-pub numbers_further : {A : Type 0} (p : Physical) (f : A → Value) (xs : List A) (at end : ℕ) (a b text c : List ℕ) → at ≤ end → c ≡ b ++ text → AppendsRow p a b (map f (take at xs)) → AppendsRow p [] text (map f (take (end - at) (drop at xs))) → AppendsRow p a c (map f (take end xs))
-numbers_further {A} p f xs at end a b text c l e h g =
+-- the numbers of one more stretch
+pub rows_further : {A : Type 0} (p : Physical) (f : A → Value) (xs : List A) (at end : ℕ) (a b c : List ℕ) → at ≤ end → AppendsRow p a b (map f (take at xs)) → AppendsRow p b c (map f (take (end - at) (drop at xs))) → AppendsRow p a c (map f (take end xs))
+rows_further {A} p f xs at end a b c l h g =
     let n : at + (end - at) ≡ end = omega (arith, l) in
     let same : map f (take at xs) ++ map f (take (end - at) (drop at xs)) ≡ map f (take end xs) =
     sym (map-append f (take at xs) (take (end - at) (drop at xs))) ∙ (ap (map f) (sym (take_on xs at (end - at))) ∙ ap (λ (k : ℕ). map f (take k xs)) n) in
-    subst (λ (vs : List Value). AppendsRow p a c vs) same
-    (row-more p a b c (map f (take at xs)) (map f (take (end - at) (drop at xs))) h
-    (subst (λ (t : List ℕ). AppendsRow p b t (map f (take (end - at) (drop at xs)))) (sym e) (row-behind p b text (map f (take (end - at) (drop at xs))) g)))
+    subst (λ (vs : List Value). AppendsRow p a c vs) same (row-more p a b c (map f (take at xs)) (map f (take (end - at) (drop at xs))) h g)
+
+-- the numbers of one more block
+pub numbers_further : {A : Type 0} (p : Physical) (f : A → Value) (xs : List A) (at end : ℕ) (a b text c : List ℕ) → at ≤ end → c ≡ b ++ text → AppendsRow p a b (map f (take at xs)) → AppendsRow p [] text (map f (take (end - at) (drop at xs))) → AppendsRow p a c (map f (take end xs))
+numbers_further {A} p f xs at end a b text c l e h g =
+    rows_further p f xs at end a b c l h (subst (λ (t : List ℕ). AppendsRow p b t (map f (take (end - at) (drop at xs)))) (sym e) (row-behind p b text (map f (take (end - at) (drop at xs))) g))
+
+-- all numbers, with those that are left
+pub rows_ended : {A X E : Type 0} (r : Result X E) (p : Physical) (f : A → Value) (xs : List A) (at : ℕ) (a b c : List ℕ) → at ≤ length xs → AppendsRow p a b (map f (take at xs)) → OnOk r (AppendsRow p b c (map f (take (length xs - at) (drop at xs)))) → OnOk r (AppendsRow p a c (map f xs))
+rows_ended {A} (Ok x) p f xs at a b c l h g =
+    subst (λ (ys : List A). AppendsRow p a c (map f ys)) (take_all (length xs) xs (omega arith)) (rows_further p f xs at (length xs) a b c l h g)
+rows_ended (Err e) p f xs at a b c l h g = tt
+
+-- ---- a block of them
+
+-- a number takes four bytes or eight
+pub four_or_eight : (p : Physical) (w : ℕ) → is_number p ≡ true → ((v : Value) → plain_size p v ≡ w) → (w ≡ 4) ⊎ (w ≡ 8)
+four_or_eight int32 w n h = inl (sym (h (truth false)))
+four_or_eight int64 w n h = inr (sym (h (truth false)))
+four_or_eight p w n h = absurd (true≢false (sym n))
+
+pub block_counts : (w k : ℕ) → k ≡ w → (w ≡ 4) ⊎ (w ≡ 8) → (0 < k) × (0 < 2048 / k) × (w * (2048 / k) ≡ 2048)
+block_counts w k e (inl h) = let f : k ≡ 4 = e ∙ h in rw (f, h) (lit≤ tt, lit≤ tt, refl)
+block_counts w k e (inr h) = let f : k ≡ 8 = e ∙ h in rw (f, h) (lit≤ tt, lit≤ tt, refl)
+
+-- one more number of a block
+pub number_filled : {A : Type 0} (p : Physical) (f : A → Value) (xs : List A) (i : ℕ) (x : A) (k w : ℕ) (old new : List ℕ) → i < length xs → x ≡ get_or xs i x → k ≡ w → AppendsRow p [] (take (w * i) old) (map f (take i xs)) → AppendsRow p (take (k * i) old) (take (k * i + w) new) (f x ∷ []) → AppendsRow p [] (take (w * (i + 1)) new) (map f (take (i + 1) xs))
+number_filled {A} p f xs i x k w old new l e q h g =
+    let at : k * i ≡ w * i = ap (λ (j : ℕ). j * i) q in
+    let end : w * i + w ≡ w * (i + 1) = omega arith in
+    numbers_more p f xs i x [] (take (w * i) old) (take (w * (i + 1)) new) l e h
+    (subst (λ (j : ℕ). AppendsRow p (take (w * i) old) (take j new) (f x ∷ [])) end (subst (λ (j : ℕ). AppendsRow p (take j old) (take (j + w) new) (f x ∷ [])) at g))

@@ -20,7 +20,7 @@ use crate::feeding::DeltaValues;
 use crate::measure::measure_fixed;
 use crate::measured::Measured;
 use crate::row::LeafValues;
-use columns_core::{ParquetNativeType, Result};
+use columns_core::{Error, ParquetNativeType, Result};
 use columns_leaf::PrimitiveArray;
 use columns_native::{AsPrimitive, PlainNumber, StoredAs};
 use levels::Nested;
@@ -281,13 +281,68 @@ fn push_blocks<T: AlwaysStored<P>, P: StoredNumber>(out: &mut Vec<u8>, values: &
     push_through::<T, P>(out, values, &mut block, 64)
 }
 
+// Bytes take the places of as many.
+#[inline(always)]
+fn put_block(places: &mut [u8], block: &[u8])
+    requires { length places.old ≡ length block.now }
+    ensures { places.new ≡ block.now }
+{
+    for i in 0..block.len() {
+        places[i] = block[i];
+    }
+}
+
+// Numbers fill a block one behind the other.
+#[inline(always)]
+fn fill_block<T: AlwaysStored<P>, P: StoredNumber>(block: &mut [u8], values: &[T])
+    requires { P.byte_count * length values.now ≡ length block.old }
+    ensures len { length block.new ≡ length block.old }
+    ensures are { AppendsRow (physical_view P.physical) [] block.new (map (λ x. number (T.stored_number x)) values.now) }
+{
+    for i in 0..values.len() {
+        put_number::<T, P>(block, P::width() * i, values[i]);
+    }
+}
+
+// Appends as many numbers one behind the other as fill a block, which is copied to its places as a whole.
+#[inline(always)]
+fn push_whole<T: AlwaysStored<P>, P: StoredNumber>(out: &mut Vec<u8>, values: &[T]) -> Result<()>
+    requires { P.byte_count * length values.now ≡ 2048 }
+    ensures ok { OnOk result (AppendsRow (physical_view P.physical) out.old.items out.new.items (map (λ x. number (T.stored_number x)) values.now)) }
+    ensures err { IfErr result (λ e. e ≡ Memory) }
+{
+    let before = out.len();
+    let Some(end) = before.checked_add(2048) else {
+        return Err(Error::Memory);
+    };
+    out.resize(end, 0)?;
+    let mut block = [0; 2048];
+    fill_block::<T, P>(&mut block, values);
+    put_block(&mut out[before..end], &block);
+    Ok(())
+}
+
+// How many numbers fill a block of 2 KiB.
+#[inline(always)]
+fn block_count<P: StoredNumber>() -> usize
+    ensures some { 0 < result }
+    ensures whole { P.byte_count * result ≡ 2048 }
+{
+    2048 / P::width()
+}
+
 // Appends numbers one behind the other, in long blocks.
 fn push_long<T: AlwaysStored<P>, P: StoredNumber>(out: &mut Vec<u8>, values: &[T]) -> Result<()>
     ensures ok { OnOk result (AppendsRow (physical_view P.physical) out.old.items out.new.items (map (λ x. number (T.stored_number x)) values.now)) }
     ensures err { IfErr result (λ e. e ≡ Memory) }
 {
-    let mut block = [0; 4096];
-    push_through::<T, P>(out, values, &mut block, 512)
+    let count = block_count::<P>();
+    let mut at = 0;
+    while count <= values.len() - at {
+        push_whole::<T, P>(out, &values[at..at + count])?;
+        at += count;
+    }
+    push_blocks::<T, P>(out, &values[at..])
 }
 
 // Appends numbers one behind the other. For a few a block costs more than it saves, and a long one for fewer than thousands.
