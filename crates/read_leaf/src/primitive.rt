@@ -77,6 +77,9 @@ impl<T: Drop> NumberValues<T> {
 // How many places are made at once.
 const BLOCK: usize = 256;
 
+// From how many numbers on blocks of 512 are read to a vector of their own first.
+const LONG: usize = 8192;
+
 /// Decodes plain numbers of `P` as numbers of `T`.
 #[derive(Drop)]
 pub struct PrimitiveDecoder<T, P> {
@@ -269,6 +272,51 @@ fn write_block<'a, T: FromStored<P>, P: StoredNumber>(
     }
 }
 
+// Appends the next numbers by blocks of 512, all but the last few, unless one of the next is none of the leaf; how many these are. A block is read to
+// a vector of its own first, so that no places need to be made in which nothing stands yet.
+fn append_blocks<T: FromStored<P>, P: StoredNumber>(
+    values: &mut Vec<T>,
+    bytes: &[u8],
+    count: usize,
+) -> Result<usize>
+    requires enough { P.byte_count * count ≤ list_length bytes.now }
+    ensures ok { IfOk result (λ n. (n ≤ count) × TookNumbers T.loaded P.spelled P.byte_count n bytes.now (drop (P.byte_count * n) bytes.now) (map T.loaded_number values.old.items) (map T.loaded_number values.new.items)) }
+    ensures kept { list_length values.old.items ≤ list_length values.new.items }
+    ensures err { IfErr result (λ e. e ≡ Error.Memory) }
+{
+    let alloc = *values.allocator();
+    let mut block = Vec::from_elem(alloc, T::zero(), 512)?;
+    let mut done = 0;
+    while 512 <= count - done {
+        if !copy_block::<T, P, 512>(&mut block, skip(bytes, P::width() * done)) {
+            break;
+        }
+        values.extend_from_slice(&block)?;
+        done += 512;
+    }
+    Ok(done)
+}
+
+// Writes the first of many numbers behind the first ones, and nothing behind them; how many these are.
+fn write_front<T: FromStored<P>, P: StoredNumber>(
+    values: &mut Vec<T>,
+    before: usize,
+    bytes: &[u8],
+    count: usize,
+) -> Result<usize>
+    requires some { before ≤ list_length values.old.items }
+    requires enough { P.byte_count * count ≤ list_length bytes.now }
+    ensures ok { IfOk result (λ n. (n ≤ count) × TookNumbers T.loaded P.spelled P.byte_count n bytes.now (drop (P.byte_count * n) bytes.now) (map T.loaded_number (take before values.old.items)) (map T.loaded_number (take (before + n) values.new.items)) × (before + n ≤ list_length values.new.items)) }
+    ensures kept { before ≤ list_length values.new.items }
+    ensures err { IfErr result (λ e. e ≡ Error.Memory) }
+{
+    if count < LONG {
+        return Ok(0);
+    }
+    values.truncate(before);
+    append_blocks::<T, P>(values, bytes, count)
+}
+
 // The same block by block, each small enough that it is still at hand when it is written.
 fn write_numbers<'a, T: FromStored<P>, P: StoredNumber>(
     values: &mut Vec<T>,
@@ -284,8 +332,8 @@ fn write_numbers<'a, T: FromStored<P>, P: StoredNumber>(
     ensures err { IfErr result (λ e. (e ≡ Error.Memory) ⊎ ((e ≡ Error.OutOfSpec S.S7) × OneIsOutside T.loaded P.spelled P.byte_count count bytes.now)) }
 {
     want_room(values, count, bytes.len() / P::width())?;
-    let mut rest = bytes;
-    let mut done = 0;
+    let mut done = write_front::<T, P>(values, before, bytes, count)?;
+    let mut rest = skip(bytes, P::width() * done);
     while done < count {
         let some = (count - done).min(BLOCK);
         match write_block::<T, P>(values, before + done, rest, some) {

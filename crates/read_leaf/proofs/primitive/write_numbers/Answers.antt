@@ -1,18 +1,7 @@
-use Rattle.std.proofs.Common.{◌≡◌, ◌+◌, ◌*◌, ℕ, inl, inr, [], length, map, take, refl, arith, ap, sym, subst, append-nil}
+use Rattle.std.proofs.Common.{◌≡◌, ◌+◌, ℕ, inl, inr, map, take, arith, subst}
 use Rattle.read_leaf.specs.Numbers.{TookNumbers}
 use Rattle.read_leaf.proofs.NumberSlots.{numbers-then, outside-then, block-left}
 use Rattle.read_leaf.proofs.primitive.write_numbers.Goals as goal
-
-pub loop-done-init : goal.loop-done-init
-loop-done-init g c =
-    let size : ℕ = g.P.PlainNumber.byte_count in
-    let start : size * 0 ≡ 0 = omega arith in
-    let whole : c.args.before + 0 ≡ c.args.before = omega arith in
-    record {
-      most = omega arith;
-      took = rw whole (record { numbers = []; count = refl; are = refl; pushed = sym (append-nil (map g.T.FromStored.loaded_number (take c.args.before c.want_room.new.values.items))); behind = rw start refl });
-      kept = omega (arith, c.requires.some, ap length c.in_ok-want_room.ensures.same);
-    }
 
 pub write_block-requires-clause-enough : goal.write_block-requires-clause-enough
 write_block-requires-clause-enough g c =
@@ -40,7 +29,7 @@ loop-done-preserved g c =
     record {
       most = omega (arith, v.most);
       took = subst
-          (λ (k : ℕ). TookNumbers loaded spelled size (done + some) c.args.bytes.now c.in-Ok.behind.now (map number (take c.args.before c.want_room.new.values.items)) (map number (take k c.write_block.new.values.items)))
+          (λ (k : ℕ). TookNumbers loaded spelled size (done + some) c.args.bytes.now c.in-Ok.behind.now (map number (take c.args.before c.args.values.now.items)) (map number (take k c.write_block.new.values.items)))
           place
           (numbers-then loaded spelled size done some c.args.bytes.now c.loop-done.rest.now c.in-Ok.behind.now _ (map number (take (c.args.before + done) c.loop-done.values.items)) _ v.took c.in-Ok.ensures.ok);
       kept = omega (arith, place, c.in-Ok.ensures.long);

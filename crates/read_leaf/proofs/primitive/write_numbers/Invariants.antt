@@ -8,6 +8,6 @@ decreases-loop-done g l = l.count - l.done
 abbrev pub invariant-loop-done : goal.invariant-loop-done
 invariant-loop-done g l = record {
   most : l.done ≤ l.count;
-  took : TookNumbers g.T.FromStored.loaded g.P.StoredNumber.spelled g.P.PlainNumber.byte_count l.done l.bytes l.rest (map g.T.FromStored.loaded_number (take l.before l.initial.values.items)) (map g.T.FromStored.loaded_number (take (l.before + l.done) l.values.items));
+  took : TookNumbers g.T.FromStored.loaded g.P.StoredNumber.spelled g.P.PlainNumber.byte_count l.done l.bytes l.rest (map g.T.FromStored.loaded_number (take l.before l.fn.values.items)) (map g.T.FromStored.loaded_number (take (l.before + l.done) l.values.items));
   kept : l.before + l.done ≤ length l.values.items;
 }
