@@ -1,8 +1,8 @@
 -- What a source gives behind the bytes that came before.
-use Rattle.std.proofs.Common.{◌≡◌, ◌+◌, ◌-◌, ◌≤◌, ◌++◌, ℕ, List, Option, Result, Ok, Err, IfOk, take, replicate, length, ap, ap₂, subst, ◌∙◌, arith, append_assoc, length-append}
+use Rattle.std.proofs.Common.{◌≡◌, ◌+◌, ◌≤◌, ◌++◌, ℕ, List, Option, Result, Ok, Err, IfOk, take, length, ap, subst, ◌∙◌, arith, length-append}
 use borrow.Rule.Slice.PartMut.{put_mid, post_of}
 use Rattle.std.proofs.Math.Seq.{take-append-add}
-use Rattle.std.proofs.lemmas.List.{length-take-le, replicate-append-replicate, take-append-le, take_all}
+use Rattle.std.proofs.lemmas.List.{length-take-le, take-append-le}
 use Rattle.std.specs.Io.{ReadsAtMost}
 use Rattle.std.specs.Io.KnownBytes.{Consumes, ReadConsumes}
 
@@ -20,11 +20,3 @@ put-reaches k n m xs ys h l = omega (arith, length-append (take k xs) (ys ++ pos
 pub gave-behind : {E : Type 0} (r : Result ℕ E) (k n : ℕ) (xs ys : List ℕ) (old new : Option (List ℕ)) → k ≤ length xs → ReadsAtMost r ys → ReadConsumes old new r ys → IfOk r (λ m. (k + m ≤ length (put_mid k n xs ys)) × ((bs : List ℕ) × Consumes old new bs × (take (k + m) (put_mid k n xs ys) ≡ take k xs ++ bs)))
 gave-behind (Ok m) k n xs ys old new h b c = (put-reaches k n m xs ys h b.0, (take m ys, c.0, front-put k n m xs ys h b.0))
 gave-behind (Err e) k n xs ys old new h b c = tt
-
--- some of the zeros that are still to come
-pub zeros-on : (old new : List ℕ) (len size n rest : ℕ) → len ≡ length old → new ≡ take size old ++ replicate (size - len) 0 → size ≡ len + n → n ≤ rest → new ++ replicate (rest - n) 0 ≡ old ++ replicate rest 0
-zeros-on old new len size n rest f e s l =
-    let kept : take size old ≡ old = take_all size old (omega arith) in
-    let more : size - len ≡ n = omega arith in
-    let all : n + (rest - n) ≡ rest = omega arith in
-    ap (λ (t : List ℕ). t ++ replicate (rest - n) 0) (e ∙ ap₂ (λ (t : List ℕ) (k : ℕ). t ++ replicate k 0) kept more) ∙ (append_assoc old (replicate n 0) (replicate (rest - n) 0) ∙ ap (λ (t : List ℕ). old ++ t) (replicate-append-replicate n (rest - n) 0 ∙ ap (λ (k : ℕ). replicate k 0) all))

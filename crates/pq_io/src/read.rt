@@ -24,15 +24,13 @@ fn append_zeros(bytes: &mut Vec<u8>, count: usize) -> Result<()>
     ensures ok { OnOk result (bytes.new.items ≡ bytes.old.items ++ replicate count 0) }
     ensures err { IfErr result (λ e. e ≡ Error.Memory) }
 {
-    let mut rest = count;
-    while rest > 0 {
-        let piece = rest.min(PIECE_LENGTH);
-        let Some(size) = bytes.len().checked_add(piece) else {
-            return Err(Error::Memory);
-        };
-        bytes.resize(size, 0)?;
-        rest -= piece;
+    let Some(end) = bytes.len().checked_add(count) else {
+        return Err(Error::Memory);
+    };
+    while PIECE_LENGTH < end - bytes.len() {
+        bytes.resize(bytes.len() + PIECE_LENGTH, 0)?;
     }
+    bytes.resize(end, 0)?;
     Ok(())
 }
 
