@@ -77,7 +77,7 @@ impl<T: Drop> NumberValues<T> {
 // How many places are made at once.
 const BLOCK: usize = 256;
 
-// From how many numbers on blocks of 512 are read to a vector of their own first.
+// From how many numbers on blocks of 4 KiB are read to a vector of their own first.
 const LONG: usize = 8192;
 
 /// Decodes plain numbers of `P` as numbers of `T`.
@@ -272,27 +272,30 @@ fn write_block<'a, T: FromStored<P>, P: StoredNumber>(
     }
 }
 
-// Appends the next numbers by blocks of 512, all but the last few, unless one of the next is none of the leaf; how many these are. A block is read to
+// Appends the next numbers by blocks of N, all but the last few, unless one of the next is none of the leaf; how many these are. A block is read to
 // a vector of its own first, so that no places need to be made in which nothing stands yet.
-fn append_blocks<T: FromStored<P>, P: StoredNumber>(
+fn append_blocks<T: FromStored<P>, P: StoredNumber, const N: usize>(
     values: &mut Vec<T>,
     bytes: &[u8],
     count: usize,
 ) -> Result<usize>
+    requires some { 0 < N }
     requires enough { P.byte_count * count ≤ list_length bytes.now }
     ensures ok { IfOk result (λ n. (n ≤ count) × TookNumbers T.loaded P.spelled P.byte_count n bytes.now (drop (P.byte_count * n) bytes.now) (map T.loaded_number values.old.items) (map T.loaded_number values.new.items)) }
     ensures kept { list_length values.old.items ≤ list_length values.new.items }
     ensures err { IfErr result (λ e. e ≡ Error.Memory) }
 {
     let alloc = *values.allocator();
-    let mut block = Vec::from_elem(alloc, T::zero(), 512)?;
+    let mut block = Vec::new(alloc);
+    block.resize(N / 2, T::zero())?;
+    block.resize(N, T::zero())?;
     let mut done = 0;
-    while 512 <= count - done {
-        if !copy_block::<T, P, 512>(&mut block, skip(bytes, P::width() * done)) {
+    while N <= count - done {
+        if !copy_block::<T, P, N>(&mut block, skip(bytes, P::width() * done)) {
             break;
         }
         values.extend_from_slice(&block)?;
-        done += 512;
+        done += N;
     }
     Ok(done)
 }
@@ -314,7 +317,11 @@ fn write_front<T: FromStored<P>, P: StoredNumber>(
         return Ok(0);
     }
     values.truncate(before);
-    append_blocks::<T, P>(values, bytes, count)
+    if P::width() == 4 {
+        append_blocks::<T, P, 1024>(values, bytes, count)
+    } else {
+        append_blocks::<T, P, 512>(values, bytes, count)
+    }
 }
 
 // The same block by block, each small enough that it is still at hand when it is written.
