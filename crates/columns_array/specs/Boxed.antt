@@ -1,5 +1,5 @@
 -- The tree that an `ArrayBox` stands for.
-use Rattle.std.specs.Prelude.{List, [], ◌∷◌, map}
+use Rattle.std.specs.Prelude.{Bool, true, false, List, [], ◌∷◌, map}
 use Rattle.shredding.specs.Slot.{truth}
 use Rattle.columns_core.specs.Shapes.{base}
 use Rattle.columns_core.specs.Natives.{value_i8, value_i16, value_i32, value_i64, value_i128, value_u8, value_u16, value_u32, value_u64, value_days}
@@ -37,3 +37,9 @@ boxed (MapBox a) = a
 abbrev pub all_boxed : List ArrayBox → ArrayTrees
 all_boxed [] = no_arrays
 all_boxed (b ∷ bs) = more_arrays (boxed b) (all_boxed bs)
+
+-- whether other arrays are in the array
+abbrev pub holds_arrays : ArrayTree → Bool
+holds_arrays (null_array t n) = false
+holds_arrays (leaf_array t vs m) = false
+holds_arrays _ = true

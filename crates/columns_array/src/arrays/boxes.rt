@@ -1,15 +1,70 @@
 //! What every array has.
-ghost use Rattle.std.specs.Prelude.{◌≡◌, ◌+◌, ◌≤◌, true, option_map, take, drop, All};
+ghost use Rattle.std.specs.Prelude.{◌≡◌, ◌+◌, ◌≤◌, true, false, option_map, take, drop, All};
 ghost use Rattle.shredding.specs.Parts.{keeps};
 ghost use Rattle.shredding.specs.Shape.{IsOf};
 ghost use Rattle.columns_core.specs.View.{type_view};
 ghost use Rattle.columns_core.specs.Shapes.{type_shape};
 ghost use Rattle.columns_slots.specs.Loose.{loose};
 ghost use Rattle.columns_slots.specs.Slots.{slots, slot_at, tree_len, type_of, mask_of, cut, is_null, null_slots, IsSound};
-ghost use Rattle.columns_array.specs.Boxed.{boxed};
+ghost use Rattle.columns_array.specs.Boxed.{boxed, holds_arrays};
 
 use super::ArrayBox;
 use columns_core::{Bitmap, DataType};
+
+// Keeps so many positions of an array that holds no others, from a position on.
+#[tactic(auto, using(columns_slots::proofs::Cuts::map_cut, crate::proofs::Know::strings_cut, crate::proofs::Know::strings_fit, crate::proofs::Know::widths_cut, crate::proofs::Know::widths_fit))]
+fn cut_leaf(array: &mut ArrayBox, offset: usize, length: usize)
+    requires leaf { holds_arrays (boxed array.old) ≡ false }
+    requires within { offset + length ≤ tree_len (boxed array.old) }
+    ensures { boxed array.new ≡ cut (boxed array.old) offset length }
+{
+    match array {
+        ArrayBox::Null(a) => a.slice(offset, length),
+        ArrayBox::Boolean(a) => a.slice(offset, length),
+        ArrayBox::Int8(a) => a.slice(offset, length),
+        ArrayBox::Int16(a) => a.slice(offset, length),
+        ArrayBox::Int32(a) => a.slice(offset, length),
+        ArrayBox::Int64(a) => a.slice(offset, length),
+        ArrayBox::Int128(a) => a.slice(offset, length),
+        ArrayBox::UInt8(a) => a.slice(offset, length),
+        ArrayBox::UInt16(a) => a.slice(offset, length),
+        ArrayBox::UInt32(a) => a.slice(offset, length),
+        ArrayBox::UInt64(a) => a.slice(offset, length),
+        ArrayBox::DaysMs(a) => a.slice(offset, length),
+        ArrayBox::Utf8(a) => a.slice(offset, length),
+        ArrayBox::LargeUtf8(a) => a.slice(offset, length),
+        ArrayBox::Binary(a) => a.slice(offset, length),
+        ArrayBox::LargeBinary(a) => a.slice(offset, length),
+        ArrayBox::FixedSizeBinary(a) => {
+            a.know();
+            a.slice(offset, length)
+        }
+        ArrayBox::Dictionary(a) => {
+            a.know();
+            unreachable!()
+        }
+        ArrayBox::List(a) => {
+            a.know();
+            unreachable!()
+        }
+        ArrayBox::LargeList(a) => {
+            a.know();
+            unreachable!()
+        }
+        ArrayBox::FixedSizeList(a) => {
+            a.know();
+            unreachable!()
+        }
+        ArrayBox::Struct(a) => {
+            a.know();
+            unreachable!()
+        }
+        ArrayBox::Map(a) => {
+            a.know();
+            unreachable!()
+        }
+    }
+}
 
 impl ArrayBox {
     /// Callers learn what holds of every array.
@@ -140,38 +195,18 @@ impl ArrayBox {
 
     /// Keeps `length` positions from the position `offset` on. Nothing is copied.
     #[cycle(cut)]
-    #[tactic(auto, using(columns_slots::proofs::Cuts::map_cut, crate::proofs::Know::strings_cut, crate::proofs::Know::strings_fit, crate::proofs::Know::widths_cut, crate::proofs::Know::widths_fit))]
     pub fn slice(&mut self, offset: usize, length: usize)
         requires { offset + length ≤ tree_len (boxed self.old) }
         ensures { boxed self.new ≡ cut (boxed self.old) offset length }
     {
         match self {
-            ArrayBox::Null(a) => a.slice(offset, length),
-            ArrayBox::Boolean(a) => a.slice(offset, length),
-            ArrayBox::Int8(a) => a.slice(offset, length),
-            ArrayBox::Int16(a) => a.slice(offset, length),
-            ArrayBox::Int32(a) => a.slice(offset, length),
-            ArrayBox::Int64(a) => a.slice(offset, length),
-            ArrayBox::Int128(a) => a.slice(offset, length),
-            ArrayBox::UInt8(a) => a.slice(offset, length),
-            ArrayBox::UInt16(a) => a.slice(offset, length),
-            ArrayBox::UInt32(a) => a.slice(offset, length),
-            ArrayBox::UInt64(a) => a.slice(offset, length),
-            ArrayBox::DaysMs(a) => a.slice(offset, length),
-            ArrayBox::Utf8(a) => a.slice(offset, length),
-            ArrayBox::LargeUtf8(a) => a.slice(offset, length),
-            ArrayBox::Binary(a) => a.slice(offset, length),
-            ArrayBox::LargeBinary(a) => a.slice(offset, length),
-            ArrayBox::FixedSizeBinary(a) => {
-                a.know();
-                a.slice(offset, length)
-            }
             ArrayBox::Dictionary(a) => a.slice(offset, length),
             ArrayBox::List(a) => a.slice(offset, length),
             ArrayBox::LargeList(a) => a.slice(offset, length),
             ArrayBox::FixedSizeList(a) => a.slice(offset, length),
             ArrayBox::Struct(a) => a.slice(offset, length),
             ArrayBox::Map(a) => a.slice(offset, length),
+            leaf => cut_leaf(leaf, offset, length),
         }
     }
 

@@ -4,9 +4,6 @@ use Rattle.columns_array.specs.Boxed.{boxed, all_boxed}
 use Rattle.columns_slots.specs.Slots.{IsSound, cut_mask, tree_len, first_len, cut, tree_size, trees_size}
 use Rattle.columns_slots.proofs.Sound.{cut_sound, first_cut, all_long, scaled}
 use Rattle.columns_core.specs.View.{type_view}
-use Rattle.columns_core.specs.Shapes.{base}
-use Rattle.columns_leaf.specs.Fixed.{fixed_width, fixed_count}
-use Rattle.columns_array.proofs.Know.{widths_fit}
 use Rattle.columns_array.proofs.Boxes.{set_step, long_at, size_at}
 use Rattle.columns_array.proofs.arrays.+cut.Goals as goal
 
@@ -66,8 +63,3 @@ FixedSizeListArray::slice-invariant_of-self t c =
     rw (c.slice.ensures, c.cut_validity.ensures)
     (subst (λ b. IsSound (fixed_list_array (type_view i.data_type) i.width c.args.length (cut (boxed b) (c.args.offset * i.width) (c.args.length * i.width)) (cut_mask i.validity c.args.offset c.args.length))) (sym e)
     (cut_sound (fixed_list_array (type_view i.data_type) i.width i.size (boxed i.values.value) i.validity) c.args.offset c.args.length c.self.invariant fits))
-
-pub ArrayBox::slice-slice-requires-in-FixedSizeBinary : goal.ArrayBox::slice-slice-requires-in-FixedSizeBinary
-ArrayBox::slice-slice-requires-in-FixedSizeBinary t c =
-    let a = c.in-FixedSizeBinary.a in
-    widths_fit (fixed_width (base a.0)) (fixed_count (base a.0) a.1.0) a.1.0 (c.args.offset + c.args.length) (subst (λ b. c.args.offset + c.args.length ≤ tree_len (boxed b)) c.in-FixedSizeBinary.is c.requires)
