@@ -1,9 +1,9 @@
 -- Byte strings one after another, spelled plain.
-use Rattle.std.proofs.Common.{◌≡◌, ℕ, ℤ, pos, ◌+◌, ◌-◌, ◌<◌, ◌≤◌, ◌^◌, false, List, [], ◌∷◌, ◌++◌, length, take, drop, map, All, Result, Ok, Err, Some, None, refl, sym, ap, subst, ◌∙◌, arith, append-nil, append_assoc}
-use Rattle.std.proofs.lemmas.List.{length-append, length-map, length-take, map-append, drop_at, take-append-drop}
+use Rattle.std.proofs.Common.{◌≡◌, ◌⊎◌, ℕ, ℤ, pos, ◌+◌, ◌-◌, ◌<◌, ◌≤◌, ◌^◌, false, List, [], ◌∷◌, ◌++◌, length, take, drop, map, get_or, All, inl, inr, Result, Ok, Err, Some, None, refl, sym, ap, subst, ◌∙◌, arith, append-nil, append_assoc}
+use Rattle.std.proofs.lemmas.List.{length-append, length-map, length-take, map-append, drop_at, drop_more, get_or-take, take-append-drop, take-take}
 use Rattle.std.proofs.lemmas.List.Elements.{All-push}
 use Rattle.std.proofs.lemmas.Option.{same_Some}
-use Rattle.std.specs.Int.{w32}
+use Rattle.std.specs.Int.{w32, w64, cast_signed}
 use Rattle.std.specs.Int.RustNames.{unsigned_abs}
 use Rattle.std.specs.List.{flat_map}
 use Rattle.columns_base.specs.declared.error.Error.{Error}
@@ -16,9 +16,13 @@ use Rattle.pq_files.proofs.DeltasOnce.{lengths_same}
 use Rattle.pq_files.proofs.Unique.{append_same}
 use Rattle.pq_runs.specs.Delta.{wrapped}
 use Rattle.pq_runs.specs.DeltaReading.{Head, all, head_at, numbers_of}
+use Rattle.pq_runs.specs.Writing.{Extends}
+use Rattle.pq_runs.proofs.Packs.{kept_more, kept_then}
+use Rattle.pq_delta_reads.specs.Blocks.{StopsStrings, TakesStrings, signed}
 use Rattle.pq_delta_reads.specs.Decoding.{Decoding}
 use Rattle.pq_delta_reads.specs.Read.{IsRead}
-use Rattle.pq_delta_reads.specs.Sections.{TurnsPlain, SpellsNone}
+use Rattle.pq_delta_reads.specs.Sections.{TurnsPlain, SpellsNone, TakesString}
+use Rattle.pq_delta_reads.proofs.Adding.{signed_more}
 use Rattle.pq_delta_reads.proofs.Filling.{row_push, turns}
 use Rattle.pq_delta_reads.proofs.Narrow.{narrow_32, narrowed, widened}
 use Rattle.pq_delta_reads.proofs.Whole.{no_error, all_same, whole_found, whole_stands, read_whole}
@@ -80,6 +84,13 @@ pub walking_more : (first d d' : Decoding) (z : ℤ) → d.items ≡ Ok z ∷ d'
 walking_more first d d' z e t w = record {
   done = w.done ++ z ∷ [];
   come = ap (λ (x : List (Result ℤ Error)). x ++ d'.items) (map-append Ok w.done (z ∷ [])) ∙ append_assoc (all w.done) (Ok z ∷ []) d'.items ∙ ap (λ (x : List (Result ℤ Error)). all w.done ++ x) (sym e) ∙ w.come;
+  total = t ∙ w.total;
+}
+
+pub walking_block : (first d d' : Decoding) (ns : List ℕ) → d.items ≡ all (signed ns) ++ d'.items → d'.total ≡ d.total → Walking first d → Walking first d'
+walking_block first d d' ns e t w = record {
+  done = w.done ++ signed ns;
+  come = ap (λ (x : List (Result ℤ Error)). x ++ d'.items) (map-append Ok w.done (signed ns)) ∙ append_assoc (all w.done) (all (signed ns)) d'.items ∙ ap (λ (x : List (Result ℤ Error)). all w.done ++ x) (sym e) ∙ w.come;
   total = t ∙ w.total;
 }
 
@@ -180,6 +191,62 @@ copying_more start out out' one zs behind items items' rest rest' z size e is fe
       split = joined_push c.done s rest' ∙ ap (λ (t : List ℕ). joined c.done ++ (s ++ t)) back ∙ ap (λ (t : List ℕ). joined c.done ++ t) (take-append-drop size rest) ∙ c.split;
     }
 
+pub copying_block : (ys : List ℤ) (start out out' : List ℕ) (zs : List ℤ) (behind : List ℕ) (items items' : List (Result ℤ Error)) (rest rest' : List ℕ) → items ≡ all ys ++ items' → TakesStrings ys rest rest' out out' → Copying start out zs behind items rest → Copying start out' zs behind items' rest'
+copying_block [] start out out' zs behind items items' rest rest' e t c = record {
+  done = c.done;
+  left = c.left;
+  text = c.text;
+  parts = t.1 ∙ c.parts;
+  row = c.row;
+  come = sym e ∙ c.come;
+  lengths = c.lengths;
+  short = c.short;
+  split = ap (λ (r : List ℕ). joined c.done ++ r) t.0 ∙ c.split;
+}
+copying_block (y ∷ ys) start out out' zs behind items items' rest rest' e t c =
+    let s = t.3.2 in
+    copying_block ys start t.3.1 out' zs behind (all ys ++ items') items' t.3.0 rest' refl t.3.3 (copying_more start out t.3.1 s.2.0 zs behind items (all ys ++ items') rest t.3.0 y t.0 e t.1 t.2 s.0 s.1 s.2.1 s.2.2 c)
+
+pub takes_push : (done : List ℤ) (z : ℤ) (size : ℕ) (front mid rest before between after : List ℕ) → TakesStrings done front mid before between → wrapped w32 z ≡ pos size → size < 2 ^ 31 → TakesString size mid rest between after → TakesStrings (done ++ z ∷ []) front rest before after
+takes_push [] z size front mid rest before between after t is few s =
+    (size, is, few, (rest, after, subst (λ (m : List ℕ). TakesString size m rest before after) t.0 (subst (λ (b : List ℕ). TakesString size mid rest b after) t.1 s), (refl, refl)))
+takes_push (y ∷ done) z size front mid rest before between after t is few s =
+    (t.0, t.1, t.2, (t.3.0, t.3.1, t.3.2, takes_push done z size t.3.0 mid rest t.3.1 between after t.3.3 is few s))
+
+-- the first of some lengths, one of them, and the others
+pub signed_split : (count i : ℕ) (ns : List ℕ) → i < count → i < length ns → signed (take count ns) ≡ signed (take i ns) ++ cast_signed w64 (get_or ns i 0) ∷ signed (drop (i + 1) (take count ns))
+signed_split count i ns lt within =
+    ap signed (
+    sym (take-append-drop i (take count ns))
+    ∙ ap (λ (t : List ℕ). t ++ drop i (take count ns)) (take-take i count ns (omega (arith, lt)))
+    ∙ ap (λ (t : List ℕ). take i ns ++ t) (drop_more (take count ns) i 0 (omega (arith, lt, within, length-take count ns)))
+    ∙ ap (λ (x : ℕ). take i ns ++ x ∷ drop (i + 1) (take count ns)) (get_or-take count ns i 0 lt)
+    )
+    ∙ map-append (cast_signed w64) (take i ns) (get_or ns i 0 ∷ drop (i + 1) (take count ns))
+
+pub stops_at : (count i : ℕ) (ns front rest before after : List ℕ) (z : ℤ) → i < count → i < length ns → z ≡ cast_signed w64 (get_or ns i 0) → TakesStrings (signed (take i ns)) front rest before after → ((n : ℕ) → wrapped w32 z ≡ pos n → ⊥) ⊎ ((n : ℕ) × (wrapped w32 z ≡ pos n) × (length rest < n)) → StopsStrings (signed (take count ns)) front before
+stops_at count i ns front rest before after z lt within is takes cause = record {
+  done = signed (take i ns);
+  z = z;
+  others = signed (drop (i + 1) (take count ns));
+  parts = signed_split count i ns lt within ∙ ap (λ (y : ℤ). signed (take i ns) ++ y ∷ signed (drop (i + 1) (take count ns))) (sym is);
+  rest = rest;
+  after = after;
+  takes = takes;
+  cause = cause;
+}
+
+pub takes_next : (i : ℕ) (ns front mid rest before between after : List ℕ) (z : ℤ) (size : ℕ) → i < length ns → z ≡ cast_signed w64 (get_or ns i 0) → TakesStrings (signed (take i ns)) front mid before between → wrapped w32 z ≡ pos size → size < 2 ^ 31 → TakesString size mid rest between after → TakesStrings (signed (take (i + 1) ns)) front rest before after
+takes_next i ns front mid rest before between after z size within is takes length_is few string =
+    let more : signed (take (i + 1) ns) ≡ signed (take i ns) ++ z ∷ [] = signed_more i ns within ∙ ap (λ (y : ℤ). signed (take i ns) ++ y ∷ []) (sym is) in
+    subst (λ (ys : List ℤ). TakesStrings ys front rest before after) (sym more) (takes_push (signed (take i ns)) z size front mid rest before between after takes length_is few string)
+
+pub takes_kept : (ys : List ℤ) (front rest before after : List ℕ) → TakesStrings ys front rest before after → Extends before after
+takes_kept [] front rest before after t = kept_more before after [] (t.1 ∙ sym (append-nil before))
+takes_kept (y ∷ ys) front rest before after t =
+    let s = t.3.2 in
+    kept_then before t.3.1 after (kept_more before t.3.1 s.2.0 s.2.1) (takes_kept ys t.3.0 rest t.3.1 after t.3.3)
+
 -- the strings that are left
 strings_left : (done ss : List (List ℕ)) (rest r : List ℕ) (ws : List ℤ) → sizes done ++ ws ≡ sizes ss → joined done ++ rest ≡ joined ss ++ r → (more : List (List ℕ)) × (ws ≡ sizes more) × (rest ≡ joined more ++ r)
 strings_left [] ss rest r ws l e = (ss, l, e)
@@ -212,6 +279,16 @@ pub no_bytes_left : (count : ℕ) (section start out : List ℕ) (size : ℕ) (z
 no_bytes_left count section start out size zs items items' rest z n r e c is past = λ vs k b. (
     let s = next_string section start out size zs items items' rest z vs r e c b in
     omega (arith, past, s.2, ap unsigned_abs (sym s.1 ∙ is)))
+
+pub block_stops : (count : ℕ) (section start out : List ℕ) (size : ℕ) (zs ys : List ℤ) (items items' : List (Result ℤ Error)) (rest : List ℕ) → IsRead section size zs → items ≡ all ys ++ items' → StopsStrings ys rest out → Copying start out zs (drop size section) items rest → SpellsNone AreDeltaLengths count section
+block_stops count section start out size zs ys items items' rest r e x c =
+    let others : List (Result ℤ Error) = all x.others ++ items' in
+    let come : items ≡ all x.done ++ (Ok x.z ∷ others) = e ∙ ap (λ (t : List ℤ). all t ++ items') x.parts ∙ ap (λ (t : List (Result ℤ Error)). t ++ items') (map-append Ok x.done (x.z ∷ x.others)) ∙ append_assoc (all x.done) (Ok x.z ∷ all x.others) items' in
+    let here = copying_block x.done start out x.after zs (drop size section) items (Ok x.z ∷ others) rest x.rest come x.takes c in
+    elim x.cause [
+      | inl none ↦ no_length count section start x.after size zs (Ok x.z ∷ others) others x.rest x.z r refl here none
+      | inr past ↦ no_bytes_left count section start x.after size zs (Ok x.z ∷ others) others x.rest x.z past.0 r refl here past.1 past.2
+    ]
 
 pub no_item : (start out : List ℕ) (zs : List ℤ) (behind : List ℕ) (items : List (Result ℤ Error)) (rest : List ℕ) (e : Error) → items ≡ Err e ∷ [] → Copying start out zs behind items rest → ⊥
 no_item start out zs behind items rest e failed c = no_error [] c.left e (sym failed ∙ c.come)

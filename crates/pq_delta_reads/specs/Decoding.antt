@@ -1,8 +1,9 @@
 -- A decoder of delta packing as its callers see it.
-use Rattle.std.specs.Prelude.{◌≡◌, ℕ, suc, ◌+◌, ◌-◌, ℤ, List, [], ◌∷◌, length, Result, Ok, Err, Option, Some, None}
+use Rattle.std.specs.Prelude.{◌≡◌, ℕ, suc, ◌+◌, ◌-◌, ◌<◌, ◌≤◌, ℤ, List, [], ◌∷◌, ◌++◌, length, take, Result, Ok, Err, Option, Some, None}
 use Rattle.columns_base.specs.declared.error.Error.{Error}
-use Rattle.pq_runs.specs.DeltaReading.{Head, head_at, numbers_of}
+use Rattle.pq_runs.specs.DeltaReading.{Head, all, head_at, numbers_of}
 use Rattle.pq_runs.specs.Hybrid.{fault}
+use Rattle.pq_delta_reads.specs.Blocks.{signed}
 use Rattle.pq_delta_reads.specs.declared.state.State.{State}
 use Rattle.pq_delta_reads.specs.Reading.{items, left_of, taken, total}
 
@@ -32,3 +33,9 @@ abbrev pub Steps : Decoding → Option (Result ℤ Error) → Decoding → Type 
 Steps d None d' = (d.items ≡ []) × (d.left ≡ 0) × (d.taken ≡ d.total) × (d' ≡ d)
 Steps d (Some (Ok z)) d' = (d.items ≡ Ok z ∷ d'.items) × (d.left ≡ suc d'.left) × (d'.total ≡ d.total)
 Steps d (Some (Err e)) d' = (e ≡ fault) × (d.items ≡ Err e ∷ []) × (d'.items ≡ []) × (d'.left ≡ 0) × (d'.total ≡ d.total)
+
+-- So many items at once, which are the first of a list.
+abbrev pub StepsBlock : Decoding → Option (Result ℕ Error) → List ℕ → Decoding → Type 0
+StepsBlock d None ns d' = Steps d None d'
+StepsBlock d (Some (Ok n)) ns d' = (0 < n) × (n ≤ 32) × (d.items ≡ all (signed (take n ns)) ++ d'.items) × (d.left ≡ n + d'.left) × (d'.total ≡ d.total)
+StepsBlock d (Some (Err e)) ns d' = Steps d (Some (Err e)) d'

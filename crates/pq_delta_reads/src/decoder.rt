@@ -1,17 +1,18 @@
 //! Reading delta packing.
 
-ghost use Rattle.std.specs.Prelude.{◌≡◌, ◌<◌, ◌≤◌, ◌+◌, ◌-◌, ◌^◌, length, min, drop, MatchResult, MatchOption, Some, None, nat_eq, true};
+ghost use Rattle.std.specs.Prelude.{◌≡◌, ◌<◌, ◌≤◌, ◌+◌, ◌-◌, ◌^◌, ◌∷◌, [], length, min, take as front_of, drop, MatchResult, MatchOption, Some, None, nat_eq, true};
 ghost use Rattle.std.specs.Iterator.{item_count};
 ghost use Rattle.pq_runs.specs.DeltaReading.{head_at, is_good};
 ghost use Rattle.pq_runs.specs.Listed.{count as count_of};
 ghost use Rattle.pq_runs.specs.Hybrid.{fault};
-ghost use Rattle.pq_delta_reads.specs.Decoding.{IsBegun, IsDecoderOf, Steps, decoding};
+ghost use Rattle.pq_delta_reads.specs.Blocks.{signed};
+ghost use Rattle.pq_delta_reads.specs.Decoding.{IsBegun, IsDecoderOf, Steps, StepsBlock, decoding};
 ghost use Rattle.pq_delta_reads.specs.Reading.{IsState, head_of};
 
 use crate::buffer::Buffer;
 use crate::head::{Head, take_head};
 use crate::state::State;
-use crate::take::{find, take};
+use crate::take::{find, find_standing, take, take_block};
 use columns_base::{Error, Result, S};
 use std::marker::Model;
 
@@ -59,6 +60,13 @@ fn begin_state<'a>(head: &Head, body: &'a [u8], length: usize) -> State<'a>
         least: head.first,
         latest: 0,
     }
+}
+
+// A number takes the first place.
+fn put_first(numbers: &mut [u64; 32], number: i64)
+    ensures { signed (front_of 1 numbers.new) ≡ number ∷ [] }
+{
+    numbers[0] = number.cast_unsigned();
 }
 
 impl<'a> Decoder<'a> {
@@ -121,6 +129,23 @@ impl<'a> Decoder<'a> {
             return None;
         }
         Some(&bytes[taken as usize..])
+    }
+
+    // The next numbers, at most 32, as numbers of 64 bits, and how many. In the place of the first that isn't there comes S6.
+    pub(crate) fn next_block(&mut self, numbers: &mut [u64; 32]) -> Option<Result<usize>>
+        ensures { StepsBlock self.old result numbers.new self.new }
+    {
+        if self.len() == 0 {
+            return None;
+        }
+        if self.state.buffer.len() > 0 {
+            put_first(numbers, take(&mut self.state));
+            return Some(Ok(1));
+        }
+        match find_standing(&mut self.state) {
+            Ok(()) => Some(Ok(take_block(&mut self.state, numbers))),
+            Err(e) => Some(Err(e)),
+        }
     }
 }
 

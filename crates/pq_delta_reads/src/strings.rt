@@ -1,6 +1,6 @@
 //! Sections of byte strings, spelled plain.
 
-ghost use Rattle.std.specs.Prelude.{◌≡◌, ◌⊎◌, ◌<◌, ◌^◌, ℕ, pos, length, OnOk, IfOk, IfErr, MatchOption};
+ghost use Rattle.std.specs.Prelude.{◌≡◌, ◌⊎◌, ◌<◌, ◌≤◌, ◌^◌, ℕ, pos, length, take, OnOk, IfOk, IfErr, MatchOption};
 ghost use Rattle.std.specs.Int.{w32};
 ghost use Rattle.columns_base.specs.declared.error.Error.TheVariants.{Memory};
 ghost use Rattle.pq_tree.specs.Physical.{byte_array};
@@ -8,10 +8,12 @@ ghost use Rattle.pq_files.specs.Delta.{AreDeltaLengths};
 ghost use Rattle.pq_runs.specs.Delta.{wrapped};
 ghost use Rattle.pq_runs.specs.Hybrid.{fault};
 ghost use Rattle.pq_runs.specs.Writing.{Extends};
+ghost use Rattle.pq_delta_reads.specs.Blocks.{StopsStrings, TakesStrings, signed};
 ghost use Rattle.pq_delta_reads.specs.Read.{IsBehind};
 ghost use Rattle.pq_delta_reads.specs.Sections.{TurnsPlain, SpellsNone, TakesString};
 
 use crate::decoder::Decoder;
+use crate::numbers::expect_room;
 use columns_base::{Error, Result, S};
 use pq_numbers::push_u32_le;
 
@@ -24,7 +26,8 @@ fn behind_lengths(section: &[u8], count: usize) -> Result<&[u8]>
     if decoder.len() != count {
         return Err(Error::OutOfSpec(S::S6));
     }
-    while let Some(item) = decoder.next() {
+    let mut lengths = [0; 32];
+    while let Some(item) = decoder.next_block(&mut lengths) {
         if let Err(error) = item {
             return Err(error);
         }
@@ -63,6 +66,28 @@ fn push_string<'a>(out: &mut Vec<u8>, bytes: &'a [u8], size: usize) -> Result<&'
     Ok(rest)
 }
 
+// Appends the strings of the first lengths, and gives the bytes behind them.
+fn push_strings<'a>(
+    out: &mut Vec<u8>,
+    bytes: &'a [u8],
+    lengths: &[u64; 32],
+    count: usize,
+) -> Result<&'a [u8]>
+    requires { count ≤ 32 }
+    ensures ok { IfOk result (λ rest. TakesStrings (signed (take count lengths.now)) bytes.now rest.now out.old.items out.new.items) }
+    ensures err { IfErr result (λ e. (e ≡ Memory) ⊎ ((e ≡ fault) × StopsStrings (signed (take count lengths.now)) bytes.now out.old.items)) }
+    ensures kept { Extends out.old.items out.new.items }
+{
+    let mut rest = bytes;
+    for i in 0..count {
+        let Some(size) = length_of(lengths[i].cast_signed()) else {
+            return Err(Error::OutOfSpec(S::S6));
+        };
+        rest = push_string(out, rest, size)?;
+    }
+    Ok(rest)
+}
+
 /// Appends the plain spelling of the byte strings with which a section of delta lengths begins: four bytes with the length, lowest first, and the bytes
 /// of each (Parquet format, Encodings, "Delta-length byte array" and "Plain"). The lengths' last miniblock is whole, and what follows the strings is
 /// not looked at. The lengths are gone over twice, so that nothing but `out` takes memory.
@@ -77,16 +102,19 @@ pub fn push_plain_strings(section: &[u8], count: usize, out: &mut Vec<u8>) -> Re
     ensures kept { Extends out.old.items out.new.items }
 {
     let mut bytes = behind_lengths(section, count)?;
+    expect_room(
+        out,
+        count.saturating_mul(4).saturating_add(bytes.len()),
+        section.len(),
+    );
     let mut decoder = Decoder::try_new(section)?;
-    while let Some(item) = decoder.next() {
-        let value = match item {
-            Ok(value) => value,
+    let mut lengths = [0; 32];
+    while let Some(item) = decoder.next_block(&mut lengths) {
+        let count = match item {
+            Ok(count) => count,
             Err(error) => return Err(error),
         };
-        let Some(size) = length_of(value) else {
-            return Err(Error::OutOfSpec(S::S6));
-        };
-        bytes = push_string(out, bytes, size)?;
+        bytes = push_strings(out, bytes, &lengths, count)?;
     }
     Ok(())
 }

@@ -1,13 +1,15 @@
 //! Handing out numbers.
 
-ghost use Rattle.std.specs.Prelude.{◌≡◌, ◌<◌, ◌+◌, ◌∷◌, [], length, drop, suc, Ok, Err, OnOk, IfErr, ◌+ℤ◌, pos};
+ghost use Rattle.std.specs.Prelude.{◌≡◌, ◌<◌, ◌≤◌, ◌+◌, ◌∷◌, ◌++◌, [], length, take as front_of, drop, suc, Ok, Err, OnOk, IfErr, ◌+ℤ◌, pos};
 ghost use Rattle.std.specs.Int.{w64};
 ghost use Rattle.pq_runs.specs.Delta.{wrapped};
-ghost use Rattle.pq_runs.specs.DeltaReading.{failed};
+ghost use Rattle.pq_runs.specs.DeltaReading.{above, all, failed};
 ghost use Rattle.pq_runs.specs.Hybrid.{fault};
-ghost use Rattle.pq_delta_reads.specs.Reading.{IsState, Keeps, items, later, left_of, total};
+ghost use Rattle.pq_delta_reads.specs.Blocks.{signed};
+ghost use Rattle.pq_delta_reads.specs.Reading.{IsState, Keeps, items, later, left_of, stepped, total};
 
 use crate::begin::begin;
+use crate::bits::unpack_block;
 use crate::state::State;
 use columns_base::Result;
 
@@ -51,6 +53,26 @@ fn fail(state: &mut State<'_>)
     state.left = 0;
     state.cut = false;
     state.widths = &[];
+}
+
+// Sees to it that a number of the miniblock stands there.
+pub fn find_standing(state: &mut State<'_>) -> Result<()>
+    requires is { IsState state.old }
+    requires empty { length state.old.buffer ≡ 0 }
+    requires some { 0 < left_of state.old }
+    ensures is { IsState state.new }
+    ensures total { total state.new ≡ total state.old }
+    ensures empty { length state.new.buffer ≡ 0 }
+    ensures found { OnOk result (Keeps state.old state.new × (0 < state.new.standing)) }
+    ensures failed { IfErr result (λ e. (e ≡ fault) × (items state.old ≡ Err e ∷ []) × (items state.new ≡ []) × (left_of state.new ≡ 0)) }
+{
+    if state.standing == 0
+        && let Err(error) = begin(state)
+    {
+        fail(state);
+        return Err(error);
+    }
+    Ok(())
 }
 
 // Sees to it that a number waits.
@@ -97,4 +119,36 @@ pub fn take(state: &mut State<'_>) -> i64
     let next = next_sum(state.latest, state.least, number);
     state.latest = next;
     next
+}
+
+// Each packed number becomes the number that it makes of the one before it.
+fn add_up(numbers: &mut [u64; 32], least: i64, latest: i64)
+    ensures { all (signed numbers.new) ≡ stepped latest (all (above least numbers.old)) }
+{
+    let mut latest = latest;
+    for number in numbers.iter_mut() {
+        latest = next_sum(latest, least, *number);
+        *number = latest.cast_unsigned();
+    }
+}
+
+// The next numbers of the miniblock, at most 32, and how many.
+pub fn take_block(state: &mut State<'_>, numbers: &mut [u64; 32]) -> usize
+    requires is { IsState state.old }
+    requires empty { length state.old.buffer ≡ 0 }
+    requires some { 0 < state.old.standing }
+    ensures is { IsState state.new }
+    ensures some { 0 < result }
+    ensures most { result ≤ 32 }
+    ensures first { items state.old ≡ all (signed (front_of result numbers.new)) ++ items state.new }
+    ensures total { total state.new ≡ total state.old }
+    ensures left { left_of state.old ≡ result + left_of state.new }
+{
+    let count = state.standing.min(32);
+    *numbers = unpack_block(state.packed, state.width);
+    add_up(numbers, state.least, state.latest);
+    state.packed = skip(state.packed, 4 * state.width as usize);
+    state.standing -= count;
+    state.latest = numbers[count - 1].cast_signed();
+    count
 }

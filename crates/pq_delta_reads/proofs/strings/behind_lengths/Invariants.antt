@@ -1,4 +1,3 @@
-use Rattle.std.proofs.Common.{length}
 use Rattle.pq_delta_reads.proofs.Copying.{Walking}
 use Rattle.pq_delta_reads.proofs.strings.behind_lengths.Given as goal
 
@@ -6,4 +5,4 @@ abbrev pub invariant-loop-item : goal.invariant-loop-item
 invariant-loop-item l = Walking l.initial.decoder l.decoder
 
 abbrev pub decreases-loop-item : goal.decreases-loop-item
-decreases-loop-item l = length l.decoder.items
+decreases-loop-item l = l.decoder.left
