@@ -1,5 +1,5 @@
 -- The extremes with a stretch of places, and with those that are picked by the bits of a word.
-use Rattle.std.proofs.Common.{◌≡◌, ℕ, zero, suc, ◌+◌, ◌-◌, ◌^◌, ◌≤◌, List, [], ◌∷◌, ◌++◌, length, Option, refl, sym, ap, subst, ◌∙◌, append_assoc, append-nil, arith}
+use Rattle.std.proofs.Common.{◌≡◌, ℕ, zero, suc, ◌+◌, ◌-◌, ◌^◌, ◌<◌, ◌≤◌, List, [], ◌∷◌, ◌++◌, length, Option, Some, None, refl, sym, ap, subst, ◌∙◌, append_assoc, append-nil, arith}
 use Rattle.std.specs.Prelude.{min}
 use Rattle.std.proofs.lemmas.List.{length-append}
 use Rattle.shredding.specs.Slot.{Value}
@@ -10,6 +10,7 @@ use Rattle.write_places.proofs.Picked.{IsNext}
 use Rattle.page_statistics.specs.declared.seen.Extremes.{Extremes}
 use Rattle.page_statistics.specs.declared.seen.Seen.{Seen}
 use Rattle.page_statistics.specs.Extremes.{AreExtremes, Sees}
+use Rattle.page_statistics.proofs.Further.{first_place}
 
 -- ---- a stretch
 
@@ -49,6 +50,13 @@ module _ (value : ℕ → Value) where
   stretch_further from at end new places low high h =
       subst (λ (ps : List ℕ). AreExtremes value ps new) (append_assoc places (range from (at - from)) (range at (end - at)) ∙ ap (λ (ps : List ℕ). places ++ ps) (sym (gather-split (λ j. j ∷ []) from at end low high))) h
 
+  -- from the first place on
+  pub stretch_begun : (from end : ℕ) (new : Option Extremes) → from < end → ((places : List ℕ) → AreExtremes value places (Some (record { least = from; greatest = from })) → AreExtremes value (places ++ range (from + 1) (end - (from + 1))) new)
+      → (places : List ℕ) → AreExtremes value places None → AreExtremes value (places ++ range from (end - from)) new
+  stretch_begun from end new some h places none =
+      let first = subst (λ (ps : List ℕ). AreExtremes value (places ++ ps) (Some (record { least = from; greatest = from }))) (sym (one_place from (from + 1 - from) (omega arith))) (first_place value from places none) in
+      stretch_further from (from + 1) end new places (omega arith) (omega (arith, some)) (h (places ++ range from (from + 1 - from)) first)
+
   -- ---- picked places
 
   -- of all places those that are not left are seen
@@ -73,6 +81,19 @@ module _ (value : ℕ → Value) where
       let none : picked word from count ≡ [] = gather-nothing _ from count (λ i l g. rw (zero_bits word (i - from) e) refl) in
       let done : h.done ≡ all = sym (append-nil h.done) ∙ (ap (λ (ns : List ℕ). h.done ++ ns) (sym none) ∙ h.parts) in
       subst (λ (ns : List ℕ). AreExtremes value (places ++ ns) new) done (h.grows places k)
+
+  -- from the first picked place on
+  pub picked_begun : (word left from count t : ℕ) (new : Option Extremes) → IsNext word left from count t → ((places : List ℕ) → AreExtremes value places (Some (record { least = from + t; greatest = from + t })) → AreExtremes value (places ++ picked left from count) new)
+      → (places : List ℕ) → AreExtremes value places None → AreExtremes value (places ++ picked word from count) new
+  picked_begun word left from count t new n h places none =
+      let all = h (places ++ (from + t) ∷ []) (first_place value (from + t) places none) in
+      subst (λ (ps : List ℕ). AreExtremes value ps new) (append_assoc places ((from + t) ∷ []) (picked left from count) ∙ ap (λ (ps : List ℕ). places ++ ps) (sym n.places)) all
+
+  -- no picked place
+  pub none_begun : (word from count : ℕ) → word ≡ 0 → (places : List ℕ) → AreExtremes value places None → AreExtremes value (places ++ picked word from count) None
+  none_begun word from count e places h =
+      let none : picked word from count ≡ [] = gather-nothing _ from count (λ i l g. rw (zero_bits word (i - from) e) refl) in
+      subst (λ (ps : List ℕ). AreExtremes value (places ++ ps) None) (sym none) (grows_none places None h)
 
   -- ---- seen so far
 

@@ -8,5 +8,6 @@ mod statistics;
 mod taker;
 
 pub use laws::{statistics_are_unique, statistics_exist};
-pub use order::OrderedLeaf;
+pub use order::{OrderedLeaf, SearchedLeaf};
+pub use seen::Extremes;
 pub use statistics::{column_statistics, unordered_statistics};

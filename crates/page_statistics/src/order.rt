@@ -1,4 +1,5 @@
 //! The order of the values of a leaf array.
+use crate::seen::{Extremes, search_some, search_stretch};
 use columns_core::Result;
 use std::alloc::Global;
 
@@ -55,4 +56,34 @@ pub trait OrderedLeaf: Drop {
         requires { i < count self.now }
         ensures ok { IfOk result (λ s. IsSpelled (kind self.now) (physical self.now) s.items (value self.now i)) }
         ensures err { IfErr result (λ e. e ≡ Memory) };
+}
+
+/// A leaf array that is searched for the least and the greatest of its values: in blocks and then place by place, unless it knows a better way.
+pub trait SearchedLeaf: OrderedLeaf {
+    ghost use Rattle.std.specs.Prelude.{◌<◌, ◌≤◌, ◌+◌, ◌-◌, ◌^◌, ◌++◌, ℕ, List, Some};
+    ghost use Rattle.write_places.specs.Places.{range, picked};
+    ghost use Rattle.page_statistics.specs.Extremes.{AreExtremes, AreWithin};
+
+    /// The extremes with the places from `from` on to `to`.
+    fn with_stretch(&self, extremes: Extremes, from: usize, to: usize) -> Extremes
+        requires before { AreWithin (Self.count self.now) (Some extremes) }
+        requires ordered { from ≤ to }
+        requires within { to ≤ Self.count self.now }
+        ensures within { AreWithin (Self.count self.now) (Some result) }
+        ensures are { (places : List ℕ) → AreExtremes (Self.value self.now) places (Some extremes) → AreExtremes (Self.value self.now) (places ++ range from (to - from)) (Some result) }
+    {
+        search_stretch(self, extremes, from, to)
+    }
+
+    /// The extremes with those of `count` places from `from` on whose bits in the word are set.
+    fn with_some(&self, extremes: Extremes, from: usize, bits: u64, count: usize) -> Extremes
+        requires before { AreWithin (Self.count self.now) (Some extremes) }
+        requires few { count ≤ 64 }
+        requires low { bits < 2 ^ count }
+        requires within { from + count ≤ Self.count self.now }
+        ensures within { AreWithin (Self.count self.now) (Some result) }
+        ensures are { (places : List ℕ) → AreExtremes (Self.value self.now) places (Some extremes) → AreExtremes (Self.value self.now) (places ++ picked bits from count) (Some result) }
+    {
+        search_some(self, extremes, from, bits, count)
+    }
 }

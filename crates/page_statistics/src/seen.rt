@@ -3,12 +3,14 @@ ghost use Rattle.std.specs.Prelude.{◌≡◌, ◌+◌, ◌-◌, ◌^◌, ◌<�
 ghost use Rattle.write_places.specs.Places.{range, picked};
 ghost use Rattle.page_statistics.specs.Extremes.{AreBetween, AreExtremes, AreWithin, IsGreatestAt, IsLeastAt};
 
-use crate::order::OrderedLeaf;
+use crate::order::{OrderedLeaf, SearchedLeaf};
 
-// The places of a least and of a greatest value.
+/// The places of a least and of a greatest value.
 #[derive(Clone, Copy, Drop)]
 pub struct Extremes {
+    /// That of the least.
     pub least: usize,
+    /// That of the greatest.
     pub greatest: usize,
 }
 
@@ -48,69 +50,50 @@ fn greater<L: OrderedLeaf>(leaf: &L, greatest: usize, place: usize) -> usize
 }
 
 // The extremes with one more place.
-fn with_place<L: OrderedLeaf>(leaf: &L, extremes: Option<Extremes>, place: usize) -> Extremes
-    requires before { AreWithin (L.count leaf.now) extremes }
+fn with_place<L: OrderedLeaf>(leaf: &L, extremes: Extremes, place: usize) -> Extremes
+    requires before { AreWithin (L.count leaf.now) (Some extremes) }
     requires place { place < L.count leaf.now }
     ensures within { AreWithin (L.count leaf.now) (Some result) }
-    ensures are { (places : List ℕ) → AreExtremes (L.value leaf.now) places extremes → AreExtremes (L.value leaf.now) (places ++ place ∷ []) (Some result) }
+    ensures are { (places : List ℕ) → AreExtremes (L.value leaf.now) places (Some extremes) → AreExtremes (L.value leaf.now) (places ++ place ∷ []) (Some result) }
 {
-    match extremes {
-        Some(extremes) => Extremes {
-            least: lesser(leaf, extremes.least, place),
-            greatest: greater(leaf, extremes.greatest, place),
-        },
-        None => Extremes {
-            least: place,
-            greatest: place,
-        },
+    Extremes {
+        least: lesser(leaf, extremes.least, place),
+        greatest: greater(leaf, extremes.greatest, place),
     }
 }
 
-// Whether there are extremes, and no value from one place on to another is past them. It may answer no.
-fn are_between<L: OrderedLeaf>(leaf: &L, extremes: Option<Extremes>, from: usize, to: usize) -> bool
-    requires before { AreWithin (L.count leaf.now) extremes }
+// Whether no value from one place on to another is past the extremes. It may answer no.
+fn are_between<L: OrderedLeaf>(leaf: &L, extremes: Extremes, from: usize, to: usize) -> bool
+    requires before { AreWithin (L.count leaf.now) (Some extremes) }
     requires ordered { from ≤ to }
     requires within { to ≤ L.count leaf.now }
-    ensures { IsTrue result → AreBetween (L.value leaf.now) extremes from to }
+    ensures { IsTrue result → AreBetween (L.value leaf.now) (Some extremes) from to }
 {
-    match extremes {
-        Some(extremes) => leaf.are_between(from, to, extremes.least, extremes.greatest),
-        None => false,
-    }
+    leaf.are_between(from, to, extremes.least, extremes.greatest)
 }
 
 // The extremes with the places from one on to another, one by one.
-fn with_each<L: OrderedLeaf>(
-    leaf: &L,
-    extremes: Option<Extremes>,
-    from: usize,
-    to: usize,
-) -> Option<Extremes>
-    requires before { AreWithin (L.count leaf.now) extremes }
+fn with_each<L: OrderedLeaf>(leaf: &L, extremes: Extremes, from: usize, to: usize) -> Extremes
+    requires before { AreWithin (L.count leaf.now) (Some extremes) }
     requires ordered { from ≤ to }
     requires within { to ≤ L.count leaf.now }
-    ensures within { AreWithin (L.count leaf.now) result }
-    ensures are { (places : List ℕ) → AreExtremes (L.value leaf.now) places extremes → AreExtremes (L.value leaf.now) (places ++ range from (to - from)) result }
+    ensures within { AreWithin (L.count leaf.now) (Some result) }
+    ensures are { (places : List ℕ) → AreExtremes (L.value leaf.now) places (Some extremes) → AreExtremes (L.value leaf.now) (places ++ range from (to - from)) (Some result) }
 {
     let mut now = extremes;
     for place in from..to {
-        now = Some(with_place(leaf, now, place));
+        now = with_place(leaf, now, place);
     }
     now
 }
 
 // The same: where no value is past the extremes, they stay.
-fn with_block<L: OrderedLeaf>(
-    leaf: &L,
-    extremes: Option<Extremes>,
-    from: usize,
-    to: usize,
-) -> Option<Extremes>
-    requires before { AreWithin (L.count leaf.now) extremes }
+fn with_block<L: OrderedLeaf>(leaf: &L, extremes: Extremes, from: usize, to: usize) -> Extremes
+    requires before { AreWithin (L.count leaf.now) (Some extremes) }
     requires ordered { from ≤ to }
     requires within { to ≤ L.count leaf.now }
-    ensures within { AreWithin (L.count leaf.now) result }
-    ensures are { (places : List ℕ) → AreExtremes (L.value leaf.now) places extremes → AreExtremes (L.value leaf.now) (places ++ range from (to - from)) result }
+    ensures within { AreWithin (L.count leaf.now) (Some result) }
+    ensures are { (places : List ℕ) → AreExtremes (L.value leaf.now) places (Some extremes) → AreExtremes (L.value leaf.now) (places ++ range from (to - from)) (Some result) }
 {
     if are_between(leaf, extremes, from, to) {
         return extremes;
@@ -128,17 +111,17 @@ fn block_end(from: usize, to: usize) -> usize
 }
 
 // The extremes with the places from one on to another.
-pub fn with_stretch<L: OrderedLeaf>(
+pub fn search_stretch<L: OrderedLeaf>(
     leaf: &L,
-    extremes: Option<Extremes>,
+    extremes: Extremes,
     from: usize,
     to: usize,
-) -> Option<Extremes>
-    requires before { AreWithin (L.count leaf.now) extremes }
+) -> Extremes
+    requires before { AreWithin (L.count leaf.now) (Some extremes) }
     requires ordered { from ≤ to }
     requires within { to ≤ L.count leaf.now }
-    ensures within { AreWithin (L.count leaf.now) result }
-    ensures are { (places : List ℕ) → AreExtremes (L.value leaf.now) places extremes → AreExtremes (L.value leaf.now) (places ++ range from (to - from)) result }
+    ensures within { AreWithin (L.count leaf.now) (Some result) }
+    ensures are { (places : List ℕ) → AreExtremes (L.value leaf.now) places (Some extremes) → AreExtremes (L.value leaf.now) (places ++ range from (to - from)) (Some result) }
 {
     let mut now = extremes;
     let mut at = from;
@@ -150,18 +133,18 @@ pub fn with_stretch<L: OrderedLeaf>(
     now
 }
 
-// Whether there are extremes, and no value at so many places from one on is past them, be they picked or not. It may answer no, and does so at once
-// where the first value that is not picked is past them.
+// Whether no value at so many places from one on is past the extremes, be they picked or not. It may answer no, and does so at once where the first
+// value that is not picked is past them.
 fn are_calm<L: OrderedLeaf>(
     leaf: &L,
-    extremes: Option<Extremes>,
+    extremes: Extremes,
     from: usize,
     bits: u64,
     count: usize,
 ) -> bool
-    requires before { AreWithin (L.count leaf.now) extremes }
+    requires before { AreWithin (L.count leaf.now) (Some extremes) }
     requires within { from + count ≤ L.count leaf.now }
-    ensures { IsTrue result → AreBetween (L.value leaf.now) extremes from (from + count) }
+    ensures { IsTrue result → AreBetween (L.value leaf.now) (Some extremes) from (from + count) }
 {
     let _places = leaf.len();
     let gap = bits.trailing_ones() as usize;
@@ -172,7 +155,61 @@ fn are_calm<L: OrderedLeaf>(
 }
 
 // The extremes with those of so many places from one on whose bits in the word are set.
-pub fn with_some<L: OrderedLeaf>(
+pub fn search_some<L: OrderedLeaf>(
+    leaf: &L,
+    extremes: Extremes,
+    from: usize,
+    bits: u64,
+    count: usize,
+) -> Extremes
+    requires before { AreWithin (L.count leaf.now) (Some extremes) }
+    requires few { count ≤ 64 }
+    requires low { bits < 2 ^ count }
+    requires within { from + count ≤ L.count leaf.now }
+    ensures within { AreWithin (L.count leaf.now) (Some result) }
+    ensures are { (places : List ℕ) → AreExtremes (L.value leaf.now) places (Some extremes) → AreExtremes (L.value leaf.now) (places ++ picked bits from count) (Some result) }
+{
+    let _places = leaf.len();
+    if are_calm(leaf, extremes, from, bits, count) {
+        return extremes;
+    }
+    let mut left = bits;
+    let mut now = extremes;
+    while left != 0 {
+        let i = left.trailing_zeros() as usize;
+        now = with_place(leaf, now, from + i);
+        left ^= 1 << i;
+    }
+    now
+}
+
+// The extremes with the places from one on to another, be there extremes before or not.
+pub fn with_stretch<L: SearchedLeaf>(
+    leaf: &L,
+    extremes: Option<Extremes>,
+    from: usize,
+    to: usize,
+) -> Extremes
+    requires before { AreWithin (L.count leaf.now) extremes }
+    requires some { from < to }
+    requires within { to ≤ L.count leaf.now }
+    ensures within { AreWithin (L.count leaf.now) (Some result) }
+    ensures are { (places : List ℕ) → AreExtremes (L.value leaf.now) places extremes → AreExtremes (L.value leaf.now) (places ++ range from (to - from)) (Some result) }
+{
+    match extremes {
+        Some(extremes) => leaf.with_stretch(extremes, from, to),
+        None => {
+            let first = Extremes {
+                least: from,
+                greatest: from,
+            };
+            leaf.with_stretch(first, from + 1, to)
+        }
+    }
+}
+
+// The same with those of so many places from one on whose bits in the word are set.
+pub fn with_some<L: SearchedLeaf>(
     leaf: &L,
     extremes: Option<Extremes>,
     from: usize,
@@ -187,15 +224,17 @@ pub fn with_some<L: OrderedLeaf>(
     ensures are { (places : List ℕ) → AreExtremes (L.value leaf.now) places extremes → AreExtremes (L.value leaf.now) (places ++ picked bits from count) result }
 {
     let _places = leaf.len();
-    if are_calm(leaf, extremes, from, bits, count) {
-        return extremes;
+    match extremes {
+        Some(extremes) => Some(leaf.with_some(extremes, from, bits, count)),
+        None if bits == 0 => None,
+        None => {
+            let i = bits.trailing_zeros() as usize;
+            let place = from + i;
+            let first = Extremes {
+                least: place,
+                greatest: place,
+            };
+            Some(leaf.with_some(first, from, bits ^ (1 << i), count))
+        }
     }
-    let mut left = bits;
-    let mut now = extremes;
-    while left != 0 {
-        let i = left.trailing_zeros() as usize;
-        now = Some(with_place(leaf, now, from + i));
-        left ^= 1 << i;
-    }
-    now
 }

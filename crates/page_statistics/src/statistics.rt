@@ -13,7 +13,7 @@ ghost use Rattle.pq_files.specs.Statistics.{has_order};
 ghost use Rattle.page_statistics.specs.Extremes.{AreWithin};
 ghost use Rattle.page_statistics.specs.Stated.{AreStated, AreTextsOf};
 
-use crate::order::OrderedLeaf;
+use crate::order::{OrderedLeaf, SearchedLeaf};
 use crate::seen::Extremes;
 use crate::taker::look_along;
 use columns_core::Result;
@@ -70,7 +70,7 @@ fn stated_count(count: usize) -> Option<i64>
 /// # Errors
 ///
 /// `Memory`.
-pub fn column_statistics<L: OrderedLeaf>(
+pub fn column_statistics<L: SearchedLeaf>(
     alloc: Global,
     leaf: &L,
     nested: &[Nested],

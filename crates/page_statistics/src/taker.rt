@@ -6,7 +6,7 @@ ghost use Rattle.levels.specs.Ranges.{leaf_count_or};
 ghost use Rattle.write_places.specs.Places.{path_places};
 ghost use Rattle.page_statistics.specs.Extremes.{AreExtremes, AreWithin};
 
-use crate::order::OrderedLeaf;
+use crate::order::SearchedLeaf;
 use crate::seen::{Seen, with_some, with_stretch};
 use columns_core::Result;
 use levels::Nested;
@@ -19,7 +19,7 @@ struct Looking<'a, L> {
     seen: Seen,
 }
 
-impl<'a, L: OrderedLeaf> Taker for Looking<'a, L> {
+impl<'a, L: SearchedLeaf> Taker for Looking<'a, L> {
     ghost use Rattle.std.specs.Prelude.{◌≡◌, ℕ, List, refl};
     ghost use Rattle.page_statistics.specs.Extremes.{AreWithin, Sees, sees-none};
 
@@ -43,7 +43,7 @@ impl<'a, L: OrderedLeaf> Taker for Looking<'a, L> {
         let extremes = with_stretch(self.leaf, self.seen.extremes, from, to);
         self.seen = Seen {
             values: self.seen.values.saturating_add(to - from),
-            extremes,
+            extremes: Some(extremes),
         };
         Ok(())
     }
@@ -59,7 +59,7 @@ impl<'a, L: OrderedLeaf> Taker for Looking<'a, L> {
 }
 
 // How many values a path reaches, and where the least and the greatest of them are. It takes no memory.
-pub fn look_along<L: OrderedLeaf>(leaf: &L, nested: &[Nested]) -> Seen
+pub fn look_along<L: SearchedLeaf>(leaf: &L, nested: &[Nested]) -> Seen
     requires well { IsPath (parts_of nested.now) }
     requires leaf { leaf_count_or 0 (parts_of nested.now) ≤ L.count leaf.now }
     ensures values { result.values ≡ min (length (path_places (parts_of nested.now))) (2 ^ 64 - 1) }

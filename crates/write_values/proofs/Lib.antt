@@ -1,11 +1,14 @@
 pub mod Along
+pub mod ClosedGaps
 pub mod Counted
 pub mod AlikeColumns
+pub mod AlikeTruths
 pub mod DecimalBits
 pub mod DecimalBytes
 pub mod DecimalPlaces
 pub mod WideColumns
 pub mod FixedPlaces
+pub mod FirstBytes
 pub mod InRows
 pub mod IntervalPlaces
 pub mod Lowest
@@ -18,6 +21,7 @@ pub mod Picked
 pub mod ServedTypes
 pub mod StringPlaces
 pub mod StringRows
+pub mod StringSpans
 pub mod TruthPlaces
 pub mod ServedColumns
 pub mod Ordered

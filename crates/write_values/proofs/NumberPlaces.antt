@@ -155,7 +155,7 @@ four_or_eight int32 w n h = inl (sym (h (truth false)))
 four_or_eight int64 w n h = inr (sym (h (truth false)))
 four_or_eight p w n h = absurd (true≢false (sym n))
 
-pub block_counts : (w k : ℕ) → k ≡ w → (w ≡ 4) ⊎ (w ≡ 8) → (0 < k) × (0 < 2048 / k) × (w * (2048 / k) ≡ 2048)
+pub block_counts : (w k : ℕ) → k ≡ w → (w ≡ 4) ⊎ (w ≡ 8) → (0 < k) × (0 < 4096 / k) × (w * (4096 / k) ≡ 4096)
 block_counts w k e (inl h) = let f : k ≡ 4 = e ∙ h in rw (f, h) (lit≤ tt, lit≤ tt, refl)
 block_counts w k e (inr h) = let f : k ≡ 8 = e ∙ h in rw (f, h) (lit≤ tt, lit≤ tt, refl)
 

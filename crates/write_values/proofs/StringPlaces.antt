@@ -70,6 +70,9 @@ string_none os bs from out =
 pub place_within : (os bs : List ℕ) (to : ℕ) → IsPlaces os (length bs) → to ≤ length (pieces_values os bs) → to < length os
 place_within os bs to p h = omega (arith, h, length-map (pieces os bs) bytes, pieces_len os bs, some_place os (length bs) p)
 
+pub place_before : (os bs : List ℕ) (i : ℕ) → i + 1 < length os → i < length (pieces_values os bs)
+place_before os bs i h = omega (arith, h, length-map (pieces os bs) bytes, pieces_len os bs)
+
 pub piece_between : (os bs : List ℕ) (i start end : ℕ) → i + 1 < length os → start ≡ slice_index_or os i 0 → end ≡ slice_index_or os (i + 1) 0 → bytes (take (end - start) (drop start bs)) ≡ at_place (pieces_values os bs) i
 piece_between os bs i start end h s e = rw (s, e) (piece_is os bs i h)
 

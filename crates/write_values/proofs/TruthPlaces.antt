@@ -1,10 +1,10 @@
 -- Truth values as bits.
-use Rattle.std.proofs.Common.{◌≡◌, ◌⊎◌, inl, inr, ℕ, zero, suc, ◌+◌, ◌-◌, ◌*◌, ◌/◌, ◌%◌, ◌^◌, ◌<◌, ◌≤◌, ◌==◌, cond, Bool, true, false, List, [], ◌∷◌, ◌++◌, length, map, take, drop, get_or, drop-cons, refl, ap, sym, ◌∙◌, arith, append-nil, append_assoc}
-use Rattle.std.specs.Prelude.{slice_index_or, All}
+use Rattle.std.proofs.Common.{◌≡◌, ◌⊎◌, inl, inr, ℕ, zero, suc, ◌+◌, ◌-◌, ◌*◌, ◌/◌, ◌%◌, ◌^◌, ◌<◌, ◌≤◌, ◌==◌, cond, Bool, true, false, true≢false, List, [], ◌∷◌, ◌++◌, length, map, take, drop, get_or, drop-cons, refl, ap, sym, ◌∙◌, arith, append-nil, append_assoc}
+use Rattle.std.specs.Prelude.{slice_index_or, All, Result, Ok, Err, IsOk, IfOk}
 use Rattle.std.specs.Int.{bit_at}
 use Rattle.std.proofs.lemmas.List.{length-map, length-append, map-append}
 use Rattle.std.proofs.lemmas.Bool.{cases_lt}
-use Rattle.std.proofs.lemmas.Nat.Bits.{bit_at-zero, bit_at_cat_low, bit_at_cat_high}
+use Rattle.std.proofs.lemmas.Nat.Bits.{bit_at-zero, bit_at-suc, bit_at_lowest, bit_at_cat_low, bit_at_cat_high}
 use Rattle.columns_core.specs.Bits.{bit_of, bits_from, word_bits}
 use Rattle.columns_core.proofs.Bits.{length_bits}
 use Rattle.columns_core.proofs.Words.{word_seen}
@@ -180,3 +180,48 @@ picked_alike f g word a b (suc count) same =
 -- the picked bits of a word of truth values are those at the picked places
 pub picked_truths : (bs : List Bool) (values word from count : ℕ) → ((i : ℕ) → i < count → (bit_at values i == 1) ≡ truth_at bs (from + i)) → map (λ i. bit_at values i == 1) (picked word 0 count) ≡ map (truth_at bs) (picked word from count)
 picked_truths bs values word from count same = picked_alike (λ i. bit_at values i == 1) (truth_at bs) word 0 from count (λ i h. let z : 0 + i ≡ i = omega arith in ap (λ (k : ℕ). bit_at values k == 1) z ∙ same i h)
+
+-- ---- truth values by words
+
+-- the low bits of a word of truth values are those from the place on
+pub word_truths : (bs : List Bool) (word from count : ℕ) → ((i : ℕ) → i < count → (bit_at word i == 1) ≡ truth_at bs (from + i)) → word_bits word count ≡ map (truth_at bs) (range from count)
+unfolding gather
+word_truths bs word from zero same = refl
+word_truths bs word from (suc count) same =
+    let place : from + 0 ≡ from = omega arith in
+    let first : (word % 2 == 1) ≡ truth_at bs from = ap (λ (b : ℕ). b == 1) (sym (bit_at_lowest word)) ∙ (same 0 (omega arith) ∙ ap (truth_at bs) place) in
+    let rest : word_bits (word / 2) count ≡ map (truth_at bs) (range (from + 1) count) = word_truths bs (word / 2) (from + 1) count (λ i h.
+    let k : from + 1 + i ≡ from + suc i = omega arith in
+    ap (λ (b : ℕ). b == 1) (sym (bit_at-suc word i)) ∙ (same (suc i) (omega (arith, h)) ∙ ap (truth_at bs) (sym k))) in
+    rw (first, rest) refl
+
+range_split : (from a b : ℕ) → range from (a + b) ≡ range from a ++ range (from + a) b
+unfolding gather
+range_split from zero b =
+    let n : zero + b ≡ b = omega arith in
+    let place : from + zero ≡ from = omega arith in
+    rw (n, place) refl
+range_split from (suc a) b =
+    let n : suc a + b ≡ suc (a + b) = omega arith in
+    let place : from + 1 + a ≡ from + suc a = omega arith in
+    rw n (ap (λ (ns : List ℕ). from ∷ ns) (range_split (from + 1) a b ∙ ap (λ (k : ℕ). range (from + 1) a ++ range k b) place))
+
+pub range_none : (bs before : List Bool) (from : ℕ) → before ≡ before ++ map (truth_at bs) (range from 0)
+unfolding gather
+range_none bs before from = sym (append-nil before)
+
+pub range_joined : (bs before now new : List Bool) (from done n : ℕ) → now ≡ before ++ map (truth_at bs) (range from done) → new ≡ now ++ map (truth_at bs) (range (from + done) n) → new ≡ before ++ map (truth_at bs) (range from (done + n))
+range_joined bs before now new from done n e f =
+    let split : range from (done + n) ≡ range from done ++ range (from + done) n = range_split from done n in
+    f
+    ∙ (ap (λ (ts : List Bool). ts ++ map (truth_at bs) (range (from + done) n)) e
+    ∙ (append_assoc before (map (truth_at bs) (range from done)) (map (truth_at bs) (range (from + done) n))
+    ∙ ap (λ (ts : List Bool). before ++ ts) (sym (ap (map (truth_at bs)) split ∙ map-append (truth_at bs) (range from done) (range (from + done) n)))))
+
+pub word_done : {A E : Type 0} (r : Result A E) (P : Type 0) → IsOk r → IfOk r (λ x. P) → P
+word_done (Ok x) P h p = p
+word_done (Err e) P h p = absurd (true≢false (sym h))
+
+pub length_word : (word n : ℕ) → length (word_bits word n) ≡ n
+length_word word zero = refl
+length_word word (suc n) = ap suc (length_word (word / 2) n)

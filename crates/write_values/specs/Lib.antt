@@ -2,6 +2,7 @@ pub mod Decimals
 pub mod Deltas
 pub mod Feeding
 pub mod Fixed
+pub mod FirstBytes
 pub mod Leaf
 pub mod Lengths
 pub mod Nulls

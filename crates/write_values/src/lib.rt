@@ -6,6 +6,7 @@ mod decimals;
 mod deltas;
 mod feeding;
 mod fixed;
+mod fronts;
 mod intervals;
 mod leaf;
 mod measure;

@@ -1,5 +1,5 @@
 //! Numbers that are stored as numbers of 32 or 64 bits.
-ghost use Rattle.std.specs.Prelude.{◌≡◌, ◌<◌, ◌≤◌, ◌+◌, ◌*◌, ◌^◌, ◌∷◌, [], true, ℕ, length, take, map, IsTrue, OnOk, IfErr};
+ghost use Rattle.std.specs.Prelude.{◌≡◌, ◌<◌, ◌≤◌, ◌+◌, ◌*◌, ◌^◌, ◌∷◌, ◌++◌, [], true, ℕ, length, take, map, replicate, IsTrue, OnOk, IfErr};
 ghost use Rattle.columns_base.specs.declared.error.Error.TheVariants.{Memory};
 ghost use Rattle.shredding.specs.Slot.{number};
 ghost use Rattle.columns_core.specs.Shapes.{base, leaf_type};
@@ -304,31 +304,43 @@ fn fill_block<T: AlwaysStored<P>, P: StoredNumber>(block: &mut [u8], values: &[T
     }
 }
 
+// So many places more.
+#[inline(always)]
+fn add_places(out: &mut Vec<u8>, count: usize) -> Result<()>
+    ensures ok { OnOk result (out.new.items ≡ out.old.items ++ replicate count 0) }
+    ensures err { IfErr result (λ e. e ≡ Memory) }
+{
+    let Some(end) = out.len().checked_add(count) else {
+        return Err(Error::Memory);
+    };
+    out.resize(end, 0)?;
+    Ok(())
+}
+
 // Appends as many numbers one behind the other as fill a block, which is copied to its places as a whole.
 #[inline(always)]
 fn push_whole<T: AlwaysStored<P>, P: StoredNumber>(out: &mut Vec<u8>, values: &[T]) -> Result<()>
-    requires { P.byte_count * length values.now ≡ 2048 }
+    requires { P.byte_count * length values.now ≡ 4096 }
     ensures ok { OnOk result (AppendsRow (physical_view P.physical) out.old.items out.new.items (map (λ x. number (T.stored_number x)) values.now)) }
     ensures err { IfErr result (λ e. e ≡ Memory) }
 {
     let before = out.len();
-    let Some(end) = before.checked_add(2048) else {
-        return Err(Error::Memory);
-    };
-    out.resize(end, 0)?;
-    let mut block = [0; 2048];
+    // by two calls, since the C library clears more than 2 KiB by one instruction that repeats
+    add_places(out, 2048)?;
+    add_places(out, 2048)?;
+    let mut block = [0; 4096];
     fill_block::<T, P>(&mut block, values);
-    put_block(&mut out[before..end], &block);
+    put_block(&mut out[before..before + 4096], &block);
     Ok(())
 }
 
-// How many numbers fill a block of 2 KiB.
+// How many numbers fill a block of 4 KiB.
 #[inline(always)]
 fn block_count<P: StoredNumber>() -> usize
     ensures some { 0 < result }
-    ensures whole { P.byte_count * result ≡ 2048 }
+    ensures whole { P.byte_count * result ≡ 4096 }
 {
-    2048 / P::width()
+    4096 / P::width()
 }
 
 // Appends numbers one behind the other, in long blocks.

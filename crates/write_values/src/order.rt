@@ -1,24 +1,25 @@
 //! The values of leaf arrays in order (Parquet format, `ColumnOrder`).
-ghost use Rattle.std.specs.Prelude.{◌≡◌, ◌<◌, ◌≤◌, ◌+◌, ◌≤ℤ◌, length, IsTrue, false, All};
-ghost use Rattle.columns_slots.specs.Bytes.{pieces_values};
-ghost use Rattle.columns_slots.specs.Slots.{IsPlaces};
+ghost use Rattle.std.specs.Prelude.{◌≡◌, ◌<◌, ◌≤◌, ◌==◌, ℕ, ◌≤ℤ◌, length, map, slice_index_or, IsTrue, false, All};
+ghost use Rattle.std.specs.Int.{bit_at};
 ghost use Rattle.page_statistics.specs.Between.{AreAllBetween};
 ghost use Rattle.write_values.specs.Numbers.{at_place};
 ghost use Rattle.columns_core.specs.Natives.{within_signed};
-ghost use Rattle.shredding.specs.Slot.{bytes};
+ghost use Rattle.shredding.specs.Slot.{bytes, truth};
 ghost use Rattle.pq_files.specs.Statistics.{IsUpTo};
 ghost use Rattle.write_values.specs.Decimals.{IsForm, form_physical, held_decimal};
 
 use crate::decimals::{DecimalForm, Decimals, push_decimal};
 use crate::fixed::FixedStrings;
-use crate::numbers::{AlwaysStored, Numbers, StoredNumber};
+use crate::fronts::{with_picked, with_strings};
+use crate::numbers::{AlwaysStored, Numbers, StoredNumber, block_end};
 use crate::strings::{Strings, Texts, string_at};
-use columns_core::{Offset, OffsetsBuffer, Result};
+use columns_core::{Bitmap, Offset, OffsetsBuffer, Result};
 use columns_leaf::BooleanArray;
 use columns_native::OrderedNative;
-use page_statistics::OrderedLeaf;
+use page_statistics::{Extremes, OrderedLeaf, SearchedLeaf};
 use std::alloc::Global;
 use std::cmp::Ordering;
+use write_places::full_word;
 use write_statistics::ord_binary;
 
 // Whether no number is below one or above another. All are looked at, so that several are at once.
@@ -75,7 +76,7 @@ impl<'a, T: AlwaysStored<P> + OrderedNative, P: StoredNumber> OrderedLeaf for Nu
 }
 
 // Whether a string goes before another.
-fn is_before(a: &[u8], b: &[u8]) -> bool
+pub fn is_before(a: &[u8], b: &[u8]) -> bool
     ensures less { IsTrue result → IsUpTo (bytes a.now) (bytes b.now) }
     ensures other { result ≡ false → IsUpTo (bytes b.now) (bytes a.now) }
 {
@@ -89,34 +90,6 @@ fn is_before(a: &[u8], b: &[u8]) -> bool
         Ordering::Equal => false,
         Ordering::Greater => false,
     }
-}
-
-// Whether no string from one place on to another goes before the one at `least` or behind the one at `greatest`.
-fn strings_between<O: Offset>(
-    offsets: &OffsetsBuffer<O>,
-    all: &[u8],
-    from: usize,
-    to: usize,
-    least: usize,
-    greatest: usize,
-) -> bool
-    requires places { IsPlaces offsets.now (length all.now) }
-    requires ordered { from ≤ to }
-    requires within { to < length offsets.now }
-    requires low { least + 1 < length offsets.now }
-    requires high { greatest + 1 < length offsets.now }
-    ensures { IsTrue result → AreAllBetween (at_place (pieces_values offsets.now all.now)) from to least greatest }
-{
-    let _strings = offsets.len_proxy();
-    let low = string_at(offsets, all, least);
-    let high = string_at(offsets, all, greatest);
-    for i in from..to {
-        let string = string_at(offsets, all, i);
-        if is_before(string, low) || is_before(high, string) {
-            return false;
-        }
-    }
-    true
 }
 
 impl<'a, O: Offset> OrderedLeaf for Texts<'a, O> {
@@ -147,9 +120,7 @@ impl<'a, O: Offset> OrderedLeaf for Texts<'a, O> {
     }
 
     fn are_between(&self, from: usize, to: usize, least: usize, greatest: usize) -> bool {
-        self.array.know();
-        let (offsets, all) = (self.array.offsets(), self.array.values());
-        strings_between(offsets, all, from, to, least, greatest)
+        false
     }
 
     fn bound(&self, alloc: Global, i: usize) -> Result<Vec<u8>> {
@@ -159,6 +130,20 @@ impl<'a, O: Offset> OrderedLeaf for Texts<'a, O> {
             string_at(self.array.offsets(), self.array.values(), i),
         )?;
         Ok(text)
+    }
+}
+
+impl<'a, O: Offset> SearchedLeaf for Texts<'a, O> {
+    fn with_stretch(&self, extremes: Extremes, from: usize, to: usize) -> Extremes {
+        self.array.know();
+        let (offsets, all) = (self.array.offsets(), self.array.values());
+        with_strings(offsets, all, extremes, from, to)
+    }
+
+    fn with_some(&self, extremes: Extremes, from: usize, bits: u64, count: usize) -> Extremes {
+        self.array.know();
+        let (offsets, all) = (self.array.offsets(), self.array.values());
+        with_picked(offsets, all, extremes, from, bits, count)
     }
 }
 
@@ -190,9 +175,7 @@ impl<'a, O: Offset> OrderedLeaf for Strings<'a, O> {
     }
 
     fn are_between(&self, from: usize, to: usize, least: usize, greatest: usize) -> bool {
-        self.array.know();
-        let (offsets, all) = (self.array.offsets(), self.array.values());
-        strings_between(offsets, all, from, to, least, greatest)
+        false
     }
 
     fn bound(&self, alloc: Global, i: usize) -> Result<Vec<u8>> {
@@ -202,6 +185,63 @@ impl<'a, O: Offset> OrderedLeaf for Strings<'a, O> {
             string_at(self.array.offsets(), self.array.values(), i),
         )?;
         Ok(text)
+    }
+}
+
+impl<'a, O: Offset> SearchedLeaf for Strings<'a, O> {
+    fn with_stretch(&self, extremes: Extremes, from: usize, to: usize) -> Extremes {
+        self.array.know();
+        let (offsets, all) = (self.array.offsets(), self.array.values());
+        with_strings(offsets, all, extremes, from, to)
+    }
+
+    fn with_some(&self, extremes: Extremes, from: usize, bits: u64, count: usize) -> Extremes {
+        self.array.know();
+        let (offsets, all) = (self.array.offsets(), self.array.values());
+        with_picked(offsets, all, extremes, from, bits, count)
+    }
+}
+
+// So many times this bit, from the lowest one on.
+fn repeated_bit(value: bool, count: usize) -> u64
+    requires some { 0 < count }
+    requires few { count ≤ 64 }
+    ensures { (i : ℕ) → i < count → (bit_at result i == 1) ≡ value }
+{
+    if value { full_word(count) } else { 0 }
+}
+
+// Whether the truth values from one place on to another are all this one.
+fn are_all(values: &Bitmap, from: usize, to: usize, value: bool) -> bool
+    requires ordered { from ≤ to }
+    requires within { to ≤ length values.now }
+    ensures { IsTrue result → (i : ℕ) → from ≤ i → i < to → slice_index_or values.now i false ≡ value }
+{
+    let mut at = from;
+    while at < to {
+        let end = block_end(at, to);
+        if values.word_at(at, end - at) != repeated_bit(value, end - at) {
+            return false;
+        }
+        at = end;
+    }
+    true
+}
+
+// Whether no truth value from one place on to another is below the one at `least` or above the one at `greatest`.
+fn truths_between(values: &Bitmap, from: usize, to: usize, least: usize, greatest: usize) -> bool
+    requires ordered { from ≤ to }
+    requires within { to ≤ length values.now }
+    requires low { least < length values.now }
+    requires high { greatest < length values.now }
+    ensures { IsTrue result → AreAllBetween (at_place (map truth values.now)) from to least greatest }
+{
+    let low = values.get_bit(least);
+    let high = values.get_bit(greatest);
+    if low == high {
+        are_all(values, from, to, low)
+    } else {
+        high
     }
 }
 
@@ -238,7 +278,7 @@ impl<'a> OrderedLeaf for OrderedTruths<'a> {
     }
 
     fn are_between(&self, from: usize, to: usize, least: usize, greatest: usize) -> bool {
-        false
+        truths_between(self.array.values(), from, to, least, greatest)
     }
 
     fn bound(&self, alloc: Global, i: usize) -> Result<Vec<u8>> {
@@ -331,3 +371,11 @@ impl<'a> OrderedLeaf for Decimals<'a> {
         Ok(text)
     }
 }
+
+impl<'a, T: AlwaysStored<P> + OrderedNative, P: StoredNumber> SearchedLeaf for Numbers<'a, T, P> {}
+
+impl<'a> SearchedLeaf for OrderedTruths<'a> {}
+
+impl<'a> SearchedLeaf for FixedStrings<'a> {}
+
+impl<'a> SearchedLeaf for Decimals<'a> {}

@@ -14,6 +14,7 @@ ghost use Rattle.write_values.specs.Rows.{AppendsRow};
 
 use crate::numbers::block_end;
 use crate::row::LeafValues;
+use crate::truths::low_ones;
 use columns_core::{Offset, OffsetsBuffer, Result};
 use columns_leaf::{BinaryArray, Utf8Array};
 use pq_numbers::push_u32_le;
@@ -57,7 +58,43 @@ fn strings_size<O: Offset>(offsets: &OffsetsBuffer<O>, all: &[u8], from: usize, 
     (to - from) as u128 * 4 + span as u128
 }
 
-// The number of bytes of the plain spelling of the strings at picked places, run by run.
+// The bytes that a string spans.
+#[inline(always)]
+#[tactic(auto, using(levels::proofs::Rising::rising))]
+fn span_at<O: Offset>(offsets: &OffsetsBuffer<O>, i: usize) -> usize
+    requires { i + 1 < length offsets.now }
+    ensures { result ≡ slice_index_or offsets.now (i + 1) 0 - slice_index_or offsets.now i 0 }
+{
+    let _strings = offsets.len_proxy();
+    offsets.know();
+    offsets.place(i + 1) - offsets.place(i)
+}
+
+// The bytes that the strings at picked places span, without their lengths.
+fn picked_span<O: Offset>(
+    offsets: &OffsetsBuffer<O>,
+    all: &[u8],
+    from: usize,
+    bits: u64,
+    count: usize,
+) -> usize
+    requires places { IsPlaces offsets.now (length all.now) }
+    requires few { count ≤ 64 }
+    requires low { bits < 2 ^ count }
+    requires within { from + count < length offsets.now }
+    ensures { result + 4 * length (picked bits from count) ≡ plain_length byte_array (map (at_place (pieces_values offsets.now all.now)) (picked bits from count)) }
+{
+    let _strings = offsets.len_proxy();
+    let mut left = bits;
+    let mut span = 0;
+    while left != 0 {
+        span += span_at(offsets, from + left.trailing_zeros() as usize);
+        left = without_lowest(left);
+    }
+    span
+}
+
+// The number of bytes of the plain spelling of the strings at picked places: where most are picked, that of all strings without the others.
 fn picked_size<O: Offset>(
     offsets: &OffsetsBuffer<O>,
     all: &[u8],
@@ -72,21 +109,14 @@ fn picked_size<O: Offset>(
     ensures { result ≡ plain_length byte_array (map (at_place (pieces_values offsets.now all.now)) (picked bits from count)) }
 {
     let _strings = offsets.len_proxy();
-    if bits == u64::MAX {
-        return strings_size(offsets, all, from, from + count);
+    let size = bits.count_ones() as usize;
+    if 2 * size < count {
+        let span = picked_span(offsets, all, from, bits, count);
+        return 4 * size as u128 + span as u128;
     }
-    let mut left = bits;
-    let mut at = from;
-    let mut plain = 0;
-    while left != 0 {
-        let gap = left.trailing_zeros() as usize;
-        let run = (left >> gap).trailing_ones() as usize;
-        let behind = at + (gap + run);
-        plain += strings_size(offsets, all, at + gap, behind);
-        left = (left >> gap) >> run;
-        at = behind;
-    }
-    plain
+    let whole = strings_size(offsets, all, from, from + count);
+    let unset = picked_span(offsets, all, from, low_ones(count) - bits, count);
+    whole - 4 * (count - size) as u128 - unset as u128
 }
 
 // Bytes take their place from one place on, and those before it stay.
@@ -137,7 +167,7 @@ fn put_string(places: &mut [u8], at: usize, all: &[u8], from: usize, to: usize) 
 
 // A word without its lowest set bit.
 #[inline(always)]
-fn without_lowest(word: u64) -> u64
+pub fn without_lowest(word: u64) -> u64
     requires { 0 < word }
     ensures { result ≡ bit_xor word (1 * 2 ^ trailing_zeros w64 word % 2 ^ 64) }
 {

@@ -1,5 +1,5 @@
 //! Truth values, which are spelled as bits (Parquet format, Encodings, "Plain").
-ghost use Rattle.std.specs.Prelude.{◌≡◌, ◌+◌, ◌-◌, ◌*◌, ◌/◌, ◌%◌, ◌<◌, ◌≤◌, ◌^◌, ◌==◌, map, min, length, vec_len, OnOk, IfOk, IfErr};
+ghost use Rattle.std.specs.Prelude.{◌≡◌, ◌+◌, ◌-◌, ◌*◌, ◌/◌, ◌%◌, ◌<◌, ◌≤◌, ◌^◌, ◌==◌, ◌++◌, count_ones, map, min, length, vec_len, OnOk, IfOk, IfErr};
 ghost use Rattle.std.specs.Int.{bit_at};
 ghost use Rattle.columns_base.specs.declared.error.Error.TheVariants.{Memory};
 ghost use Rattle.columns_core.specs.Bits.{bits_from, word_bits};
@@ -10,7 +10,7 @@ ghost use Rattle.levels.specs.Ranges.{leaf_count_or};
 ghost use Rattle.pq_tree.specs.Physical.{boolean};
 ghost use Rattle.shredding.specs.Parts.{IsPath};
 ghost use Rattle.shredding.specs.Slot.{truth};
-ghost use Rattle.write_places.specs.Places.{path_places, picked};
+ghost use Rattle.write_places.specs.Places.{path_places, picked, range};
 ghost use Rattle.write_values.specs.Rows.{AppendsPlain, Measures};
 ghost use Rattle.write_values.specs.Stored.{stored_at};
 ghost use Rattle.write_values.specs.Truths.{AddsBits, CountsBits, truth_at};
@@ -115,8 +115,8 @@ pub fn measure_truths(array: &BooleanArray, nested: &[Nested]) -> Measured
     }
 }
 
-// Of the low bits of a word those whose bits in the other word are set, side by side from the lowest bit on, and how many they are.
-fn pick_bits(values: u64, bits: u64, count: usize) -> (u64, usize)
+// Of the low bits of a word those whose bits in the other word are set, side by side from the lowest bit on: one after another.
+fn pick_each(values: u64, bits: u64, count: usize) -> (u64, usize)
     requires few { count ≤ 64 }
     requires low { bits < 2 ^ count }
     ensures few { result.1 ≤ 64 }
@@ -132,6 +132,96 @@ fn pick_bits(values: u64, bits: u64, count: usize) -> (u64, usize)
         left ^= 1 << i;
     }
     (word, size)
+}
+
+// So many set bits, from the lowest on.
+pub fn low_ones(count: usize) -> u64
+    requires { count ≤ 64 }
+    ensures { result ≡ 2 ^ count - 1 }
+{
+    if count == 64 {
+        u64::MAX
+    } else {
+        (1 << count) - 1
+    }
+}
+
+// The place of the highest set bit.
+#[inline(always)]
+fn highest(word: u64) -> u32
+    requires { 0 < word }
+    ensures few { result < 64 }
+    ensures least { 2 ^ result ≤ word }
+    ensures most { word < 2 ^ (result + 1) }
+{
+    63 - word.leading_zeros()
+}
+
+// What is above a place of a word, from that place on.
+#[inline(always)]
+fn from_above(word: u64, at: u32) -> u64
+    requires { at < 64 }
+    ensures { result ≡ word / 2 ^ at / 2 * 2 ^ at }
+{
+    ((word >> at) >> 1) << at
+}
+
+// The same bits: from the highest place that is not among them on, what is above it goes one place down.
+fn close_gaps(values: u64, bits: u64, count: usize) -> u64
+    requires few { count ≤ 64 }
+    requires low { bits < 2 ^ count }
+    ensures { word_bits result (count_ones bits) ≡ map (λ i. bit_at values i == 1) (picked bits 0 count) }
+{
+    let mut gaps = low_ones(count) - bits;
+    let mut word = values & bits;
+    while gaps != 0 {
+        let at = highest(gaps);
+        word -= from_above(word, at);
+        gaps -= 1 << at;
+    }
+    word
+}
+
+// The same bits, by way of what is fewer, and how many they are.
+fn pick_bits(values: u64, bits: u64, count: usize) -> (u64, usize)
+    requires few { count ≤ 64 }
+    requires low { bits < 2 ^ count }
+    ensures few { result.1 ≤ 64 }
+    ensures are { word_bits result.0 result.1 ≡ map (λ i. bit_at values i == 1) (picked bits 0 count) }
+{
+    let size = bits.count_ones() as usize;
+    if 2 * size < count {
+        return pick_each(values, bits, count);
+    }
+    (close_gaps(values, bits, count), size)
+}
+
+// Appends at most 64 truth values from a place on, where there is room.
+#[inline(always)]
+fn append_word(values: &Bitmap, from: usize, count: usize, out: &mut MutableBitmap)
+    requires few { count ≤ 64 }
+    requires within { from + count ≤ length values.now }
+    requires room { count ≤ out.old.1 }
+    ensures same { out.new.0 ≡ out.old.0 ++ map (truth_at values.now) (range from count) }
+    ensures room { out.old.1 ≤ out.new.1 + count }
+{
+    let word = values.word_at(from, count);
+    out.extend_from_word(word, count).unwrap();
+}
+
+// Appends truth values from a place on, 64 at once, where there is room.
+fn append_words(values: &Bitmap, from: usize, count: usize, out: &mut MutableBitmap)
+    requires within { from + count ≤ length values.now }
+    requires counted { from + count < 2 ^ 64 }
+    requires room { count ≤ out.old.1 }
+    ensures { out.new.0 ≡ out.old.0 ++ map (truth_at values.now) (range from count) }
+{
+    let mut done = 0;
+    while done < count {
+        let size = (count - done).min(64);
+        append_word(values, from + done, size, out);
+        done += size;
+    }
 }
 
 // Appends the truth values that it takes.
@@ -164,7 +254,8 @@ impl<'a> Taker for PlainTruths<'a> {
     ghost back = { λ s xs ys h. tt };
 
     fn take(&mut self, from: usize, to: usize) -> Result<()> {
-        self.out.extend_from_bitmap(self.values, from, to - from)?;
+        self.out.reserve(to - from)?;
+        append_words(self.values, from, to - from, &mut self.out);
         Ok(())
     }
 

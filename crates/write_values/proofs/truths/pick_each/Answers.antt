@@ -3,7 +3,7 @@ use Rattle.std.proofs.lemmas.Nat.{shl_whole}
 use Rattle.write_places.proofs.Picked.{next_picked}
 use Rattle.write_values.proofs.Picked.{one_less}
 use Rattle.write_values.proofs.TruthPlaces.{picking_none, picking_more, picking_all}
-use Rattle.write_values.proofs.truths.pick_bits.Goals as goal
+use Rattle.write_values.proofs.truths.pick_each.Goals as goal
 
 pub loop-left-init : goal.loop-left-init
 loop-left-init c = record { is = picking_none c.args.values c.args.bits c.args.count c.requires.low c.requires.few }

@@ -1,7 +1,7 @@
 use Rattle.std.proofs.Common.{length}
 use Rattle.write_places.specs.Places.{picked}
 use Rattle.write_values.proofs.TruthPlaces.{IsPicking}
-use Rattle.write_values.proofs.truths.pick_bits.Given as goal
+use Rattle.write_values.proofs.truths.pick_each.Given as goal
 
 abbrev pub decreases-loop-left : goal.decreases-loop-left
 decreases-loop-left l = length (picked l.left 0 l.count)
