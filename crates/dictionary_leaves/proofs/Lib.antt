@@ -5,7 +5,6 @@ pub mod KeyPieces
 pub mod Arrays
 pub mod NextPiece
 pub mod Unmade
-pub mod Chunks
 pub mod Opening
 pub mod Opened
 pub mod FirstPage

@@ -36,11 +36,12 @@ fn plain_state(alloc: Global) -> Result<NestedState>
 // So many values, which stand plain at the front of the body.
 fn decode<L: LeafReader>(alloc: Global, leaf: &L, body: &[u8], count: usize) -> Result<L::Values>
     ensures ok { IfOk result (λ v. AreDecoded (λ text. L.stored leaf.now text 0) count body.now (L.slots v)) }
+    ensures suits { IfOk result (λ v. L.suits leaf.now (L.width v)) }
     ensures err { IfErr result (λ e. CannotDecodeAll (λ text. L.stored leaf.now text 0) L.byte_limit count body.now e) }
 {
     let mut page = plain_pairs(count)?;
     let mut nested = plain_state(alloc)?;
-    let mut values = L::begin(alloc)?;
+    let mut values = leaf.begin(alloc)?;
     let mut bytes = PlainBytes {
         values: body,
         bit: 0,
@@ -95,12 +96,12 @@ pub fn entry_array<L: LeafArray>(
     count: usize,
     data_type: DataType,
 ) -> Result<ArrayBox>
-    requires { L.makes (base (type_view data_type)) ≡ true }
+    requires { L.makes leaf.now (base (type_view data_type)) ≡ true }
     ensures ok { IfOk result (λ a. HasEntries (λ text. L.stored leaf.now text 0) count body.now (type_view data_type) (boxed a)) }
     ensures err { IfErr result (λ e. (e ≡ Memory) ⊎ CannotEnter (λ text. L.stored leaf.now text 0) L.byte_limit count body.now e) }
 {
     match decode(alloc, leaf, body, count) {
-        Ok(values) => L::into_array(alloc, values, data_type),
+        Ok(values) => leaf.into_array(alloc, values, data_type),
         Err(error) => Err(entry_error(alloc, leaf, body, count, error)),
     }
 }

@@ -63,13 +63,14 @@ pub struct KeyRows<I: Pages> {
 
 impl<I: Pages> KeyRows<I> {
     // The reader of the column of keys of this type.
-    fn read<L: LeafReader>(self, key: IntegerType) -> Result<ColumnReader<KeyPages<I>, L>>
+    fn read<L: LeafReader>(self, leaf: &L, key: IntegerType) -> Result<ColumnReader<KeyPages<I>, L>>
         ensures reads { (o : ColumnOpening) (stored : List ℕ → List Stored) (limit : ℕ) → IsReadable o stored limit → o.leaf.physical ≡ key_physical key → o.outcomes ≡ keyed_from self.pages.lent (page_shown self.pages.keys) (I.outcomes self.pages.pages) → IsWay self.nested.items (thin o.column.way) → o.rows ≡ self.num_rows → o.chunk_size ≡ self.chunk_size → IfOk result (λ r. IsReading stored limit o [] r) }
         ensures foreseen { (o : ColumnOpening) (stored : List ℕ → List Stored) (limit : ℕ) (others : List Outcome) → IsReadable o stored limit → o.leaf.physical ≡ key_physical key → o.outcomes ≡ foreseen (keyed_from self.pages.lent (page_shown self.pages.keys) (I.outcomes self.pages.pages)) others → IsWay self.nested.items (thin o.column.way) → o.rows ≡ self.num_rows → o.chunk_size ≡ self.chunk_size → IfOk result (λ r. IsReading stored limit o [] (foreseeing others r)) }
         ensures err { IfErr result (λ e. e ≡ Memory) }
     {
         ColumnReader::new(
             self.alloc,
+            leaf,
             self.pages,
             stored_as(key),
             self.nested,
@@ -110,14 +111,14 @@ impl<I: Pages> KeyColumn<I> {
         ensures err { IfErr result (λ e. e ≡ Memory) }
     {
         Ok(match key {
-            IntegerType::Int8 => KeyColumn::Int8(rows.read(key)?),
-            IntegerType::Int16 => KeyColumn::Int16(rows.read(key)?),
-            IntegerType::Int32 => KeyColumn::Int32(rows.read(key)?),
-            IntegerType::Int64 => KeyColumn::Int64(rows.read(key)?),
-            IntegerType::UInt8 => KeyColumn::UInt8(rows.read(key)?),
-            IntegerType::UInt16 => KeyColumn::UInt16(rows.read(key)?),
-            IntegerType::UInt32 => KeyColumn::UInt32(rows.read(key)?),
-            IntegerType::UInt64 => KeyColumn::UInt64(rows.read(key)?),
+            IntegerType::Int8 => KeyColumn::Int8(rows.read(&Numbers::new(), key)?),
+            IntegerType::Int16 => KeyColumn::Int16(rows.read(&Numbers::new(), key)?),
+            IntegerType::Int32 => KeyColumn::Int32(rows.read(&Numbers::new(), key)?),
+            IntegerType::Int64 => KeyColumn::Int64(rows.read(&Numbers::new(), key)?),
+            IntegerType::UInt8 => KeyColumn::UInt8(rows.read(&Numbers::new(), key)?),
+            IntegerType::UInt16 => KeyColumn::UInt16(rows.read(&Numbers::new(), key)?),
+            IntegerType::UInt32 => KeyColumn::UInt32(rows.read(&Numbers::new(), key)?),
+            IntegerType::UInt64 => KeyColumn::UInt64(rows.read(&Numbers::new(), key)?),
         })
     }
 

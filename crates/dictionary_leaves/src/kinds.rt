@@ -55,7 +55,6 @@ fn fixed_entries<T: FixedValue + NumberBox>(
 }
 
 // Entries that are byte strings of so many bytes each.
-#[tactic(auto, using(crate::proofs::Chunks::chunks_made))]
 fn chunk_entries(
     alloc: Global,
     size: usize,

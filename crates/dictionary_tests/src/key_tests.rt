@@ -84,7 +84,15 @@ fn reader(
         keys: key_page(alloc, IntegerType::UInt8, if few { 1 } else { 3 })?,
         lent: Lent::Ahead,
     };
-    ColumnReader::new(alloc, source, PhysicalType::Int32, parts, None, rows)
+    ColumnReader::new(
+        alloc,
+        &Numbers::new(),
+        source,
+        PhysicalType::Int32,
+        parts,
+        None,
+        rows,
+    )
 }
 
 // The one piece has these keys, 0 in the place of nulls, and so many nulls.

@@ -44,7 +44,7 @@ const NUMBERS: &[u8] = &[1, 0, 0, 0, 5, 0, 0, 0, 0, 0, 0, 0, 255, 255, 255, 255]
 fn numbers(alloc: Global) -> Result<NumberValues<i8>> {
     let mut nested = init_nested(alloc, &[InitNested::Primitive(false)], 0)?;
     let leaf = Numbers::<i8, i32>::new();
-    let mut values = Numbers::<i8, i32>::begin(alloc)?;
+    let mut values = leaf.begin(alloc)?;
     let mut page = NestedPage::try_new(&[], 0, &[], 0, 4)?;
     let mut bytes = PlainBytes {
         values: NUMBERS,

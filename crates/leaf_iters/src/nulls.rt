@@ -110,7 +110,7 @@ fn array_of(alloc: Global, data_type: &DataType, count: usize) -> Option<Result<
         Ok(data_type) => data_type,
         Err(error) => return Some(Err(error)),
     };
-    Some(Nulls::into_array(alloc, NullValues { count }, data_type))
+    Some(Nulls.into_array(alloc, NullValues { count }, data_type))
 }
 
 /// The iterator over arrays of nulls of this type, whose base is Null: as many nulls as the data pages have values, at most `num_rows`. With a chunk size

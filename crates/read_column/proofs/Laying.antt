@@ -5,22 +5,16 @@ use Rattle.std.specs.List.{AllZip}
 use Rattle.std.proofs.lemmas.Bool.{le-leb, lt-leb}
 use Rattle.pq_runs.specs.Hybrid.{Item as Index, given, hybrid}
 use Rattle.read_column.specs.Dictionary.{IsLaid, StopsAt, Texts, all_of, indices_in}
-
-pub record IsLaidTo (texts : Texts) (items items' : List Index) (values : List ℕ) : Type 0 where
-  pub indices : List ℕ
-  pub read : items ≡ given indices ++ items'
-  pub parts : Texts
-  pub are : AllZip (λ n t. slice_get texts n ≡ Some t) indices parts
-  pub spelled : values ≡ all_of parts
+use Rattle.read_column.specs.Lookups.{IsLaidTo}
 
 pub laid-none : (texts : Texts) (items : List Index) → IsLaidTo texts items items []
 laid-none texts items = record { indices = []; read = refl; parts = []; are = tt; spelled = refl }
 
-all-push : (xs : Texts) (x : List ℕ) → all_of (xs ++ x ∷ []) ≡ all_of xs ++ x
+pub all-push : (xs : Texts) (x : List ℕ) → all_of (xs ++ x ∷ []) ≡ all_of xs ++ x
 all-push [] x = append-nil x
 all-push (y ∷ xs) x = ap (λ (s : List ℕ). y ++ s) (all-push xs x) ∙ sym (append_assoc y (all_of xs) x)
 
-zip-push : {A B : Type 0} (R : A → B → Type 0) (xs : List A) (ys : List B) (x : A) (y : B) → AllZip R xs ys → R x y → AllZip R (xs ++ x ∷ []) (ys ++ y ∷ [])
+pub zip-push : {A B : Type 0} (R : A → B → Type 0) (xs : List A) (ys : List B) (x : A) (y : B) → AllZip R xs ys → R x y → AllZip R (xs ++ x ∷ []) (ys ++ y ∷ [])
 zip-push R [] [] x y a r = (r, tt)
 zip-push R [] (b ∷ ys) x y a r = absurd a
 zip-push R (b ∷ xs) [] x y a r = absurd a

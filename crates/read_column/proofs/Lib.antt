@@ -10,6 +10,7 @@ pub mod Present
 pub mod Turned
 pub mod Values
 pub mod Placing
+pub mod Gathering
 pub mod Laying
 pub mod Pairs
 pub mod CanRead
@@ -21,3 +22,4 @@ pub mod Refused
 pub mod Readings
 pub mod Entered
 pub mod Futures
+pub mod Suited

@@ -75,8 +75,8 @@ count-none (Primitive n ∷ parts) = refl
 count-none (ListOf n ∷ parts) = refl
 count-none (Struct n ∷ parts) = refl
 
-begins-open : (parts : List InitNested) (n : Option ℕ) (rows : ℕ) → IsOpen (begun_queue parts n rows)
-begins-open parts n rows = elim (cases_lt 0 (piece_size n rows)) [
+begins-open : (width : ℕ) (parts : List InitNested) (n : Option ℕ) (rows : ℕ) → IsOpen (begun_queue width parts n rows)
+begins-open width parts n rows = elim (cases_lt 0 (piece_size n rows)) [
   | inl some ↦ inr (omega (arith, some, count-none parts))
   | inr none ↦ inl (omega (arith, none))
 ]
@@ -104,10 +104,10 @@ pages-given l es (gives_page p levels ∷ os) (q ∷ ps) a = All-cons IsGiven (g
 pages-given l es (gives_dictionary n body ∷ os) ps a = absurd a
 pages-given l es (fails e ∷ os) ps a = absurd a
 
-pub begins-reading : (stored : List ℕ → List Stored) (limit : ℕ) (o : ColumnOpening) (parts : List InitNested) (outcomes : List Outcome) (k : Deltas) → IsReadable o stored limit → o.outcomes ≡ outcomes → IsWay parts (thin o.column.way) → k ≡ deltas_in (is_alone o.column.way) o.leaf.physical → IsReading stored limit o [] (reading outcomes (means None k) (begun_queue parts o.chunk_size o.rows) false)
-begins-reading stored limit o parts outcomes k r e way deltas = record {
+pub begins-reading : (width : ℕ) (stored : List ℕ → List Stored) (limit : ℕ) (o : ColumnOpening) (parts : List InitNested) (outcomes : List Outcome) (k : Deltas) → IsReadable o stored limit → o.outcomes ≡ outcomes → IsWay parts (thin o.column.way) → k ≡ deltas_in (is_alone o.column.way) o.leaf.physical → IsReading stored limit o [] (reading outcomes (means None k) (begun_queue width parts o.chunk_size o.rows) false)
+begins-reading width stored limit o parts outcomes k r e way deltas = record {
   readable = r;
-  queue = begun_queue parts o.chunk_size o.rows;
+  queue = begun_queue width parts o.chunk_size o.rows;
   has = refl;
   chunk = refl;
   middle = o.rows;
@@ -127,7 +127,7 @@ begins-reading stored limit o parts outcomes k r e way deltas = record {
     most = omega arith;
     begins = tt;
   };
-  wants = begins-open parts o.chunk_size o.rows;
+  wants = begins-open width parts o.chunk_size o.rows;
   taken = [];
   outcomes = e;
   entries = None;
@@ -387,9 +387,12 @@ pub steps-on : (stored : List ℕ → List Stored) (limit : ℕ) (o : ColumnOpen
 steps-on stored limit o pieces true q os d began e s = s
 steps-on stored limit o pieces false q os d began e s = absurd (cc e)
 
-pub begun-some : (parts : List InitNested) (o : Option Waiting) (q : Waiting) → ends_in_leaf parts ≡ true → MatchOption o (ends_in_leaf parts ≡ false) (λ x. x ≡ q) → o ≡ Some q
-begun-some parts None q e m = absurd (let h = sym e ∙ m in cc)
-begun-some parts (Some x) q e m = ap Some m
+pub begun-some : (parts : List InitNested) (n : Option ℕ) (rows : ℕ) (o : Option Waiting) → ends_in_leaf parts ≡ true → MatchOption o (ends_in_leaf parts ≡ false) (λ x. x ≡ begun_queue x.width parts n rows) → (width : ℕ) × (o ≡ Some (begun_queue width parts n rows))
+begun-some parts n rows None e m = absurd (let h = sym e ∙ m in cc)
+begun-some parts n rows (Some x) e m = (x.width, ap Some m)
+
+pub begins-queued : (width : ℕ) (stored : List ℕ → List Stored) (limit : ℕ) (o : ColumnOpening) (parts : List InitNested) (outcomes : List Outcome) (k : Deltas) (n : Option ℕ) (rows : ℕ) (queue : Option Waiting) → queue ≡ Some (begun_queue width parts n rows) → IsReadable o stored limit → o.outcomes ≡ outcomes → IsWay parts (thin o.column.way) → k ≡ deltas_in (is_alone o.column.way) o.leaf.physical → o.rows ≡ rows → o.chunk_size ≡ n → IsReading stored limit o [] (record { outcomes = outcomes; means = means None k; queue = queue; began = false })
+begins-queued width stored limit o parts outcomes k n rows queue begun readable given way deltas r size = subst (λ (q : Option Waiting). IsReading stored limit o [] (record { outcomes = outcomes; means = means None k; queue = q; began = false })) (sym begun) (rw (← r, ← size) (begins-reading width stored limit o parts outcomes k readable given way deltas))
 
 pub nothing-more : (stored : List ℕ → List Stored) (limit : ℕ) (o : ColumnOpening) (pieces : List (List Triple)) (os : List Outcome) (d : Means) (q : Waiting) (b : Bool) → IsFilled stored limit o pieces q os d b → q.whole ≡ [] → IsWhole o pieces
 nothing-more stored limit o pieces os d q b f w = elim f.full [

@@ -7,4 +7,5 @@ pub mod Taken
 pub mod Dictionary
 pub mod Entries
 pub mod Laid
+pub mod Lookups
 pub mod Foreseen

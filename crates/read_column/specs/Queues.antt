@@ -1,5 +1,6 @@
 -- What contracts see of the pieces that are read but not given yet.
-use Rattle.std.specs.Prelude.{◌≡◌, ℕ, ◌+◌, ◌-◌, ◌^◌, ◌<◌, ◌≤◌, Bool, true, false, Option, List, [], ◌∷◌, ◌++◌, map, length}
+use Rattle.std.specs.Prelude.{◌≡◌, ℕ, ◌+◌, ◌-◌, ◌^◌, ◌<◌, ◌≤◌, Bool, true, false, Option, Some, Result, Ok, List, [], ◌∷◌, ◌++◌, map, length}
+use Rattle.columns_base.specs.declared.error.Error.{Error}
 use Rattle.shredding.specs.Slot.{Slot}
 use Rattle.pq_headline.specs.Openings.{piece_size}
 use Rattle.read_laws.specs.State.{Kept, count, leaf_count, StateFits}
@@ -23,14 +24,15 @@ abbrev pub is_leaf_alone : List InitNested → Bool
 is_leaf_alone (Primitive n ∷ []) = true
 is_leaf_alone parts = false
 
--- The parts of the way, how many rows go into a piece, the whole pieces, the last one's state and leaf slots, how many rows it gets, and how many
--- are left behind it.
+-- The parts of the way, how many rows go into a piece, the whole pieces, the last one's state and leaf slots, how many bytes each value of the
+-- leaf has, where all have as many, how many rows the last piece gets, and how many are left behind it.
 pub record Waiting : Type 0 where
   pub parts : List InitNested
   pub chunk_size : Option ℕ
   pub whole : List (List Kept × List Slot)
   pub state : List Kept
   pub leaf : List Slot
+  pub width : ℕ
   pub rows : ℕ
   pub left : ℕ
 
@@ -48,8 +50,18 @@ abbrev pub rows_to_come : Waiting → ℕ
 rows_to_come q = (q.rows - count q.state) + q.left
 
 -- before the first pair
-abbrev pub begun_queue : List InitNested → Option ℕ → ℕ → Waiting
-begun_queue parts n rows = record { parts = parts; chunk_size = n; whole = []; state = map initial parts; leaf = []; rows = piece_size n rows; left = rows - piece_size n rows }
+abbrev pub begun_queue : ℕ → List InitNested → Option ℕ → ℕ → Waiting
+begun_queue width parts n rows =
+    record {
+      parts = parts;
+      chunk_size = n;
+      whole = [];
+      state = map initial parts;
+      leaf = [];
+      width = width;
+      rows = piece_size n rows;
+      left = rows - piece_size n rows;
+    }
 
 -- with the last piece among the whole ones, and another behind it
 abbrev pub closed_queue : Waiting → Waiting
@@ -60,6 +72,7 @@ closed_queue q =
       whole = q.whole ++ (q.state, q.leaf) ∷ [];
       state = map initial q.parts;
       leaf = [];
+      width = q.width;
       rows = piece_size q.chunk_size q.left;
       left = q.left - piece_size q.chunk_size q.left;
     }
@@ -68,3 +81,11 @@ closed_queue q =
 pub record ExtendsLast (q q' : Waiting) (page page' : List Item) (left left' : List Stored) : Type 0 where
   pub same : q' ≡ record q { state = q'.state; leaf = q'.leaf }
   pub extends : Extends (q.rows - count q.state) page page' left left' q.state q'.state q.leaf q'.leaf
+
+-- what waits, if anything does, has a width that suits
+abbrev pub IsSuited : (ℕ → Type 0) → Option Waiting → Type 0
+IsSuited suits queue = (q : Waiting) → queue ≡ Some q → suits q.width
+
+-- so have the values of a piece that is given, if one is
+abbrev pub GivesSuited : {K V : Type 0} → (V → Type 0) → Option (Result (K × V) Error) → Type 0
+GivesSuited {K = K} {V = V} suits item = (k : K) (v : V) → item ≡ Some (Ok (k, v)) → suits v

@@ -1,12 +1,14 @@
 //! The entries of a dictionary page.
-ghost use Rattle.std.specs.Prelude.{◌≡◌, ◌⊎◌, ◌*◌, ◌<◌, ◌≤◌, ℕ, [], true, Some, IfErr, IfOk, MatchOption, drop, length, map, slice_get, All};
+ghost use Rattle.std.specs.Prelude.{◌≡◌, ◌⊎◌, ◌*◌, ◌<◌, ◌≤◌, ℕ, [], true, Some, IfErr, IfOk, MatchOption, drop, length, map, slice_get, take, All};
 ghost use Rattle.shredding.specs.Slot.{Value};
 ghost use Rattle.columns_base.specs.declared.error.Error.TheVariants.{Memory, OutOfSpec};
 ghost use Rattle.columns_base.specs.declared.error.S.TheVariants.{S6, S7};
 ghost use Rattle.read_pieces.specs.Leaves.{BeginsOutside, IsValue, in_bytes};
 ghost use Rattle.read_column.specs.Dictionary.{CannotHold, HoldsEntries, IsPlaceIn, text_at};
 ghost use Rattle.read_column.specs.Entries.{ArePlaces};
+ghost use Rattle.read_column.specs.Lookups.{AreLaidAs};
 
+use crate::lookup::put_short;
 use columns_base::{Error, Result, S};
 use read_pieces::LeafReader;
 use std::alloc::Global;
@@ -54,6 +56,21 @@ impl Entries {
             return None;
         }
         Some(text_of(&self.body, &self.places[index]))
+    }
+
+    /// Puts the entries at the first indices one behind the other, as `put_short` does.
+    pub fn put_short(
+        &self,
+        out: &mut [u8; 1024],
+        indices: &[u64; 32],
+        count: usize,
+    ) -> (usize, usize)
+        requires few { count ≤ 32 }
+        ensures few { result.0 ≤ count }
+        ensures fits { result.1 ≤ 1024 }
+        ensures laid { AreLaidAs self.now (take result.0 indices.now) (take result.1 out.new) }
+    {
+        put_short(out, &self.body, &self.places, indices, count)
     }
 }
 

@@ -1,35 +1,177 @@
 //! Indices of a dictionary's entries.
-ghost use Rattle.std.specs.Prelude.{◌≡◌, ◌≤◌, ◌∷◌, ℕ, Ok, Some, IfErr, IfOk, MatchOption, slice_get};
+ghost use Rattle.std.specs.Prelude.{◌≡◌, ◌*◌, ◌/◌, ◌<◌, ◌≤◌, ◌∷◌, ℕ, IfErr, IfOk, IsTrue, length, min, replicate};
 ghost use Rattle.columns_base.specs.declared.error.Error.TheVariants.{Memory};
-ghost use Rattle.read_column.specs.Dictionary.{IsLaid, StopsAt, indices_in};
+ghost use Rattle.pq_numbers.specs.Texts.{number_of};
+ghost use Rattle.pq_runs.specs.Hybrid.{given, hybrid};
+ghost use Rattle.pq_runs.specs.Taking.{IsPackedRun, IsRepeatedRun};
+ghost use Rattle.read_column.specs.Dictionary.{IsLaid, indices_in};
+ghost use Rattle.read_column.specs.Lookups.{LaysRun};
 
 use crate::entries::Entries;
+use crate::lookup::{push_copies, push_packed};
 use columns_base::Result;
-use pq_runs::HybridRleDecoder;
+use pq_runs::hybrid_rle::{Decoder, Run};
 use std::alloc::Global;
 
-// The entry at the next index; none where that can't be read or is past the entries.
-fn next_entry<'a>(indices: &mut HybridRleDecoder<'_>, entries: &'a Entries) -> Option<&'a [u8]>
-    ensures { MatchOption result (StopsAt entries.now indices.old) (λ text. (n : ℕ) × (indices.old ≡ Ok n ∷ indices.new) × (slice_get entries.now n ≡ Some text.now)) }
+// The bytes of runs that are left, and how many numbers are called for.
+#[derive(Drop)]
+struct Runs<'a> {
+    bytes: &'a [u8],
+    left: usize,
+}
+
+// The number that at most four bytes spell.
+fn whole_number(value: &[u8]) -> u32
+    requires { length value.now ≤ 4 }
+    ensures { result ≡ number_of value.now }
 {
-    match indices.next() {
-        Some(Ok(index)) => entries.get(index as usize),
-        Some(Err(_)) => None,
-        None => None,
+    match value {
+        [a, b, c, d] => u32::from_le_bytes([*a, *b, *c, *d]),
+        [a, b, c] => u32::from_le_bytes([*a, *b, *c, 0]),
+        [a, b] => u32::from_le_bytes([*a, *b, 0, 0]),
+        [a] => u32::from(*a),
+        _ => 0,
     }
 }
 
-// The entries at the indices, one behind the other.
-fn laid_entries(alloc: Global, entries: &Entries, indices: HybridRleDecoder<'_>) -> Result<Vec<u8>>
-    ensures ok { IfOk result (λ values. IsLaid entries.now indices.entry values.items) }
+// How many packed numbers stand in the bytes, of those that are called for.
+fn standing(body: &[u8], width: u32, left: usize) -> usize
+    requires { 0 < width }
+    ensures { result ≡ min left (8 * length body.now / width) }
+{
+    let all = 8 * body.len() as u128 / u128::from(width);
+    if all < left as u128 {
+        all as usize
+    } else {
+        left
+    }
+}
+
+// Appends the entries at the copies of an index that are called for. Gives whether there are such.
+fn take_copies<'a>(
+    values: &mut Vec<u8>,
+    entries: &Entries,
+    runs: &mut Runs<'a>,
+    width: u32,
+    value: &[u8],
+    count: usize,
+    rest: &'a [u8],
+) -> Result<bool>
+    requires some { 0 < runs.old.left }
+    requires fits { width ≤ 32 }
+    requires run { IsRepeatedRun width runs.old.bytes.now value.now count rest.now }
+    ensures ok { IfOk result (λ all. LaysRun entries.now all width runs.old.left runs.old.bytes.now runs.new.left runs.new.bytes.now values.old.items values.new.items) }
+    ensures rest { runs.new.bytes.now ≡ rest.now }
     ensures err { IfErr result (λ e. e ≡ Memory) }
 {
-    let mut indices = indices;
+    let count = count.min(runs.left);
+    runs.bytes = rest;
+    runs.left -= count;
+    push_copies(values, entries, whole_number(value), count)
+}
+
+// Appends the entries at the packed indices that are called for, up to the first that is past the entries. Gives whether all were appended.
+fn take_packed<'a>(
+    values: &mut Vec<u8>,
+    entries: &Entries,
+    runs: &mut Runs<'a>,
+    width: u32,
+    body: &[u8],
+    rest: &'a [u8],
+) -> Result<bool>
+    requires some { 0 < runs.old.left }
+    requires wide { 0 < width }
+    requires fits { width ≤ 32 }
+    requires run { IsPackedRun width runs.old.bytes.now body.now rest.now }
+    ensures ok { IfOk result (λ all. LaysRun entries.now all width runs.old.left runs.old.bytes.now runs.new.left runs.new.bytes.now values.old.items values.new.items) }
+    ensures rest { runs.new.bytes.now ≡ rest.now }
+    ensures err { IfErr result (λ e. e ≡ Memory) }
+{
+    let count = standing(body, width, runs.left);
+    runs.bytes = rest;
+    runs.left -= count;
+    push_packed(values, entries, body, width, count)
+}
+
+// Appends the entries at the indices of the run at the front that are called for. Gives whether there is a run, and all of these are indices of entries.
+fn take_run(
+    values: &mut Vec<u8>,
+    entries: &Entries,
+    runs: &mut Runs<'_>,
+    width: u32,
+) -> Result<bool>
+    requires some { 0 < runs.old.left }
+    requires wide { 0 < width }
+    requires fits { width ≤ 32 }
+    ensures ok { IfOk result (λ all. LaysRun entries.now all width runs.old.left runs.old.bytes.now runs.new.left runs.new.bytes.now values.old.items values.new.items) }
+    ensures shorter { IfOk result (λ all. IsTrue all → length runs.new.bytes.now < length runs.old.bytes.now) }
+    ensures err { IfErr result (λ e. e ≡ Memory) }
+{
+    let mut decoder = Decoder::new(runs.bytes, width);
+    match decoder.next() {
+        Some(Ok(Run::Repeated(value, count))) => {
+            take_copies(values, entries, runs, width, value, count, decoder.values)
+        }
+        Some(Ok(Run::Packed(body))) => {
+            take_packed(values, entries, runs, width, body, decoder.values)
+        }
+        Some(Err(_)) => Ok(false),
+        None => Ok(false),
+    }
+}
+
+// The entries at the indices of some runs, one behind the other.
+fn laid_runs(
+    alloc: Global,
+    entries: &Entries,
+    bytes: &[u8],
+    width: u32,
+    count: usize,
+) -> Result<Vec<u8>>
+    requires wide { 0 < width }
+    requires fits { width ≤ 32 }
+    ensures ok { IfOk result (λ values. IsLaid entries.now (hybrid width count bytes.now) values.items) }
+    ensures err { IfErr result (λ e. e ≡ Memory) }
+{
     let mut values = Vec::new(alloc);
-    'indices: while let Some(text) = next_entry(&mut indices, entries) {
-        values.extend_from_slice(text)?;
+    let mut runs = Runs { bytes, left: count };
+    'runs: while runs.left > 0 {
+        let all = take_run(&mut values, entries, &mut runs, width)?;
+        if !all {
+            return Ok(values);
+        }
     }
     Ok(values)
+}
+
+// So many copies of the first entry, if there is one.
+fn laid_copies(alloc: Global, entries: &Entries, count: usize) -> Result<Vec<u8>>
+    ensures ok { IfOk result (λ values. IsLaid entries.now (given (replicate count 0)) values.items) }
+    ensures err { IfErr result (λ e. e ≡ Memory) }
+{
+    let mut values = Vec::new(alloc);
+    push_copies(&mut values, entries, 0, count)?;
+    Ok(values)
+}
+
+// The entries at so many indices of this width, as far as they can be read and are those of entries.
+fn laid_indices(
+    alloc: Global,
+    entries: &Entries,
+    width: u8,
+    runs: &[u8],
+    count: usize,
+) -> Result<Vec<u8>>
+    ensures ok { IfOk result (λ values. IsLaid entries.now (indices_in count (width ∷ runs.now)) values.items) }
+    ensures err { IfErr result (λ e. e ≡ Memory) }
+{
+    if width > 32 {
+        return Ok(Vec::new(alloc));
+    }
+    if width == 0 {
+        return laid_copies(alloc, entries, count);
+    }
+    laid_runs(alloc, entries, runs, u32::from(width), count)
 }
 
 /// The entries at the indices of a section, one behind the other: of as many as the page has values, as far as the indices can be read and are
@@ -47,11 +189,8 @@ pub fn plain_values(
     ensures ok { IfOk result (λ values. IsLaid entries.now (indices_in count section.now) values.items) }
     ensures err { IfErr result (λ e. e ≡ Memory) }
 {
-    let Some((width, runs)) = section.split_first() else {
-        return Ok(Vec::new(alloc));
-    };
-    match HybridRleDecoder::try_new(runs, u32::from(*width), count) {
-        Ok(indices) => laid_entries(alloc, entries, indices),
-        Err(_) => Ok(Vec::new(alloc)),
+    match section {
+        [] => Ok(Vec::new(alloc)),
+        [width, runs @ ..] => laid_indices(alloc, entries, *width, runs, count),
     }
 }

@@ -5,6 +5,7 @@ mod deltas;
 mod encoding;
 mod entries;
 mod indices;
+mod lookup;
 mod page;
 mod parts;
 mod queue;

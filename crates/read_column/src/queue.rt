@@ -5,7 +5,7 @@ ghost use Rattle.pq_headline.specs.Openings.{piece_size};
 ghost use Rattle.read_laws.specs.State.{count};
 ghost use Rattle.read_walk.specs.Walk.{Refuses};
 ghost use Rattle.read_state.specs.Initial.{initial};
-ghost use Rattle.read_column.specs.Queues.{begun_queue, closed_queue, ends_in_leaf, rows_to_come, ExtendsLast};
+ghost use Rattle.read_column.specs.Queues.{begun_queue, closed_queue, ends_in_leaf, rows_to_come, ExtendsLast, IsSuited};
 
 use crate::parts::is_way;
 use columns_base::Result;
@@ -34,7 +34,7 @@ pub struct Queue<L: LeafReader> {
 }
 
 impl<L: LeafReader> Model for Queue<L> {
-    ghost use Rattle.std.specs.Prelude.{map};
+    ghost use Rattle.std.specs.Prelude.{◌≡◌, map, All};
     ghost use Rattle.read_column.specs.Queues.{Waiting, IsSound};
     ghost use Rattle.std.specs.Coded.{codes};
     ghost use Rattle.read_column.specs.SlotCode.{slot_code};
@@ -43,9 +43,9 @@ impl<L: LeafReader> Model for Queue<L> {
 
     ghost coded = { Prim.hlevel (codes, slot_code) };
 
-    ghost view = { λ q. record { parts = q.parts.items; chunk_size = q.chunk_size; whole = map (λ p. (p.0, L.slots p.1)) q.whole.items; state = q.nested; leaf = L.slots q.values; rows = q.rows; left = q.left } };
+    ghost view = { λ q. record { parts = q.parts.items; chunk_size = q.chunk_size; whole = map (λ p. (p.0, L.slots p.1)) q.whole.items; state = q.nested; leaf = L.slots q.values; width = L.width q.values; rows = q.rows; left = q.left } };
 
-    ghost invariant = { λ q. IsSound q.parts.items q.nested (L.slots q.values) q.rows q.left };
+    ghost invariant = { λ q. IsSound q.parts.items q.nested (L.slots q.values) q.rows q.left × All (λ p. L.width p.1 ≡ L.width q.values) q.whole.items };
 }
 
 // How many of the rows that are left go into the next piece.
@@ -62,14 +62,32 @@ fn piece_rows(chunk_size: Option<usize>, left: usize) -> usize
 // A state and values of no pair.
 fn begin<L: LeafReader>(
     alloc: Global,
+    leaf: &L,
     parts: &[InitNested],
     rows: usize,
 ) -> Result<(NestedState, L::Values)>
     ensures ok { IfOk result (λ p. (p.0 ≡ map initial parts.now) × (L.slots p.1 ≡ [])) }
+    ensures suits { IfOk result (λ p. L.suits leaf.now (L.width p.1)) }
     ensures err { IfErr result (λ e. e ≡ Memory) }
 {
     let nested = init_nested(alloc, parts, rows.min(MOST_ROOM))?;
-    let values = L::begin(alloc)?;
+    let values = leaf.begin(alloc)?;
+    Ok((nested, values))
+}
+
+// The same behind values of the same leaf.
+fn begin_behind<L: LeafReader>(
+    alloc: Global,
+    before: &L::Values,
+    parts: &[InitNested],
+    rows: usize,
+) -> Result<(NestedState, L::Values)>
+    ensures ok { IfOk result (λ p. (p.0 ≡ map initial parts.now) × (L.slots p.1 ≡ [])) }
+    ensures width { IfOk result (λ p. L.width p.1 ≡ L.width before.now) }
+    ensures err { IfErr result (λ e. e ≡ Memory) }
+{
+    let nested = init_nested(alloc, parts, rows.min(MOST_ROOM))?;
+    let values = L::begin_like(before, alloc)?;
     Ok((nested, values))
 }
 
@@ -77,18 +95,20 @@ impl<L: LeafReader> Queue<L> {
     /// No piece yet of so many rows; none at all where the parts are no way to a leaf.
     pub fn new(
         alloc: Global,
+        leaf: &L,
         parts: Vec<InitNested>,
         chunk_size: Option<usize>,
         num_rows: usize,
     ) -> Result<Option<Self>>
-        ensures ok { IfOk result (λ o. MatchOption o (ends_in_leaf parts.items ≡ false) (λ q. q ≡ begun_queue parts.items chunk_size num_rows)) }
+        ensures ok { IfOk result (λ o. MatchOption o (ends_in_leaf parts.items ≡ false) (λ q. q ≡ begun_queue q.width parts.items chunk_size num_rows)) }
+        ensures suits { IfOk result (λ o. IsSuited (L.suits leaf.now) o) }
         ensures err { IfErr result (λ e. e ≡ Memory) }
     {
         if !is_way(&parts) {
             return Ok(None);
         }
         let rows = piece_rows(chunk_size, num_rows);
-        let (nested, values) = begin::<L>(alloc, &parts, rows)?;
+        let (nested, values) = begin(alloc, leaf, &parts, rows)?;
         Ok(Some(Queue {
             alloc,
             parts,
@@ -140,6 +160,7 @@ impl<L: LeafReader> Queue<L> {
         page: &mut NestedPage<'a>,
         bytes: &mut PlainBytes<'b>,
     ) -> Result<Self>
+        requires suits { L.suits leaf.now self.width }
         ensures ok { IfOk result (λ q. ExtendsLast self q page.old page.new (L.stored leaf.now bytes.old.values.now bytes.old.bit) (L.stored leaf.now bytes.new.values.now bytes.new.bit)) }
         ensures err { IfErr result (Refuses L.byte_limit (self.rows - count self.state) page.old (L.stored leaf.now bytes.old.values.now bytes.old.bit) self.state self.leaf) }
     {
@@ -189,7 +210,7 @@ impl<L: LeafReader> Queue<L> {
             left,
         } = self;
         let rows = piece_rows(chunk_size, left);
-        let next = begin::<L>(alloc, &parts, rows)?;
+        let next = begin_behind::<L>(alloc, &values, &parts, rows)?;
         whole.push_back((nested, values))?;
         Ok(Queue {
             alloc,
@@ -205,7 +226,7 @@ impl<L: LeafReader> Queue<L> {
 
     /// The first whole piece.
     pub fn pop(&mut self) -> Option<(NestedState, L::Values)>
-        ensures { MatchOption result ((self.old.whole ≡ []) × (self.new ≡ self.old)) (λ p. self.old ≡ record self.new { whole = (p.0, L.slots p.1) ∷ self.new.whole }) }
+        ensures { MatchOption result ((self.old.whole ≡ []) × (self.new ≡ self.old)) (λ p. (self.old ≡ record self.new { whole = (p.0, L.slots p.1) ∷ self.new.whole }) × (L.width p.1 ≡ self.old.width)) }
     {
         self.whole.pop_front()
     }

@@ -12,6 +12,7 @@ ghost use Rattle.read_walk.specs.Values.{Stored};
 ghost use Rattle.read_column.specs.Dictionary.{CannotHold, HoldsEntries, Texts, means};
 ghost use Rattle.pq_pages.specs.Outcomes.{Outcome};
 ghost use Rattle.read_column.specs.Foreseen.{FollowsGiven, GivesForeseen, SourceFails, foreseeing, foreseen};
+ghost use Rattle.read_column.specs.Queues.{GivesSuited, IsSuited};
 ghost use Rattle.read_column.specs.Reading.{IsFilled, IsReading, Steps, reading};
 
 use crate::deltas::{Deltas, deltas_of};
@@ -103,10 +104,12 @@ fn take_next<I: Pages, L: LeafReader>(
     began: &mut bool,
     queue: Queue<L>,
 ) -> Result<(Queue<L>, bool)>
+    requires suits { L.suits leaf.now queue.width }
     ensures ok { (o : ColumnOpening) (pieces : List (List Triple)) (others : List Outcome) → IsReading (λ text. L.stored leaf.now text 0) L.byte_limit o pieces (reading (foreseen (I.outcomes pages.old) others) (means entries.old deltas) queue began.old) → IfOk result (λ x. Steps (λ text. L.stored leaf.now text 0) L.byte_limit o pieces x.1 x.0 (foreseen (I.outcomes pages.new) others) (means entries.new deltas) began.new) }
     ensures less { IfOk result (λ x. IsTrue x.1 → length (I.outcomes pages.new) < length (I.outcomes pages.old)) }
     ensures behind { IfOk result (λ x. FollowsGiven (I.outcomes pages.old) (I.outcomes pages.new)) }
     ensures err { (o : ColumnOpening) (pieces : List (List Triple)) (others : List Outcome) → IsReading (λ text. L.stored leaf.now text 0) L.byte_limit o pieces (reading (foreseen (I.outcomes pages.old) others) (means entries.old deltas) queue began.old) → IfErr result (λ e. SourceFails e (I.outcomes pages.old) ⊎ RefusesPiece o e) }
+    ensures suits { IfOk result (λ x. L.suits leaf.now x.0.width) }
 {
     items_are_counted();
     match pages.advance_shown() {
@@ -141,9 +144,11 @@ fn fill<I: Pages, L: LeafReader>(
     began: &mut bool,
     queue: Queue<L>,
 ) -> Result<Queue<L>>
+    requires suits { L.suits leaf.now queue.width }
     ensures ok { (o : ColumnOpening) (pieces : List (List Triple)) (others : List Outcome) → IsReading (λ text. L.stored leaf.now text 0) L.byte_limit o pieces (reading (foreseen (I.outcomes pages.old) others) (means entries.old deltas) queue began.old) → IfOk result (λ q. IsFilled (λ text. L.stored leaf.now text 0) L.byte_limit o pieces q (foreseen (I.outcomes pages.new) others) (means entries.new deltas) began.new) }
     ensures behind { IfOk result (λ q. FollowsGiven (I.outcomes pages.old) (I.outcomes pages.new)) }
     ensures err { (o : ColumnOpening) (pieces : List (List Triple)) (others : List Outcome) → IsReading (λ text. L.stored leaf.now text 0) L.byte_limit o pieces (reading (foreseen (I.outcomes pages.old) others) (means entries.old deltas) queue began.old) → IfErr result (λ e. SourceFails e (I.outcomes pages.old) ⊎ RefusesPiece o e) }
+    ensures suits { IfOk result (λ q. L.suits leaf.now q.width) }
 {
     let mut queue = queue;
     'pages: while !queue.has_whole() {
@@ -160,7 +165,7 @@ fn fill<I: Pages, L: LeafReader>(
 }
 
 impl<I: Pages, L: LeafReader> ColumnReader<I, L> {
-    /// The reader of a column of this physical type whose pages the source gives, of so many rows, along the parts of the way to its leaf; with a
+    /// The reader of a column of this leaf and physical type whose pages the source gives, of so many rows, along the parts of the way to its leaf; with a
     /// chunk size each piece has as many rows, or as are left. Parts that are no way to a leaf have no piece.
     ///
     /// # Errors
@@ -168,6 +173,7 @@ impl<I: Pages, L: LeafReader> ColumnReader<I, L> {
     /// `Memory`.
     pub fn new(
         alloc: Global,
+        leaf: &L,
         pages: I,
         physical_type: PhysicalType,
         nested: Vec<InitNested>,
@@ -176,10 +182,11 @@ impl<I: Pages, L: LeafReader> ColumnReader<I, L> {
     ) -> Result<Self>
         ensures ok { (o : ColumnOpening) (stored : List ℕ → List Stored) (limit : ℕ) → IsReadable o stored limit → o.leaf.physical ≡ physical_view physical_type → o.outcomes ≡ I.outcomes pages → IsWay nested.items (thin o.column.way) → o.rows ≡ num_rows → o.chunk_size ≡ chunk_size → IfOk result (λ r. IsReading stored limit o [] r) }
         ensures foreseen { (o : ColumnOpening) (stored : List ℕ → List Stored) (limit : ℕ) (others : List Outcome) → IsReadable o stored limit → o.leaf.physical ≡ physical_view physical_type → o.outcomes ≡ foreseen (I.outcomes pages) others → IsWay nested.items (thin o.column.way) → o.rows ≡ num_rows → o.chunk_size ≡ chunk_size → IfOk result (λ r. IsReading stored limit o [] (foreseeing others r)) }
+        ensures suits { IfOk result (λ r. IsSuited (L.suits leaf.now) r.queue) }
         ensures err { IfErr result (λ e. e ≡ Memory) }
     {
         let deltas = deltas_of(physical_type, is_flat(&nested));
-        let queue = Queue::new(alloc, nested, chunk_size, num_rows)?;
+        let queue = Queue::new(alloc, leaf, nested, chunk_size, num_rows)?;
         Ok(ColumnReader {
             alloc,
             pages,
@@ -200,8 +207,11 @@ impl<I: Pages, L: LeafReader> ColumnReader<I, L> {
     /// page's levels or values, or a dictionary's entries, used or not, are not those of rows; S9 where the pages have more or fewer rows than the group, or one
     /// of version 2 than its header states; V1 where a piece passes the offsets of its array; `Memory`.
     pub fn next_piece(&mut self, leaf: &L) -> Option<Result<(NestedState, L::Values)>>
+        requires suits { IsSuited (L.suits leaf.now) self.old.queue }
         ensures gives { (o : ColumnOpening) (pieces : List (List Triple)) → IsReading (λ text. L.stored leaf.now text 0) L.byte_limit o pieces self.old → GivesPiece (IsReading (λ text. L.stored leaf.now text 0) L.byte_limit) (λ v ts. IsPiece o.column.way ts v.0 (L.slots v.1)) o pieces result self.new }
         ensures foreseen { (o : ColumnOpening) (pieces : List (List Triple)) (others : List Outcome) → IsReading (λ text. L.stored leaf.now text 0) L.byte_limit o pieces (foreseeing others self.old) → GivesForeseen (λ o ps r. IsReading (λ text. L.stored leaf.now text 0) L.byte_limit o ps (foreseeing others r)) (λ v ts. IsPiece o.column.way ts v.0 (L.slots v.1)) o pieces self.old.outcomes result self.new }
+        ensures suits { IsSuited (L.suits leaf.now) self.new.queue }
+        ensures suited { GivesSuited (λ v. L.suits leaf.now (L.width v)) result }
     {
         let Some(queue) = self.queue.take() else {
             return None;

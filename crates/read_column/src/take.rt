@@ -49,8 +49,10 @@ pub fn take_pairs<'a, 'b, L: LeafReader>(
     page: &mut NestedPage<'a>,
     bytes: &mut PlainBytes<'b>,
 ) -> Result<Queue<L>>
+    requires suits { L.suits leaf.now queue.width }
     ensures ok { (w : Way) (before : ℕ) (whole : List (List Triple)) (last : List Triple) → IsQueued w before whole last queue → BeginsPair page.old → IfOk result (λ q. TakesPage queue.chunk_size w before (joined whole ++ last) q page.old (L.stored leaf.now bytes.old.values.now bytes.old.bit)) }
     ensures err { (w : Way) (before : ℕ) (whole : List (List Triple)) (last : List Triple) → IsQueued w before whole last queue → BeginsPair page.old → IfErr result (λ e. (e ≡ Memory) ⊎ StopsPage L.byte_limit queue.chunk_size w before (joined whole ++ last) page.old (L.stored leaf.now bytes.old.values.now bytes.old.bit) e) }
+    ensures suits { IfOk result (λ q. L.suits leaf.now q.width) }
 {
     let mut queue = queue;
     'pieces: while queue.is_wanting() {
@@ -97,8 +99,10 @@ fn take_values<L: LeafReader>(
     header: &DataPageHeader,
     is_first: bool,
 ) -> Result<Queue<L>>
+    requires suits { L.suits leaf.now queue.width }
     ensures ok { (w : Way) (before : ℕ) (whole : List (List Triple)) (last : List Triple) → IsQueued w before whole last queue → opened.entry.goes_on ≡ first_goes_on opened.entry.pairs → IfOk result (λ q. TakesRows (λ text. L.stored leaf.now text 0) queue.chunk_size w before (joined whole ++ last) q (typed_view (T.Data header.now)) opened.entry.pairs values.now) }
     ensures err { (w : Way) (before : ℕ) (whole : List (List Triple)) (last : List Triple) → IsQueued w before whole last queue → opened.entry.goes_on ≡ first_goes_on opened.entry.pairs → IfErr result (λ e. (e ≡ Memory) ⊎ RefusesRows (λ text. L.stored leaf.now text 0) L.byte_limit is_first queue.chunk_size w before (joined whole ++ last) (typed_view (T.Data header.now)) opened.entry.pairs values.now e) }
+    ensures suits { IfOk result (λ q. L.suits leaf.now q.width) }
 {
     if opened.goes_on {
         return Err(misplaced(header, is_first));
@@ -182,8 +186,10 @@ pub fn take_page<L: LeafReader>(
     deltas: Deltas,
     is_first: bool,
 ) -> Result<Queue<L>>
+    requires suits { L.suits leaf.now queue.width }
     ensures ok { (w : Way) (before : ℕ) (whole : List (List Triple)) (last : List Triple) → IsQueued w before whole last queue → IfOk result (λ q. TakesAll (λ text. L.stored leaf.now text 0) (means entries.now deltas) queue.chunk_size w before (joined whole ++ last) q (raw_page page.now) (levels_in page.now.descriptor)) }
     ensures err { (w : Way) (before : ℕ) (whole : List (List Triple)) (last : List Triple) → IsQueued w before whole last queue → IfErr result (λ e. (e ≡ Memory) ⊎ RefusesPage (λ text. L.stored leaf.now text 0) (means entries.now deltas) L.byte_limit is_first queue.chunk_size w before (joined whole ++ last) (raw_page page.now) (levels_in page.now.descriptor) e) }
+    ensures suits { IfOk result (λ q. L.suits leaf.now q.width) }
 {
     let opened = match open_pairs(page, leaf.stands_in_bytes(), deltas) {
         Ok(opened) => opened,

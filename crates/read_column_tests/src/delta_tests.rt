@@ -137,6 +137,7 @@ fn small_reader(
     let parts = leaf(alloc, true)?;
     ColumnReader::new(
         alloc,
+        &Numbers::new(),
         VecPages::new(pages),
         PhysicalType::Int32,
         parts,
@@ -194,6 +195,7 @@ fn wide_reader(alloc: Global, body: &[u8]) -> Result<ColumnReader<VecPages, Numb
     let parts = leaf(alloc, false)?;
     ColumnReader::new(
         alloc,
+        &Numbers::new(),
         VecPages::new(pages),
         PhysicalType::Int64,
         parts,
@@ -258,6 +260,7 @@ fn text_reader(
     let parts = leaf(alloc, true)?;
     ColumnReader::new(
         alloc,
+        &Strings::new(),
         VecPages::new(pages),
         PhysicalType::ByteArray,
         parts,
@@ -314,6 +317,7 @@ fn refuses_list(alloc: Global) -> Result<bool> {
     parts.push(InitNested::Primitive(false))?;
     let reader = ColumnReader::new(
         alloc,
+        &Numbers::new(),
         VecPages::new(pages),
         PhysicalType::Int32,
         parts,

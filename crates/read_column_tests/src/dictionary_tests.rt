@@ -90,6 +90,7 @@ fn reader(
     parts.push(InitNested::Primitive(!is_required))?;
     ColumnReader::new(
         alloc,
+        &Numbers::new(),
         VecPages::new(pages),
         PhysicalType::Int32,
         parts,

@@ -157,6 +157,7 @@ fn reader_2(
     parts.push(InitNested::Primitive(true))?;
     ColumnReader::new(
         alloc,
+        &Numbers::new(),
         VecPages::new(pages),
         PhysicalType::Int32,
         parts,
@@ -181,6 +182,7 @@ fn reader(
     parts.push(InitNested::Primitive(true))?;
     ColumnReader::new(
         alloc,
+        &Numbers::new(),
         VecPages::new(pages),
         PhysicalType::Int32,
         parts,

@@ -77,35 +77,21 @@ grown size content more bits added e =
 copies : (n : ℕ) (b : Bool) → length (replicate n b) ≡ n
 copies n b = length-replicate n b
 
-strings-more : (size n : ℕ) (content content' more : List ℕ) (bits bits' : List Bool) → length content ≡ size * length bits → content' ≡ content ++ more → bits' ≡ bits ++ replicate n true → chunk_slots size content' bits' ≡ chunk_slots size content bits ++ map value (chunks_values size n more)
+pub strings-more : (size n : ℕ) (content content' more : List ℕ) (bits bits' : List Bool) → length content ≡ size * length bits → content' ≡ content ++ more → bits' ≡ bits ++ replicate n true → chunk_slots size content' bits' ≡ chunk_slots size content bits ++ map value (chunks_values size n more)
 strings-more size n content content' more bits bits' even c b =
     let added : chunk_slots size more (replicate n true) ≡ map value (chunks_values size n more) = ap (λ (k : ℕ). value_slots (chunks_values size k more) (replicate n true)) (copies n true) ∙ slots-there (chunks_values size n more) n (values-count size n more) in
     rw (c, b) (grown size content more bits (replicate n true) even ∙ ap (λ (t : List Slot). chunk_slots size content bits ++ t) added)
 
-blanks-more : (size n : ℕ) (content content' more : List ℕ) (bits bits' : List Bool) → length content ≡ size * length bits → content' ≡ content ++ more → bits' ≡ bits ++ replicate n false → chunk_slots size content' bits' ≡ chunk_slots size content bits ++ replicate n null
+pub blanks-more : (size n : ℕ) (content content' more : List ℕ) (bits bits' : List Bool) → length content ≡ size * length bits → content' ≡ content ++ more → bits' ≡ bits ++ replicate n false → chunk_slots size content' bits' ≡ chunk_slots size content bits ++ replicate n null
 blanks-more size n content content' more bits bits' even c b =
     let added : chunk_slots size more (replicate n false) ≡ replicate n null = ap (λ (k : ℕ). value_slots (chunks_values size k more) (replicate n false)) (copies n false) ∙ slots-absent (chunks_values size n more) n (values-count size n more) in
     rw (c, b) (grown size content more bits (replicate n false) even ∙ ap (λ (t : List Slot). chunk_slots size content bits ++ t) added)
 
 -- as many bytes still as strings have
-still-even : (size n : ℕ) (content content' more : List ℕ) (bits bits' : List Bool) (b : Bool) → length content ≡ size * length bits → length more ≡ size * n → content' ≡ content ++ more → bits' ≡ bits ++ replicate n b → length content' ≡ size * length bits'
+pub still-even : (size n : ℕ) (content content' more : List ℕ) (bits bits' : List Bool) (b : Bool) → length content ≡ size * length bits → length more ≡ size * n → content' ≡ content ++ more → bits' ≡ bits ++ replicate n b → length content' ≡ size * length bits'
 still-even size n content content' more bits bits' b even m c e =
     let count : length bits' ≡ length bits + n = ap length e ∙ (length-append bits (replicate n b) ∙ ap (λ (k : ℕ). length bits + k) (copies n b)) in
     ap length c ∙ (length-append content more ∙ (omega (arith, even, m, times-sum size (length bits) n) ∙ ap (λ (k : ℕ). size * k) (sym count)))
-
--- ---- behind strings of the same size
-module _ (s size n : ℕ) (content content' more : List ℕ) (bits bits' : List Bool) (slots : List Slot) (same-size : s ≡ size) (are : chunk_slots size content bits ≡ slots) (even : length content ≡ s * length bits) (grows : content' ≡ content ++ more) where
-  even-so : length content ≡ size * length bits
-  even-so = even ∙ ap (λ (k : ℕ). k * length bits) same-size
-
-  pub strings-pushed : bits' ≡ bits ++ replicate n true → chunk_slots s content' bits' ≡ slots ++ map value (chunks_values size n more)
-  strings-pushed b = ap (λ (k : ℕ). chunk_slots k content' bits') same-size ∙ (strings-more size n content content' more bits bits' even-so grows b ∙ ap (λ (t : List Slot). t ++ map value (chunks_values size n more)) are)
-
-  pub blanks-pushed : bits' ≡ bits ++ replicate n false → chunk_slots s content' bits' ≡ slots ++ replicate n null
-  blanks-pushed b = ap (λ (k : ℕ). chunk_slots k content' bits') same-size ∙ (blanks-more size n content content' more bits bits' even-so grows b ∙ ap (λ (t : List Slot). t ++ replicate n null) are)
-
-  pub pushed-even : (b : Bool) → length more ≡ size * n → bits' ≡ bits ++ replicate n b → length content' ≡ s * length bits'
-  pushed-even b m e = still-even size n content content' more bits bits' b even-so m grows e ∙ ap (λ (k : ℕ). k * length bits') (sym same-size)
 
 -- ---- strings at the front
 fixed-count : (size n : ℕ) (text : List ℕ) → length (map loaded_bytes (chunks size n text)) ≡ n

@@ -8,12 +8,12 @@ pub mod TextsStored
 pub mod FrontsRead
 pub mod EqualBits
 pub mod SetBits
+pub mod Spreading
 pub mod MixedNumbers
 pub mod Grouped
 pub mod MixedStrings
 pub mod Stretches
 pub mod CutTexts
-pub mod AmongNulls
 pub mod PlainBits
 pub mod TruthSlots
 pub mod NothingRead

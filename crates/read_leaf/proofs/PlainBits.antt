@@ -1,5 +1,5 @@
 -- Plain truth values as the bits of their bytes (Parquet format, Encodings, "Plain").
-use Rattle.std.proofs.Common.{◌≡◌, ◌⊎◌, inl, inr, ℕ, zero, suc, ◌+◌, ◌-◌, ◌*◌, ◌/◌, ◌%◌, ◌^◌, ◌<◌, ◌≤◌, ◌==◌, Bool, List, [], ◌∷◌, ◌++◌, map, length, drop, refl, ap, sym, ◌∙◌, arith}
+use Rattle.std.proofs.Common.{◌≡◌, ◌⊎◌, inl, inr, ℕ, zero, suc, ◌+◌, ◌-◌, ◌*◌, ◌/◌, ◌%◌, ◌^◌, ◌<◌, ◌≤◌, ◌==◌, Bool, List, [], ◌∷◌, ◌++◌, map, length, drop, refl, ap, sym, ◌∙◌, arith, append_assoc}
 use Rattle.std.specs.Prelude.{slice_index_or}
 use Rattle.std.specs.Int.{bit_at}
 use Rattle.std.proofs.lemmas.Bool.{cases_lt}
@@ -76,3 +76,10 @@ next_truths text rest bit count end low is within e =
       count = length_bits text bit count;
       taken = plain_seen text bit low ∙ (ap (bits_from text bit) parts ∙ (bits_split text bit count n ∙ ap (λ (bs : List Bool). bits_from text bit count ++ bs) (sym behind ∙ ap (λ (t : List ℕ). plain_truths t r) (sym e))));
     }
+
+-- bits behind bits
+pub bits-joined : (before now new : List Bool) (bytes : List ℕ) (bit done n : ℕ) → now ≡ before ++ bits_from bytes bit done → new ≡ now ++ bits_from bytes (bit + done) n → new ≡ before ++ bits_from bytes bit (done + n)
+bits-joined before now new bytes bit done n e f =
+    f
+    ∙ (ap (λ (bs : List Bool). bs ++ bits_from bytes (bit + done) n) e
+    ∙ (append_assoc before (bits_from bytes bit done) (bits_from bytes (bit + done) n) ∙ ap (λ (bs : List Bool). before ++ bs) (sym (bits_split bytes bit done n))))

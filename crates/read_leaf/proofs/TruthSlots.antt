@@ -1,6 +1,6 @@
 -- Slots of truth values.
 use Rattle.std.proofs.Common.{◌≡◌, ℕ, zero, suc, ◌+◌, ◌-◌, ◌*◌, ◌^◌, ◌<◌, ◌≤◌, ◌==◌, Bool, true, false, true≢false, Some, List, [], ◌∷◌, ◌++◌, map, length, drop, replicate, refl, ap, sym, ◌∙◌, arith, length-append}
-use Rattle.std.specs.Prelude.{Result, Ok, Err, IsOk, OnOk}
+use Rattle.std.specs.Prelude.{Result, Ok, Err, IsOk, IfOk, OnOk}
 use Rattle.std.proofs.lemmas.List.{map-append, length-map, length-drop}
 use Rattle.columns_core.specs.Bits.{word_bits}
 use Rattle.pq_numbers.proofs.Digits.{length-digits}
@@ -85,3 +85,8 @@ too-few bytes bit count some n = omega (arith, length-stored bytes bit, some, n)
 pub not_refused : {A E : Type 0} (r : Result A E) (P : Type 0) → IsOk r → OnOk r P → P
 not_refused (Ok x) P h p = p
 not_refused (Err e) P h p = absurd (true≢false (sym h))
+
+-- what is not refused
+pub done_ok : {A E : Type 0} (r : Result A E) (P : Type 0) → IsOk r → IfOk r (λ x. P) → P
+done_ok (Ok x) P h p = p
+done_ok (Err e) P h p = absurd (true≢false (sym h))

@@ -19,7 +19,7 @@ use std::marker::Model;
 /// Byte strings of one size, one after another, and which of them are there. In the place of a null stand as many zero bytes.
 #[derive(Debug, Drop)]
 pub struct FixedBytesValues {
-    // How many bytes each has; any number while there is none.
+    // How many bytes each has.
     size: usize,
     content: Vec<u8>,
     validity: MutableBitmap,
@@ -48,13 +48,14 @@ fn push_zeros(content: &mut Vec<u8>, count: usize) -> Result<()>
 }
 
 impl FixedBytesValues {
-    /// No string.
-    pub fn new(alloc: Global) -> Self
+    /// No string of so many bytes.
+    pub fn new(alloc: Global, size: usize) -> Self
+        ensures size { result.0 ≡ size }
         ensures content { result.1.0 ≡ [] }
         ensures validity { result.1.1 ≡ [] }
     {
         FixedBytesValues {
-            size: 0,
+            size,
             content: Vec::new(alloc),
             validity: MutableBitmap::new(alloc),
         }
@@ -76,40 +77,32 @@ impl FixedBytesValues {
         (self.content, self.validity)
     }
 
-    // Strings of this size come next. Beside those of another there is no room for them.
-    fn settle(&mut self, size: usize) -> Result<()>
-        ensures ok { OnOk result ((self.new.0 ≡ size) × (self.new.1.1 ≡ self.old.1.1) × (chunk_slots size self.new.1.0 self.new.1.1 ≡ chunk_slots self.old.0 self.old.1.0 self.old.1.1)) }
-        ensures err { IfErr result (λ e. e ≡ Error.Memory) }
+    /// How many bytes each string has.
+    pub fn size(&self) -> usize
+        ensures { result ≡ self.now.0 }
     {
-        if self.validity.len() == 0 {
-            self.size = size;
-        }
-        if self.size == size {
-            Ok(())
-        } else {
-            Err(Error::Memory)
-        }
+        self.size
     }
 
-    // So many strings more, of so many bytes each.
-    fn push_strings(&mut self, size: usize, strings: &[u8], count: usize) -> Result<()>
-        requires { list_length strings.now ≡ size * count }
-        ensures ok { OnOk result (chunk_slots self.new.0 self.new.1.0 self.new.1.1 ≡ chunk_slots self.old.0 self.old.1.0 self.old.1.1 ++ map value (chunks_values size count strings.now)) }
+    // So many strings more.
+    fn push_strings(&mut self, strings: &[u8], count: usize) -> Result<()>
+        requires { list_length strings.now ≡ self.old.0 * count }
+        ensures ok { OnOk result (chunk_slots self.new.0 self.new.1.0 self.new.1.1 ≡ chunk_slots self.old.0 self.old.1.0 self.old.1.1 ++ map value (chunks_values self.old.0 count strings.now)) }
         ensures err { IfErr result (λ e. e ≡ Error.Memory) }
+        ensures size { self.new.0 ≡ self.old.0 }
     {
-        self.settle(size)?;
         self.validity.reserve(count)?;
         self.content.extend_from_slice(strings)?;
         self.validity.extend_constant(count, true)
     }
 
-    // So many nulls more, of strings of so many bytes.
-    fn push_blanks(&mut self, size: usize, count: usize) -> Result<()>
+    // So many nulls more.
+    fn push_blanks(&mut self, count: usize) -> Result<()>
         ensures ok { OnOk result (chunk_slots self.new.0 self.new.1.0 self.new.1.1 ≡ chunk_slots self.old.0 self.old.1.0 self.old.1.1 ++ replicate count null) }
         ensures err { IfErr result (λ e. e ≡ Error.Memory) }
+        ensures size { self.new.0 ≡ self.old.0 }
     {
-        self.settle(size)?;
-        let Some(more) = size.checked_mul(count) else {
+        let Some(more) = self.size.checked_mul(count) else {
             return Err(Error::Memory);
         };
         self.validity.reserve(count)?;
@@ -152,8 +145,10 @@ fn push_run<'a>(
     is_valid: bool,
     count: usize,
 ) -> Result<()>
+    requires { decoded.old.0 ≡ decoder.now.size }
     ensures ok { OnOk result (DecodesMixed (replicate count is_valid) (stored_fixed loaded_bytes decoder.now.size state.old.values.now) (stored_fixed loaded_bytes decoder.now.size state.new.values.now) (chunk_slots decoded.old.0 decoded.old.1.0 decoded.old.1.1) (chunk_slots decoded.new.0 decoded.new.1.0 decoded.new.1.1)) }
     ensures err { IfErr result (CannotDecode 0 (ones (replicate count is_valid)) (stored_fixed loaded_bytes decoder.now.size state.old.values.now) (chunk_slots decoded.old.0 decoded.old.1.0 decoded.old.1.1)) }
+    ensures suits { decoded.new.0 ≡ decoder.now.size }
 {
     if is_valid {
         decoder.push_valid(state, decoded, count)
@@ -163,6 +158,7 @@ fn push_run<'a>(
 }
 
 impl<'a> NestedDecoder<'a> for FixedBytesDecoder {
+    ghost use Rattle.std.specs.Prelude.{◌≡◌};
     ghost use Rattle.read_leaf.specs.Fixed.{stored_fixed};
     ghost use Rattle.read_leaf.specs.FixedBytes.{chunk_slots, loaded_bytes};
 
@@ -176,19 +172,23 @@ impl<'a> NestedDecoder<'a> for FixedBytesDecoder {
 
     ghost byte_limit = { 0 };
 
+    ghost suits = { λ d s. s.0 ≡ d.size };
+
     fn push_valid(
         &self,
         state: &mut PlainStrings<'a>,
         decoded: &mut FixedBytesValues,
         count: usize,
     ) -> Result<()>
+        requires suits { decoded.old.0 ≡ self.now.size }
         ensures ok { OnOk result (Decodes count (stored_fixed loaded_bytes self.now.size state.old.values.now) (stored_fixed loaded_bytes self.now.size state.new.values.now) (chunk_slots decoded.old.0 decoded.old.1.0 decoded.old.1.1) (chunk_slots decoded.new.0 decoded.new.1.0 decoded.new.1.1)) }
         ensures err { IfErr result (CannotDecode 0 count (stored_fixed loaded_bytes self.now.size state.old.values.now) (chunk_slots decoded.old.0 decoded.old.1.0 decoded.old.1.1)) }
+        ensures suits { decoded.new.0 ≡ self.now.size }
     {
         let Some((strings, rest)) = split_strings(state.values, self.size, count) else {
             return Err(Error::OutOfSpec(S::S6));
         };
-        match decoded.push_strings(self.size, strings, count) {
+        match decoded.push_strings(strings, count) {
             Ok(()) => {
                 state.values = rest;
                 Ok(())
@@ -198,10 +198,12 @@ impl<'a> NestedDecoder<'a> for FixedBytesDecoder {
     }
 
     fn push_null(&self, decoded: &mut FixedBytesValues, count: usize) -> Result<()>
+        requires suits { decoded.old.0 ≡ self.now.size }
         ensures ok { OnOk result (chunk_slots decoded.new.0 decoded.new.1.0 decoded.new.1.1 ≡ chunk_slots decoded.old.0 decoded.old.1.0 decoded.old.1.1 ++ replicate count null) }
         ensures err { IfErr result (λ e. e ≡ Error.Memory) }
+        ensures suits { decoded.new.0 ≡ self.now.size }
     {
-        decoded.push_blanks(self.size, count)
+        decoded.push_blanks(count)
     }
 
     fn push_mixed(
@@ -212,8 +214,10 @@ impl<'a> NestedDecoder<'a> for FixedBytesDecoder {
         count: usize,
     ) -> Result<()>
         requires few { count ≤ 64 }
+        requires suits { decoded.old.0 ≡ self.now.size }
         ensures ok { OnOk result (DecodesMixed (word_bits valid count) (stored_fixed loaded_bytes self.now.size state.old.values.now) (stored_fixed loaded_bytes self.now.size state.new.values.now) (chunk_slots decoded.old.0 decoded.old.1.0 decoded.old.1.1) (chunk_slots decoded.new.0 decoded.new.1.0 decoded.new.1.1)) }
         ensures err { IfErr result (CannotDecode 0 (ones (word_bits valid count)) (stored_fixed loaded_bytes self.now.size state.old.values.now) (chunk_slots decoded.old.0 decoded.old.1.0 decoded.old.1.1)) }
+        ensures suits { decoded.new.0 ≡ self.now.size }
     {
         let mut bits = valid;
         let mut left = count;

@@ -4,6 +4,7 @@
 #![tactic(auto)]
 
 mod binary;
+mod bit_words;
 mod cut;
 mod fixed;
 mod fixed_bytes;

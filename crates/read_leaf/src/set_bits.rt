@@ -4,9 +4,9 @@ ghost use Rattle.std.specs.Int.{bit_at};
 ghost use Rattle.columns_core.specs.Bits.{word_bits};
 ghost use Rattle.read_walk.specs.Values.{ones};
 
-// The low bits of a word, and 0 behind them.
+/// The low bits of a word, and 0 behind them.
 #[inline(always)]
-fn low_bits(word: u64, count: usize) -> u64
+pub fn low_bits(word: u64, count: usize) -> u64
     requires { count ≤ 64 }
     ensures below { result < 2 ^ count }
     ensures same { word_bits result count ≡ word_bits word count }

@@ -1,13 +1,14 @@
 //! Truth values.
 ghost use Rattle.std.specs.Prelude.{◌≡◌, ℕ, Bool, List, ◌+◌, ◌-◌, ◌*◌, ◌/◌, ◌%◌, ◌^◌, ◌<◌, ◌≤◌, ◌==◌, ◌++◌, ◌↔◌, [], true, IsTrue, IsOk, IfOk, OnOk, IfErr, replicate, slice_index_or, length as list_length};
 ghost use Rattle.columns_base.specs.declared.error.Error.{Error};
-ghost use Rattle.columns_core.specs.Bits.{bit_of, word_bits};
+ghost use Rattle.columns_core.specs.Bits.{bits_from, word_bits};
 ghost use Rattle.shredding.specs.Slot.{null};
 ghost use Rattle.read_walk.specs.Values.{Decodes, DecodesMixed, ones, CannotDecode};
-ghost use Rattle.read_leaf.specs.Truths.{AddsTruths, TookAmong, stored_truths, truth_slots};
+ghost use Rattle.read_leaf.specs.Truths.{AddsTruths, TookAmong, among_nulls, stored_truths, truth_slots};
 
+use crate::bit_words::bits_in;
 use crate::cut::skip;
-use crate::set_bits::count_set;
+use crate::set_bits::{count_set, low_bits};
 use columns_base::{Error, Result, S};
 use columns_core::MutableBitmap;
 use read_walk::NestedDecoder;
@@ -79,6 +80,34 @@ fn are_there(bytes: &[u8], bit: usize, count: usize) -> bool
     bit as u128 + count as u128 <= 8 * bytes.len() as u128
 }
 
+// Appends at most 64 bits of packed bytes, where there is room.
+#[inline(always)]
+fn append_word(values: &mut MutableBitmap, bytes: &[u8], at: usize, count: usize)
+    requires few { count ≤ 64 }
+    requires within { at + count ≤ 8 * list_length bytes.now }
+    requires room { count ≤ values.old.1 }
+    ensures same { values.new.0 ≡ values.old.0 ++ bits_from bytes.now at count }
+    ensures room { values.old.1 ≤ values.new.1 + count }
+{
+    let word = bits_in(bytes, at, count);
+    values.extend_from_word(word, count).unwrap();
+}
+
+// Appends so many bits of packed bytes, 64 at once, where there is room.
+fn append_bits(values: &mut MutableBitmap, bytes: &[u8], bit: usize, count: usize)
+    requires within { bit + count ≤ 8 * list_length bytes.now }
+    requires counted { bit + count < 2 ^ 64 }
+    requires room { count ≤ values.old.1 }
+    ensures { values.new.0 ≡ values.old.0 ++ bits_from bytes.now bit count }
+{
+    let mut done = 0;
+    while done < count {
+        let size = (count - done).min(64);
+        append_word(values, bytes, bit + done, size);
+        done += size;
+    }
+}
+
 // Appends the next truth values, and gives the bytes from the one on that has the first bit behind them.
 fn append_truths<'a>(
     values: &mut MutableBitmap,
@@ -91,20 +120,37 @@ fn append_truths<'a>(
     ensures ok { IfOk result (λ rest. AddsTruths count bytes.now bit rest.now ((bit + count) % 8) values.old.0 values.new.0) }
     ensures err { IfErr result (λ e. (e ≡ Error.Memory) × (values.new.0 ≡ values.old.0)) }
 {
-    match values.extend_from_slice(bytes, bit, count) {
-        Ok(()) => Ok(skip(bytes, (bit + count) / 8)),
-        Err(error) => Err(error),
+    match values.reserve(count) {
+        Ok(()) => {}
+        Err(error) => return Err(error),
     }
+    append_bits(values, bytes, bit, count);
+    Ok(skip(bytes, (bit + count) / 8))
 }
 
-// The bit at a place, counted over all bytes.
+// What is not below a place of a word.
 #[inline(always)]
-fn bit_in(bytes: &[u8], at: usize) -> u64
-    requires { at < 8 * list_length bytes.now }
-    ensures below { result < 2 }
-    ensures is { (result == 1) ≡ bit_of bytes.now at }
+fn from_place(word: u64, at: u32) -> u64
+    requires { at < 64 }
+    ensures { result ≡ word / 2 ^ at * 2 ^ at }
 {
-    u64::from((bytes[at / 8] >> (at % 8)) % 2)
+    (word >> at) << at
+}
+
+// The low bits of a word in the places of the other word's set bits, and 0 in those of the nulls between them: from the lowest null on, what is
+// not below it goes one place up.
+fn spread_bits(source: u64, valid: u64, count: usize) -> u64
+    requires few { count ≤ 64 }
+    requires low { source < 2 ^ ones (word_bits valid count) }
+    ensures { word_bits result count ≡ among_nulls (word_bits valid count) (word_bits source (ones (word_bits valid count))) }
+{
+    let mut nulls = low_bits(u64::MAX - valid, count);
+    let mut word = source;
+    while nulls != 0 {
+        word += from_place(word, nulls.trailing_zeros());
+        nulls = nulls & (nulls - 1);
+    }
+    word
 }
 
 // The next truth values among nulls, as the low bits of a word: at each bit of the other word that is set, and 0 elsewhere. Gives also the bytes
@@ -115,15 +161,10 @@ fn take_among(bytes: &[u8], bit: usize, valid: u64, count: usize) -> (u64, &[u8]
     requires counted { bit + ones (word_bits valid count) < 2 ^ 64 }
     ensures { TookAmong (word_bits valid count) bytes.now bit result.1.now ((bit + ones (word_bits valid count)) % 8) (word_bits result.0 count) }
 {
-    let mut at = bit;
-    let mut word = 0;
-    for i in 0..count {
-        if (valid >> i) % 2 == 1 {
-            word += bit_in(bytes, at) << i;
-            at += 1;
-        }
-    }
-    (word, skip(bytes, at / 8))
+    let wanted = count_set(valid, count);
+    let source = bits_in(bytes, bit, wanted);
+    let word = spread_bits(source, valid, count);
+    (word, skip(bytes, (bit + wanted) / 8))
 }
 
 // The next truth values among nulls, where both are wanted.

@@ -22,17 +22,17 @@ pub(crate) fn three<L: LeafArray>(
     bytes: &[u8],
     data_type: DataType,
 ) -> Result<ArrayBox>
-    requires { L.makes (base (type_view data_type)) ≡ true }
+    requires { L.makes leaf.now (base (type_view data_type)) ≡ true }
 {
     let mut nested = init_nested(alloc, &[InitNested::Primitive(true)], 0)?;
-    let mut values = L::begin(alloc)?;
+    let mut values = leaf.begin(alloc)?;
     let mut page = NestedPage::try_new(&[], 0, DEFS, 1, 3)?;
     let mut bytes = PlainBytes {
         values: bytes,
         bit: 0,
     };
     extend_leaf(leaf, &mut page, &mut bytes, &mut nested, &mut values, 3)?;
-    L::into_array(alloc, values, data_type)
+    leaf.into_array(alloc, values, data_type)
 }
 
 fn makes_small_numbers(alloc: Global) -> Result<bool> {
@@ -97,7 +97,7 @@ fn next_truths(
     rows: usize,
 ) -> Result<Bitmap> {
     let mut nested = init_nested(alloc, &[InitNested::Primitive(false)], 0)?;
-    let mut values = Truths::begin(alloc)?;
+    let mut values = Truths.begin(alloc)?;
     extend_leaf(&Truths, page, bytes, &mut nested, &mut values, rows)?;
     values.into_parts().0.into_bitmap()
 }

@@ -1,8 +1,9 @@
 //! Byte strings of one size, from plain bytes (Parquet format, "Types", FIXED_LEN_BYTE_ARRAY; Encodings, "Plain").
 ghost use Rattle.std.specs.Prelude.{◌≡◌, true, IfOk};
 ghost use Rattle.columns_core.specs.Shapes.{base};
+ghost use Rattle.columns_core.specs.Tree.{t_fixed_size_binary};
 ghost use Rattle.columns_core.specs.View.{type_view};
-ghost use Rattle.read_types.specs.Arrays.{makes_chunks};
+ghost use Rattle.read_types.specs.LeafTypes.{reads_chunks};
 
 use columns_array::ArrayBox;
 use columns_base::{Error, N, PhysicalType, Result, S};
@@ -23,30 +24,35 @@ fn read_strings(
     rows: usize,
     levels: &[u8],
     bytes: &[u8],
-) -> Result<FixedBytesValues> {
+) -> Result<FixedBytesValues>
+    ensures { IfOk result (λ v. v.0 ≡ size) }
+{
+    let leaf = FixedBytes { size };
     let is_nullable = !levels.is_empty();
     let mut nested = init_nested(alloc, &[InitNested::Primitive(is_nullable)], 0)?;
-    let mut values = FixedBytes::begin(alloc)?;
+    let mut values = leaf.begin(alloc)?;
     let mut page = NestedPage::try_new(&[], 0, levels, usize::from(is_nullable), rows)?;
     let mut bytes = PlainBytes {
         values: bytes,
         bit: 0,
     };
-    let leaf = FixedBytes { size };
     extend_leaf(&leaf, &mut page, &mut bytes, &mut nested, &mut values, rows)?;
     Ok(values)
 }
 
-// The array of this type.
+// The array of this type, of strings of its size.
 fn array_of(
     alloc: Global,
+    size: usize,
     values: Result<FixedBytesValues>,
     data_type: DataType,
 ) -> Result<ArrayBox>
-    requires { makes_chunks (base (type_view data_type)) ≡ true }
+    requires makes { reads_chunks size (base (type_view data_type)) ≡ true }
+    requires sized { IfOk values (λ v. v.0 ≡ size) }
 {
+    let leaf = FixedBytes { size };
     match values {
-        Ok(values) => FixedBytes::into_array(alloc, values, data_type),
+        Ok(values) => leaf.into_array(alloc, values, data_type),
         Err(error) => Err(error),
     }
 }
@@ -69,10 +75,12 @@ fn makes(
     bytes: &[u8],
     want: &[u8],
     nulls: usize,
-) -> bool {
+) -> bool
+    requires { reads_chunks size (t_fixed_size_binary size) ≡ true }
+{
     let values = read_strings(alloc, size, rows, levels, bytes);
     has_strings(
-        array_of(alloc, values, DataType::FixedSizeBinary(size)),
+        array_of(alloc, size, values, DataType::FixedSizeBinary(size)),
         want,
         nulls,
     )
@@ -116,7 +124,7 @@ fn strings_are_made(rt: HostRuntime) {
 fn keeps_places(alloc: Global) -> bool {
     let levels = &[19, 0x0f, 0, 0, 0, 0, 0, 0, 0, 0xf0];
     let values = read_strings(alloc, 1, 72, levels, &[1, 2, 3, 4, 5, 6, 7, 8]);
-    match array_of(alloc, values, DataType::FixedSizeBinary(1)) {
+    match array_of(alloc, 1, values, DataType::FixedSizeBinary(1)) {
         Ok(ArrayBox::FixedSizeBinary(array)) => {
             array.len() == 72
                 && array.null_count() == 64
@@ -154,7 +162,7 @@ fn missing_bytes_are_refused(rt: HostRuntime) {
 
 // The identifiers of sixteen bytes, as a type of their own.
 fn identifiers(alloc: Global) -> Result<DataType>
-    ensures { IfOk result (λ t. makes_chunks (base (type_view t)) ≡ true) }
+    ensures { IfOk result (λ t. reads_chunks 2 (base (type_view t)) ≡ true) }
 {
     let name = String::from_str(alloc, "arrow.uuid")?;
     let inner = Box::new(alloc, DataType::FixedSizeBinary(2))?;
@@ -164,7 +172,7 @@ fn identifiers(alloc: Global) -> Result<DataType>
 // The array has that type whole.
 fn keeps_type(alloc: Global) -> Result<bool> {
     let values = read_strings(alloc, 2, 2, &[], &[1, 2, 3, 4])?;
-    match FixedBytes::into_array(alloc, values, identifiers(alloc)?)? {
+    match array_of(alloc, 2, Ok(values), identifiers(alloc)?)? {
         ArrayBox::FixedSizeBinary(array) => Ok(
             array.values() == [1, 2, 3, 4].as_slice() && *array.data_type() == identifiers(alloc)?,
         ),

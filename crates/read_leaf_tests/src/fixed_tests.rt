@@ -171,14 +171,14 @@ fn days_are_made(rt: HostRuntime) {
 // A column of three slots, of which these levels say which have a number.
 fn makes_nulls(alloc: Global, definitions: &[u8], bytes: &[u8]) -> Result<ArrayBox> {
     let mut nested = init_nested(alloc, &[InitNested::Primitive(true)], 0)?;
-    let mut values = Nulls::begin(alloc)?;
+    let mut values = Nulls.begin(alloc)?;
     let mut page = NestedPage::try_new(&[], 0, definitions, 1, 3)?;
     let mut bytes = PlainBytes {
         values: bytes,
         bit: 0,
     };
     extend_leaf(&Nulls, &mut page, &mut bytes, &mut nested, &mut values, 3)?;
-    Nulls::into_array(alloc, values, DataType::Null)
+    Nulls.into_array(alloc, values, DataType::Null)
 }
 
 fn has_nulls(array: Result<ArrayBox>, want: usize) -> bool {

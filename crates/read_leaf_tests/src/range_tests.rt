@@ -10,13 +10,13 @@ use std::alloc::Global;
 // The number of a required row that has these plain bytes.
 fn number_of<T: FromStored<P>, P: StoredNumber>(alloc: Global, bytes: &[u8]) -> Result<Option<T>> {
     let mut nested = init_nested(alloc, &[InitNested::Primitive(false)], 0)?;
-    let mut values = Numbers::<T, P>::begin(alloc)?;
+    let leaf = Numbers::<T, P>::new();
+    let mut values = leaf.begin(alloc)?;
     let mut page = NestedPage::try_new(&[], 0, &[], 0, 1)?;
     let mut bytes = PlainBytes {
         values: bytes,
         bit: 0,
     };
-    let leaf = Numbers::<T, P>::new();
     extend_leaf(&leaf, &mut page, &mut bytes, &mut nested, &mut values, 1)?;
     let (mut numbers, _validity) = values.into_parts();
     Ok(numbers.pop())

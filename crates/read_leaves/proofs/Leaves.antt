@@ -1,10 +1,10 @@
 -- A leaf's column as the reader of its kind.
-use Rattle.std.proofs.Common.{◌≡◌, ℕ, Option, Some, None, List, true, false, refl, sym, ◌∙◌, true≢false}
+use Rattle.std.proofs.Common.{◌≡◌, Option, Some, None, List, true, false, refl, sym, ◌∙◌, true≢false}
 use Rattle.std.specs.Prelude.{Result, Ok, Err, ◌&&◌, nat_le}
 use Rattle.std.proofs.lemmas.Bool.{and_parts}
 use Rattle.columns_base.specs.declared.error.Error.{Error}
 use Rattle.columns_core.specs.Shapes.{base}
-use Rattle.columns_core.specs.Tree.{TypeTree, t_fixed_size_binary, t_dictionary}
+use Rattle.columns_core.specs.Tree.{TypeTree, t_dictionary}
 use Rattle.pq_headline.specs.Columns.{is_dictionary}
 use Rattle.pq_tree.specs.Physical.{Physical}
 use Rattle.read_column.specs.Reading.{Reading, IsReading}
@@ -14,8 +14,6 @@ use Rattle.read_pieces.specs.Leaves.{ReadsLeaf}
 use Rattle.read_pieces.specs.Pieces.{IsPieceOf}
 use Rattle.read_pieces.specs.declared.piece.ColumnPiece.{ColumnPiece}
 use Rattle.read_types.proofs.KindsRead.{leaves-read}
-use Rattle.read_types.specs.Arrays.{makes_chunks}
-use Rattle.read_types.specs.LeafTypes.{reads_chunks}
 use Rattle.read_types.specs.Reads.{physical_of, types_of, stored_of, limit_of}
 use Rattle.read_types.specs.declared.kind.LeafKind.{LeafKind}
 use Rattle.read_types.specs.declared.kind.LeafKind.TheVariants as K
@@ -45,11 +43,6 @@ direct (t_dictionary key t s) K.Months e = absurd (true≢false (sym e))
 direct (t_dictionary key t s) K.Days e = absurd (true≢false (sym e))
 direct (t_dictionary key t s) (K.FixedSizeBinary n) e = absurd (true≢false (sym e))
 direct t k e = refl
-
--- an array has the type of its strings
-pub chunks_made : (n : ℕ) (t : TypeTree) → reads_chunks n t ≡ true → makes_chunks t ≡ true
-chunks_made n (t_fixed_size_binary m) e = refl
-chunks_made n t e = absurd (true≢false (sym e))
 
 pub opens : (o : ColumnOpening) (t : TypeTree) (p : Physical) (k : LeafKind) → IsLeafOpening o t p → physical_of k ≡ p → types_of k (base t) ≡ true → IsReadable o (stored_of k) (limit_of k)
 opens o t p k opened stored made =

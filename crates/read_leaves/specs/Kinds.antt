@@ -1,4 +1,6 @@
 -- The reader of a column of each kind.
+use Rattle.std.specs.Prelude.{◌≡◌}
+use Rattle.read_column.specs.Queues.{IsSuited}
 use Rattle.read_column.specs.Reading.{Reading}
 use Rattle.read_types.specs.declared.kind.LeafKind.{LeafKind}
 use Rattle.read_types.specs.declared.kind.LeafKind.TheVariants as K
@@ -50,3 +52,8 @@ reader_in (C.FixedDecimal r n) = r
 reader_in (C.Months r) = r
 reader_in (C.Days r) = r
 reader_in (C.FixedSizeBinary r n) = r
+
+-- what its reader holds of byte strings of one size has the size of the kind
+abbrev pub IsSized : LeafKind → Reading → Type 0
+IsSized (K.FixedSizeBinary n) r = IsSuited (λ w. w ≡ n) r.queue
+IsSized k r = Unit {0}

@@ -6,6 +6,7 @@ ghost use Rattle.columns_core.specs.View.{type_view};
 ghost use Rattle.pq_tree.specs.Views.{physical_view};
 ghost use Rattle.shredding.specs.Along.{thin};
 ghost use Rattle.shredding.specs.Shred.{Triple};
+ghost use Rattle.read_column.specs.Queues.{IsSuited};
 ghost use Rattle.read_column.specs.Reading.{IsReading};
 ghost use Rattle.read_pieces.specs.Columns.{ColumnOpening, GivesPiece, IsReadable};
 ghost use Rattle.read_pieces.specs.Pieces.{IsPieceOf};
@@ -16,7 +17,7 @@ ghost use Rattle.read_leaf.specs.FixedBytes.{loaded_bytes};
 ghost use Rattle.read_types.specs.Arrays.{makes_fixed};
 ghost use Rattle.read_types.specs.LeafTypes.{reads_chunks};
 ghost use Rattle.read_types.specs.Reads.{limit_of, stored_of, types_of};
-ghost use Rattle.read_leaves.specs.Kinds.{kind_in, reader_in};
+ghost use Rattle.read_leaves.specs.Kinds.{IsSized, kind_in, reader_in};
 
 use crate::piece::piece_of;
 use columns_base::{PhysicalType, Result};
@@ -72,19 +73,31 @@ pub struct PagesOfRows<I: Pages> {
 }
 
 impl<I: Pages> PagesOfRows<I> {
-    // The reader of the column.
-    fn read<L: LeafReader>(self) -> Result<ColumnReader<I, L>>
+    // The reader of the column of such a leaf.
+    fn read<L: LeafReader>(self, leaf: &L) -> Result<ColumnReader<I, L>>
         ensures reads { (o : ColumnOpening) (stored : List ℕ → List Stored) (limit : ℕ) → IsReadable o stored limit → o.leaf.physical ≡ physical_view self.physical_type → o.outcomes ≡ I.outcomes self.pages → IsWay self.nested.items (thin o.column.way) → o.rows ≡ self.num_rows → o.chunk_size ≡ self.chunk_size → IfOk result (λ r. IsReading stored limit o [] r) }
+        ensures suits { IfOk result (λ r. IsSuited (L.suits leaf.now) r.queue) }
         ensures err { IfErr result (λ e. e ≡ Memory) }
     {
         ColumnReader::new(
             self.alloc,
+            leaf,
             self.pages,
             self.physical_type,
             self.nested,
             self.chunk_size,
             self.num_rows,
         )
+    }
+}
+
+// How values that are stored as so many bytes each are read.
+fn fixed_of<T>(size: usize) -> Fixed<T>
+    ensures { result.size ≡ size }
+{
+    Fixed {
+        size,
+        value: PhantomData,
     }
 }
 
@@ -95,10 +108,12 @@ fn next_of<I: Pages, L: LeafArray>(
     alloc: Global,
     data_type: &DataType,
 ) -> Option<Result<ColumnPiece>>
-    requires { L.makes (base (type_view data_type.now)) ≡ true }
-    ensures { (o : ColumnOpening) (pieces : List (List Triple)) → IsReading (λ text. L.stored leaf.now text 0) L.byte_limit o pieces reader.old → GivesPiece (IsReading (λ text. L.stored leaf.now text 0) L.byte_limit) (λ p ts. IsPieceOf o.column (type_view data_type.now) ts None p) o pieces result reader.new }
+    requires makes { L.makes leaf.now (base (type_view data_type.now)) ≡ true }
+    requires suits { IsSuited (L.suits leaf.now) reader.old.queue }
+    ensures gives { (o : ColumnOpening) (pieces : List (List Triple)) → IsReading (λ text. L.stored leaf.now text 0) L.byte_limit o pieces reader.old → GivesPiece (IsReading (λ text. L.stored leaf.now text 0) L.byte_limit) (λ p ts. IsPieceOf o.column (type_view data_type.now) ts None p) o pieces result reader.new }
+    ensures suits { IsSuited (L.suits leaf.now) reader.new.queue }
 {
-    piece_of::<L>(alloc, data_type, reader.next_piece(leaf))
+    piece_of(alloc, leaf, data_type, reader.next_piece(leaf))
 }
 
 // The same of values that are stored as so many bytes each.
@@ -119,15 +134,16 @@ fn next_fixed<I: Pages, T: FixedValue + NumberBox>(
 }
 
 // The same of byte strings of so many bytes each.
-#[tactic(auto, using(crate::proofs::Leaves::chunks_made))]
 fn next_chunks<I: Pages>(
     reader: &mut ColumnReader<I, FixedBytes>,
     size: usize,
     alloc: Global,
     data_type: &DataType,
 ) -> Option<Result<ColumnPiece>>
-    requires { reads_chunks size (base (type_view data_type.now)) ≡ true }
-    ensures { (o : ColumnOpening) (pieces : List (List Triple)) → IsReading (stored_fixed loaded_bytes size) 0 o pieces reader.old → GivesPiece (IsReading (stored_fixed loaded_bytes size) 0) (λ p ts. IsPieceOf o.column (type_view data_type.now) ts None p) o pieces result reader.new }
+    requires makes { reads_chunks size (base (type_view data_type.now)) ≡ true }
+    requires suits { IsSuited (λ n. n ≡ size) reader.old.queue }
+    ensures gives { (o : ColumnOpening) (pieces : List (List Triple)) → IsReading (stored_fixed loaded_bytes size) 0 o pieces reader.old → GivesPiece (IsReading (stored_fixed loaded_bytes size) 0) (λ p ts. IsPieceOf o.column (type_view data_type.now) ts None p) o pieces result reader.new }
+    ensures suits { IsSuited (λ n. n ≡ size) reader.new.queue }
 {
     next_of(reader, &FixedBytes { size }, alloc, data_type)
 }
@@ -141,30 +157,37 @@ impl<I: Pages> KindColumn<I> {
     pub fn new(kind: LeafKind, rows: PagesOfRows<I>) -> Result<Self>
         ensures kind { IfOk result (λ c. kind_in c ≡ kind) }
         ensures reads { (o : ColumnOpening) → IsReadable o (stored_of kind) (limit_of kind) → o.leaf.physical ≡ physical_view rows.physical_type → o.outcomes ≡ I.outcomes rows.pages → IsWay rows.nested.items (thin o.column.way) → o.rows ≡ rows.num_rows → o.chunk_size ≡ rows.chunk_size → IfOk result (λ c. IsReading (stored_of kind) (limit_of kind) o [] (reader_in c)) }
+        ensures sized { IfOk result (λ c. IsSized (kind_in c) (reader_in c)) }
         ensures err { IfErr result (λ e. e ≡ Memory) }
     {
         Ok(match kind {
-            LeafKind::Boolean => KindColumn::Boolean(rows.read()?),
-            LeafKind::Null => KindColumn::Null(rows.read()?),
-            LeafKind::Int8 => KindColumn::Int8(rows.read()?),
-            LeafKind::Int16 => KindColumn::Int16(rows.read()?),
-            LeafKind::Int32 => KindColumn::Int32(rows.read()?),
-            LeafKind::UInt8 => KindColumn::UInt8(rows.read()?),
-            LeafKind::UInt16 => KindColumn::UInt16(rows.read()?),
-            LeafKind::UInt32 => KindColumn::UInt32(rows.read()?),
-            LeafKind::Int64 => KindColumn::Int64(rows.read()?),
-            LeafKind::Decimal => KindColumn::Decimal(rows.read()?),
-            LeafKind::WideDecimal => KindColumn::WideDecimal(rows.read()?),
-            LeafKind::WideUInt32 => KindColumn::WideUInt32(rows.read()?),
-            LeafKind::UInt64 => KindColumn::UInt64(rows.read()?),
-            LeafKind::Utf8 => KindColumn::Utf8(rows.read()?),
-            LeafKind::LargeUtf8 => KindColumn::LargeUtf8(rows.read()?),
-            LeafKind::Binary => KindColumn::Binary(rows.read()?),
-            LeafKind::LargeBinary => KindColumn::LargeBinary(rows.read()?),
-            LeafKind::FixedDecimal(size) => KindColumn::FixedDecimal(rows.read()?, size),
-            LeafKind::Months => KindColumn::Months(rows.read()?),
-            LeafKind::Days => KindColumn::Days(rows.read()?),
-            LeafKind::FixedSizeBinary(size) => KindColumn::FixedSizeBinary(rows.read()?, size),
+            LeafKind::Boolean => KindColumn::Boolean(rows.read(&Truths)?),
+            LeafKind::Null => KindColumn::Null(rows.read(&Nulls)?),
+            LeafKind::Int8 => KindColumn::Int8(rows.read(&Numbers::new())?),
+            LeafKind::Int16 => KindColumn::Int16(rows.read(&Numbers::new())?),
+            LeafKind::Int32 => KindColumn::Int32(rows.read(&Numbers::new())?),
+            LeafKind::UInt8 => KindColumn::UInt8(rows.read(&Numbers::new())?),
+            LeafKind::UInt16 => KindColumn::UInt16(rows.read(&Numbers::new())?),
+            LeafKind::UInt32 => KindColumn::UInt32(rows.read(&Numbers::new())?),
+            LeafKind::Int64 => KindColumn::Int64(rows.read(&Numbers::new())?),
+            LeafKind::Decimal => KindColumn::Decimal(rows.read(&Numbers::new())?),
+            LeafKind::WideDecimal => KindColumn::WideDecimal(rows.read(&Numbers::new())?),
+            LeafKind::WideUInt32 => KindColumn::WideUInt32(rows.read(&Numbers::new())?),
+            LeafKind::UInt64 => KindColumn::UInt64(rows.read(&Numbers::new())?),
+            LeafKind::Utf8 => KindColumn::Utf8(rows.read(&Strings::new())?),
+            LeafKind::LargeUtf8 => KindColumn::LargeUtf8(rows.read(&Strings::new())?),
+            LeafKind::Binary => KindColumn::Binary(rows.read(&Strings::new())?),
+            LeafKind::LargeBinary => KindColumn::LargeBinary(rows.read(&Strings::new())?),
+            LeafKind::FixedDecimal(size) => KindColumn::FixedDecimal(
+                rows.read(&fixed_of(size))?,
+                size,
+            ),
+            LeafKind::Months => KindColumn::Months(rows.read(&fixed_of(12))?),
+            LeafKind::Days => KindColumn::Days(rows.read(&fixed_of(12))?),
+            LeafKind::FixedSizeBinary(size) => KindColumn::FixedSizeBinary(
+                rows.read(&FixedBytes { size })?,
+                size,
+            ),
         })
     }
 
@@ -174,8 +197,10 @@ impl<I: Pages> KindColumn<I> {
     ///
     /// Those of `ColumnReader`.
     pub fn next_piece(&mut self, alloc: Global, data_type: &DataType) -> Option<Result<ColumnPiece>>
-        requires { types_of (kind_in self.old) (base (type_view data_type.now)) ≡ true }
+        requires typed { types_of (kind_in self.old) (base (type_view data_type.now)) ≡ true }
+        requires sized { IsSized (kind_in self.old) (reader_in self.old) }
         ensures kind { kind_in self.new ≡ kind_in self.old }
+        ensures sized { IsSized (kind_in self.new) (reader_in self.new) }
         ensures gives { (o : ColumnOpening) (pieces : List (List Triple)) → IsReading (stored_of (kind_in self.old)) (limit_of (kind_in self.old)) o pieces (reader_in self.old) → GivesPiece (IsReading (stored_of (kind_in self.old)) (limit_of (kind_in self.old))) (λ p ts. IsPieceOf o.column (type_view data_type.now) ts None p) o pieces result (reader_in self.new) }
     {
         match self {

@@ -1,5 +1,5 @@
 //! How the values of a leaf are read.
-ghost use Rattle.std.specs.Prelude.{◌≡◌, ◌⊎◌, ◌*◌, ◌<◌, ℕ, List, [], ◌∷◌, None, true, false, length, OnOk, IfOk, IfErr};
+ghost use Rattle.std.specs.Prelude.{◌≡◌, ◌⊎◌, ◌*◌, ◌<◌, ℕ, List, [], ◌∷◌, None, Ok, true, false, length, OnOk, IfOk, IfErr};
 ghost use Rattle.columns_base.specs.declared.error.Error.TheVariants.{Memory, OutOfSpec};
 ghost use Rattle.columns_base.specs.declared.error.S.TheVariants.{S6, S7};
 ghost use Rattle.read_laws.specs.State.{leaf_count, StateFits};
@@ -40,13 +40,30 @@ pub trait LeafReader {
     // without bytes
     ghost byte_limit: { ℕ };
 
+    // how many bytes each decoded value has, where all have as many
+    ghost width: { Self.Values → ℕ } = { λ v. 0 };
+
+    // the reader may go on behind values of this width
+    ghost suits: { Self → ℕ → Type 0 } = { λ r n. Unit {0} };
+
     /// No value.
     ///
     /// # Errors
     ///
     /// `Memory`.
-    fn begin(alloc: Global) -> Result<Self::Values>
+    fn begin(&self, alloc: Global) -> Result<Self::Values>
         ensures ok { IfOk result (λ v. slots v ≡ []) }
+        ensures suits { (v : Self.Values) → result ≡ Ok v → suits self.now (width v) }
+        ensures err { IfErr result (λ e. e ≡ Memory) };
+
+    /// No value, of the width that these have.
+    ///
+    /// # Errors
+    ///
+    /// `Memory`.
+    fn begin_like(values: &Self::Values, alloc: Global) -> Result<Self::Values>
+        ensures ok { IfOk result (λ v. slots v ≡ []) }
+        ensures width { (v : Self.Values) → result ≡ Ok v → width v ≡ width values.now }
         ensures err { IfErr result (λ e. e ≡ Memory) };
 
     /// Whether each value stands in bytes of its own. Truth values do not: a byte holds eight of them.
@@ -80,10 +97,12 @@ pub trait LeafReader {
     ) -> Result<()>
         requires fits { StateFits nested.old }
         requires decoded { length (slots values.old) ≡ leaf_count nested.old }
+        requires suits { suits self.now (width values.old) }
         ensures ok { OnOk result (Extends additional page.old page.new (stored self.now bytes.old.values.now bytes.old.bit) (stored self.now bytes.new.values.now bytes.new.bit) nested.old nested.new (slots values.old) (slots values.new)) }
         ensures err { IfErr result (Refuses byte_limit additional page.old (stored self.now bytes.old.values.now bytes.old.bit) nested.old (slots values.old)) }
         ensures ticked { OnOk result (TicksEach (length nested.old) page.old page.new steps.old steps.new) }
-        ensures bounded { TicksAtMost (length nested.old * length page.old) steps.old steps.new };
+        ensures bounded { TicksAtMost (length nested.old * length page.old) steps.old steps.new }
+        ensures width { width values.new ≡ width values.old };
 }
 
 // Takes pairs with steps that are counted in a ledger of their own.
@@ -98,11 +117,13 @@ fn extend_in<'a, 'b, R: LeafReader, L: Ledger>(
 ) -> Result<()>
     requires fits { StateFits nested.old }
     requires decoded { length (R.slots values.old) ≡ leaf_count nested.old }
+    requires suits { R.suits leaf.now (R.width values.old) }
     requires name { blank.name ≡ L.name }
     requires parts { blank.parts ≡ L.parts }
     requires some { 0 < blank.parts }
     ensures ok { OnOk result (Extends additional page.old page.new (R.stored leaf.now bytes.old.values.now bytes.old.bit) (R.stored leaf.now bytes.new.values.now bytes.new.bit) nested.old nested.new (R.slots values.old) (R.slots values.new)) }
     ensures err { IfErr result (Refuses R.byte_limit additional page.old (R.stored leaf.now bytes.old.values.now bytes.old.bit) nested.old (R.slots values.old)) }
+    ensures width { R.width values.new ≡ R.width values.old }
 {
     let mut steps: Steps<L> = Steps::new(blank);
     leaf.extend(page, bytes, nested, values, additional, &mut steps)
@@ -123,8 +144,10 @@ pub fn extend_leaf<'a, 'b, R: LeafReader>(
 ) -> Result<()>
     requires fits { StateFits nested.old }
     requires decoded { length (R.slots values.old) ≡ leaf_count nested.old }
+    requires suits { R.suits leaf.now (R.width values.old) }
     ensures ok { OnOk result (Extends additional page.old page.new (R.stored leaf.now bytes.old.values.now bytes.old.bit) (R.stored leaf.now bytes.new.values.now bytes.new.bit) nested.old nested.new (R.slots values.old) (R.slots values.new)) }
     ensures err { IfErr result (Refuses R.byte_limit additional page.old (R.stored leaf.now bytes.old.values.now bytes.old.bit) nested.old (R.slots values.old)) }
+    ensures width { R.width values.new ≡ R.width values.old }
 {
     extend_in::<R, Brand>(leaf, page, bytes, nested, values, additional, Blank::new(1))
 }

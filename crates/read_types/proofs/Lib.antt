@@ -8,3 +8,4 @@ pub mod TruthBytes
 pub mod NullsRead
 pub mod FixedSizes
 pub mod FixedRead
+pub mod Widths

@@ -1,11 +1,10 @@
 -- The array that is made of a leaf's slots (Arrow columnar format, "Fixed-Size Primitive Layout" and "Variable-size Binary Layout").
-use Rattle.std.specs.Prelude.{◌≡◌, Bool, ◌&&◌, is_some, Some, None, List, [], ◌∷◌}
+use Rattle.std.specs.Prelude.{◌≡◌, Bool, ◌&&◌, Some, None, List, [], ◌∷◌}
 use Rattle.shredding.specs.Slot.{Slot, Value}
 use Rattle.columns_core.specs.Shapes.{leaf_type}
 use Rattle.columns_core.specs.Tree.{TypeTree}
 use Rattle.columns_slots.specs.Slots.{slots, type_of}
 use Rattle.columns_slots.specs.Tree.{ArrayTree, leaf_array}
-use Rattle.columns_slots.specs.Types.{byte_width}
 use Rattle.pq_files.specs.Statistics.{has_order}
 use Rattle.pq_headline.specs.Arrays.{entries_in}
 use Rattle.read_leaf.specs.Fixed.{is_fixed}
@@ -27,7 +26,3 @@ makes_numbers stores t = stores t && has_order (leaf_type t)
 -- the types of arrays of such numbers that are stored as bytes of one size
 abbrev pub makes_fixed : (TypeTree → Bool) → TypeTree → Bool
 makes_fixed stores t = stores t && is_fixed t
-
--- the types of arrays of byte strings of one size, whatever the size
-abbrev pub makes_chunks : TypeTree → Bool
-makes_chunks t = is_some (byte_width t)

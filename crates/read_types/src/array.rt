@@ -18,15 +18,21 @@ pub trait LeafArray: LeafReader {
     ghost use Rattle.columns_core.specs.Tree.{TypeTree};
 
     // the types of its arrays, without extensions
-    ghost makes: { TypeTree → Bool };
+    ghost makes: { Self → TypeTree → Bool };
 
-    /// The array of these values. They are moved and not copied.
+    /// The array of these values, of the width of the reader. They are moved and not copied.
     ///
     /// # Errors
     ///
     /// `Memory`.
-    fn into_array(alloc: Global, values: Self::Values, data_type: DataType) -> Result<ArrayBox>
-        requires { makes (base (type_view data_type)) ≡ true }
+    fn into_array(
+        &self,
+        alloc: Global,
+        values: Self::Values,
+        data_type: DataType,
+    ) -> Result<ArrayBox>
+        requires makes { makes self.now (base (type_view data_type)) ≡ true }
+        requires suits { Self.suits self.now (Self.width values) }
         ensures ok { IfOk result (λ a. IsLeafArray (type_view data_type) (Self.slots values) (boxed a)) }
         ensures err { IfErr result (λ e. e ≡ Memory) };
 }

@@ -72,7 +72,14 @@ impl<T: FixedValue> LeafReader for Fixed<T> {
 
     ghost byte_limit = { 0 };
 
-    fn begin(alloc: Global) -> Result<NumberValues<T>>
+    fn begin(&self, alloc: Global) -> Result<NumberValues<T>>
+        ensures ok { IfOk result (λ v. value_slots (map T.held v.0) v.1 ≡ []) }
+        ensures err { IfErr result (λ e. e ≡ Memory) }
+    {
+        Ok(NumberValues::new(alloc))
+    }
+
+    fn begin_like(_values: &NumberValues<T>, alloc: Global) -> Result<NumberValues<T>>
         ensures ok { IfOk result (λ v. value_slots (map T.held v.0) v.1 ≡ []) }
         ensures err { IfErr result (λ e. e ≡ Memory) }
     {
@@ -125,9 +132,14 @@ impl<T: FixedValue> LeafReader for Fixed<T> {
 impl<T: FixedValue + NumberBox> LeafArray for Fixed<T> {
     ghost use Rattle.read_types.specs.Arrays.{makes_fixed};
 
-    ghost makes = { makes_fixed T.stores };
+    ghost makes = { λ r. makes_fixed T.stores };
 
-    fn into_array(alloc: Global, values: NumberValues<T>, data_type: DataType) -> Result<ArrayBox>
+    fn into_array(
+        &self,
+        alloc: Global,
+        values: NumberValues<T>,
+        data_type: DataType,
+    ) -> Result<ArrayBox>
         requires { makes_fixed T.stores (base (type_view data_type)) ≡ true }
         ensures ok { IfOk result (λ a. IsLeafArray (type_view data_type) (value_slots (map T.held values.0) values.1) (boxed a)) }
         ensures err { IfErr result (λ e. e ≡ Memory) }

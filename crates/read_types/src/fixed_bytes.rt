@@ -1,5 +1,5 @@
 //! Byte strings of one size.
-ghost use Rattle.std.specs.Prelude.{◌≡◌, ◌⊎◌, ◌*◌, ℕ, List, [], Some, true, false, length, OnOk, IfOk, IfErr};
+ghost use Rattle.std.specs.Prelude.{◌≡◌, ◌⊎◌, ◌*◌, ℕ, Bool, List, [], Ok, Some, true, false, length, OnOk, IfOk, IfErr};
 ghost use Rattle.columns_base.specs.declared.error.Error.TheVariants.{Memory, OutOfSpec};
 ghost use Rattle.columns_base.specs.declared.error.S.TheVariants.{S6, S7};
 ghost use Rattle.columns_core.specs.Shapes.{base};
@@ -13,7 +13,8 @@ ghost use Rattle.read_pieces.specs.Leaves.{AreEights, BeginsOutside, BeginsWithV
 ghost use Rattle.read_state.specs.Ticks.{TicksAtMost};
 ghost use Rattle.read_walk.specs.Ticks.{TicksEach};
 ghost use Rattle.read_walk.specs.Walk.{Extends, Refuses};
-ghost use Rattle.read_types.specs.Arrays.{IsLeafArray, makes_chunks};
+ghost use Rattle.read_types.specs.Arrays.{IsLeafArray};
+ghost use Rattle.read_types.specs.LeafTypes.{reads_chunks};
 
 use crate::array::LeafArray;
 use columns_array::ArrayBox;
@@ -58,6 +59,7 @@ fn has_own_bytes(size: usize) -> bool
 }
 
 impl LeafReader for FixedBytes {
+    ghost use Rattle.std.specs.Prelude.{◌≡◌};
     ghost use Rattle.read_leaf.specs.Fixed.{stored_fixed};
     ghost use Rattle.read_leaf.specs.FixedBytes.{chunk_slots, loaded_bytes};
 
@@ -69,11 +71,24 @@ impl LeafReader for FixedBytes {
 
     ghost byte_limit = { 0 };
 
-    fn begin(alloc: Global) -> Result<FixedBytesValues>
+    ghost width = { λ d. d.0 };
+
+    ghost suits = { λ r n. n ≡ r.size };
+
+    fn begin(&self, alloc: Global) -> Result<FixedBytesValues>
         ensures ok { IfOk result (λ v. chunk_slots v.0 v.1.0 v.1.1 ≡ []) }
+        ensures suits { (v : ℕ × (List ℕ × List Bool)) → result ≡ Ok v → v.0 ≡ self.now.size }
         ensures err { IfErr result (λ e. e ≡ Memory) }
     {
-        Ok(FixedBytesValues::new(alloc))
+        Ok(FixedBytesValues::new(alloc, self.size))
+    }
+
+    fn begin_like(values: &FixedBytesValues, alloc: Global) -> Result<FixedBytesValues>
+        ensures ok { IfOk result (λ v. chunk_slots v.0 v.1.0 v.1.1 ≡ []) }
+        ensures width { (v : ℕ × (List ℕ × List Bool)) → result ≡ Ok v → v.0 ≡ values.now.0 }
+        ensures err { IfErr result (λ e. e ≡ Memory) }
+    {
+        Ok(FixedBytesValues::new(alloc, values.size()))
     }
 
     fn stands_in_bytes(&self) -> bool
@@ -101,10 +116,12 @@ impl LeafReader for FixedBytes {
     ) -> Result<()>
         requires fits { StateFits nested.old }
         requires decoded { length (chunk_slots values.old.0 values.old.1.0 values.old.1.1) ≡ leaf_count nested.old }
+        requires suits { values.old.0 ≡ self.now.size }
         ensures ok { OnOk result (Extends additional page.old page.new (stored_fixed loaded_bytes self.now.size bytes.old.values.now) (stored_fixed loaded_bytes self.now.size bytes.new.values.now) nested.old nested.new (chunk_slots values.old.0 values.old.1.0 values.old.1.1) (chunk_slots values.new.0 values.new.1.0 values.new.1.1)) }
         ensures err { IfErr result (Refuses 0 additional page.old (stored_fixed loaded_bytes self.now.size bytes.old.values.now) nested.old (chunk_slots values.old.0 values.old.1.0 values.old.1.1)) }
         ensures ticked { OnOk result (TicksEach (length nested.old) page.old page.new steps.old steps.new) }
         ensures bounded { TicksAtMost (length nested.old * length page.old) steps.old steps.new }
+        ensures width { values.new.0 ≡ values.old.0 }
     {
         let mut left = PlainStrings {
             values: bytes.values,
@@ -116,35 +133,37 @@ impl LeafReader for FixedBytes {
     }
 }
 
-// Byte strings and which of them are there, as an array. Where they have another size than the type says, which no reader of the type gives, there is
-// no room for them.
+// Byte strings and which of them are there, as an array.
 fn chunk_array(
     alloc: Global,
     data_type: DataType,
     content: Vec<u8>,
     validity: Bitmap,
 ) -> Result<FixedSizeBinaryArray>
+    requires whole { AreWhole (base (type_view data_type)) content.items }
+    requires mask { length validity ≡ fixed_count (base (type_view data_type)) content.items }
     ensures ok { IfOk result (λ a. a ≡ (type_view data_type, (content.items, Some validity))) }
-    ensures whole { IfOk result (λ a. AreWhole (base (type_view data_type)) content.items) }
-    ensures mask { IfOk result (λ a. length validity ≡ fixed_count (base (type_view data_type)) content.items) }
     ensures err { IfErr result (λ e. e ≡ Memory) }
 {
     match FixedSizeBinaryArray::try_new(alloc, data_type, content, Some(validity)) {
-        Ok(array) => {
-            array.know();
-            Ok(array)
-        }
-        Err(_) => Err(Error::Memory),
+        Ok(array) => Ok(array),
+        Err(error) => Err(error),
     }
 }
 
 impl LeafArray for FixedBytes {
-    ghost use Rattle.read_types.specs.Arrays.{makes_chunks};
+    ghost use Rattle.read_types.specs.LeafTypes.{reads_chunks};
 
-    ghost makes = { makes_chunks };
+    ghost makes = { λ r t. reads_chunks r.size t };
 
-    fn into_array(alloc: Global, values: FixedBytesValues, data_type: DataType) -> Result<ArrayBox>
-        requires { makes_chunks (base (type_view data_type)) ≡ true }
+    fn into_array(
+        &self,
+        alloc: Global,
+        values: FixedBytesValues,
+        data_type: DataType,
+    ) -> Result<ArrayBox>
+        requires makes { reads_chunks self.now.size (base (type_view data_type)) ≡ true }
+        requires suits { values.0 ≡ self.now.size }
         ensures ok { IfOk result (λ a. IsLeafArray (type_view data_type) (chunk_slots values.0 values.1.0 values.1.1) (boxed a)) }
         ensures err { IfErr result (λ e. e ≡ Memory) }
     {

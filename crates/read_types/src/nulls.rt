@@ -66,7 +66,14 @@ impl LeafReader for Nulls {
 
     ghost byte_limit = { 1 };
 
-    fn begin(_alloc: Global) -> Result<NullValues>
+    fn begin(&self, _alloc: Global) -> Result<NullValues>
+        ensures ok { IfOk result (λ v. replicate v.count null ≡ []) }
+        ensures err { IfErr result (λ e. e ≡ Memory) }
+    {
+        Ok(NullValues { count: 0 })
+    }
+
+    fn begin_like(_values: &NullValues, _alloc: Global) -> Result<NullValues>
         ensures ok { IfOk result (λ v. replicate v.count null ≡ []) }
         ensures err { IfErr result (λ e. e ≡ Memory) }
     {
@@ -124,9 +131,9 @@ impl LeafReader for Nulls {
 impl LeafArray for Nulls {
     ghost use Rattle.columns_slots.specs.Types.{is_null_type};
 
-    ghost makes = { is_null_type };
+    ghost makes = { λ r. is_null_type };
 
-    fn into_array(alloc: Global, values: NullValues, data_type: DataType) -> Result<ArrayBox>
+    fn into_array(&self, alloc: Global, values: NullValues, data_type: DataType) -> Result<ArrayBox>
         requires { is_null_type (base (type_view data_type)) ≡ true }
         ensures ok { IfOk result (λ a. IsLeafArray (type_view data_type) (replicate values.count null) (boxed a)) }
         ensures err { IfErr result (λ e. e ≡ Memory) }

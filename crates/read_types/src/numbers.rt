@@ -84,7 +84,14 @@ impl<T: FromStored<P>, P: StoredNumber> LeafReader for Numbers<T, P> {
 
     ghost byte_limit = { 1 };
 
-    fn begin(alloc: Global) -> Result<NumberValues<T>>
+    fn begin(&self, alloc: Global) -> Result<NumberValues<T>>
+        ensures ok { IfOk result (λ v. number_slots (map T.loaded_number v.0) v.1 ≡ []) }
+        ensures err { IfErr result (λ e. e ≡ Memory) }
+    {
+        Ok(NumberValues::new(alloc))
+    }
+
+    fn begin_like(_values: &NumberValues<T>, alloc: Global) -> Result<NumberValues<T>>
         ensures ok { IfOk result (λ v. number_slots (map T.loaded_number v.0) v.1 ≡ []) }
         ensures err { IfErr result (λ e. e ≡ Memory) }
     {
@@ -134,9 +141,14 @@ impl<T: FromStored<P>, P: StoredNumber> LeafReader for Numbers<T, P> {
 impl<T: FromStored<P> + NumberBox, P: StoredNumber> LeafArray for Numbers<T, P> {
     ghost use Rattle.read_types.specs.Arrays.{makes_numbers};
 
-    ghost makes = { makes_numbers T.stores };
+    ghost makes = { λ r. makes_numbers T.stores };
 
-    fn into_array(alloc: Global, values: NumberValues<T>, data_type: DataType) -> Result<ArrayBox>
+    fn into_array(
+        &self,
+        alloc: Global,
+        values: NumberValues<T>,
+        data_type: DataType,
+    ) -> Result<ArrayBox>
         requires { makes_numbers T.stores (base (type_view data_type)) ≡ true }
         ensures ok { IfOk result (λ a. IsLeafArray (type_view data_type) (number_slots (map T.loaded_number values.0) values.1) (boxed a)) }
         ensures err { IfErr result (λ e. e ≡ Memory) }

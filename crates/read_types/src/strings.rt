@@ -103,7 +103,14 @@ impl<O: Offset, K: StringKind> LeafReader for Strings<O, K> {
 
     ghost byte_limit = { O.limit };
 
-    fn begin(alloc: Global) -> Result<StringValues<O, K>>
+    fn begin(&self, alloc: Global) -> Result<StringValues<O, K>>
+        ensures ok { IfOk result (λ v. string_slots v.0 v.1 ≡ []) }
+        ensures err { IfErr result (λ e. e ≡ Memory) }
+    {
+        StringValues::new(alloc)
+    }
+
+    fn begin_like(_values: &StringValues<O, K>, alloc: Global) -> Result<StringValues<O, K>>
         ensures ok { IfOk result (λ v. string_slots v.0 v.1 ≡ []) }
         ensures err { IfErr result (λ e. e ≡ Memory) }
     {
@@ -212,9 +219,10 @@ impl LeafArray for Strings<i32, Text> {
     ghost use Rattle.std.specs.Prelude.{false};
     ghost use Rattle.columns_slots.specs.Types.{is_text};
 
-    ghost makes = { is_text false };
+    ghost makes = { λ r. is_text false };
 
     fn into_array(
+        &self,
         alloc: Global,
         values: StringValues<i32, Text>,
         data_type: DataType,
@@ -234,9 +242,10 @@ impl LeafArray for Strings<i64, Text> {
     ghost use Rattle.std.specs.Prelude.{true};
     ghost use Rattle.columns_slots.specs.Types.{is_text};
 
-    ghost makes = { is_text true };
+    ghost makes = { λ r. is_text true };
 
     fn into_array(
+        &self,
         alloc: Global,
         values: StringValues<i64, Text>,
         data_type: DataType,
@@ -298,9 +307,10 @@ impl LeafArray for Strings<i32, Bytes> {
     ghost use Rattle.std.specs.Prelude.{false};
     ghost use Rattle.columns_slots.specs.Types.{is_binary};
 
-    ghost makes = { is_binary false };
+    ghost makes = { λ r. is_binary false };
 
     fn into_array(
+        &self,
         alloc: Global,
         values: StringValues<i32, Bytes>,
         data_type: DataType,
@@ -320,9 +330,10 @@ impl LeafArray for Strings<i64, Bytes> {
     ghost use Rattle.std.specs.Prelude.{true};
     ghost use Rattle.columns_slots.specs.Types.{is_binary};
 
-    ghost makes = { is_binary true };
+    ghost makes = { λ r. is_binary true };
 
     fn into_array(
+        &self,
         alloc: Global,
         values: StringValues<i64, Bytes>,
         data_type: DataType,

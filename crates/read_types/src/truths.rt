@@ -60,7 +60,14 @@ impl LeafReader for Truths {
 
     ghost byte_limit = { 1 };
 
-    fn begin(alloc: Global) -> Result<TruthValues>
+    fn begin(&self, alloc: Global) -> Result<TruthValues>
+        ensures ok { IfOk result (λ v. truth_slots v.0 v.1 ≡ []) }
+        ensures err { IfErr result (λ e. e ≡ Memory) }
+    {
+        Ok(TruthValues::new(alloc))
+    }
+
+    fn begin_like(_values: &TruthValues, alloc: Global) -> Result<TruthValues>
         ensures ok { IfOk result (λ v. truth_slots v.0 v.1 ≡ []) }
         ensures err { IfErr result (λ e. e ≡ Memory) }
     {
@@ -138,9 +145,14 @@ fn truth_array(
 impl LeafArray for Truths {
     ghost use Rattle.columns_slots.specs.Types.{is_boolean};
 
-    ghost makes = { is_boolean };
+    ghost makes = { λ r. is_boolean };
 
-    fn into_array(alloc: Global, values: TruthValues, data_type: DataType) -> Result<ArrayBox>
+    fn into_array(
+        &self,
+        alloc: Global,
+        values: TruthValues,
+        data_type: DataType,
+    ) -> Result<ArrayBox>
         requires { is_boolean (base (type_view data_type)) ≡ true }
         ensures ok { IfOk result (λ a. IsLeafArray (type_view data_type) (truth_slots values.0 values.1) (boxed a)) }
         ensures err { IfErr result (λ e. e ≡ Memory) }

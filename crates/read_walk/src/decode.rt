@@ -115,8 +115,10 @@ pub fn decode_copies<'a, D: NestedDecoder<'a>>(
     top: usize,
 ) -> Result<()>
     requires ordered { floor ≤ top }
+    requires suits { D.suits decoder.now decoded.old }
     ensures ok { OnOk result (Decoded floor top (replicate count level) (D.left decoder.now values.old) (D.left decoder.now values.new) (D.slots decoded.old) (D.slots decoded.new)) }
     ensures err { IfErr result (CannotDecode D.byte_limit (called top (replicate count level)) (D.left decoder.now values.old) (D.slots decoded.old)) }
+    ensures suits { D.suits decoder.now decoded.new }
 {
     if level == top {
         return decoder.push_valid(values, decoded, count);
@@ -141,8 +143,10 @@ pub fn decode_levels<'a, D: NestedDecoder<'a>>(
     top: usize,
 ) -> Result<()>
     requires ordered { floor ≤ top }
+    requires suits { D.suits decoder.now decoded.old }
     ensures ok { OnOk result (Decoded floor top defs.now (D.left decoder.now values.old) (D.left decoder.now values.new) (D.slots decoded.old) (D.slots decoded.new)) }
     ensures err { IfErr result (CannotDecode D.byte_limit (called top defs.now) (D.left decoder.now values.old) (D.slots decoded.old)) }
+    ensures suits { D.suits decoder.now decoded.new }
 {
     let mut at = 0;
     while at < defs.len() {
@@ -186,8 +190,10 @@ pub fn decode_block<'a, D: NestedDecoder<'a>>(
 ) -> Result<()>
     requires ordered { floor ≤ top }
     requires few { length block.now.1 ≤ 64 }
+    requires suits { D.suits decoder.now decoded.old }
     ensures ok { OnOk result (Decoded floor top block.now.1 (D.left decoder.now values.old) (D.left decoder.now values.new) (D.slots decoded.old) (D.slots decoded.new)) }
     ensures err { IfErr result (CannotDecode D.byte_limit (called top block.now.1) (D.left decoder.now values.old) (D.slots decoded.old)) }
+    ensures suits { D.suits decoder.now decoded.new }
 {
     let (valid, count) = block_word(block, floor, top);
     decoder.push_mixed(values, decoded, valid, count)

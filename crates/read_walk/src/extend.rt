@@ -35,9 +35,11 @@ fn walk_block<'a, D: NestedDecoder<'a>, L: Ledger>(
     requires fits { StateFits nested.old }
     requires ended { EndedAt before nested.old }
     requires decoded { length (D.slots decoded.old) ≡ leaf_count nested.old }
+    requires suits { D.suits decoder.now decoded.old }
     ensures ok { OnOk result (Follows (kept_way nested.old) before (zipped block.now.0 block.now.1) × TookBlock before block.now.0 block.now.1 nested.old nested.new (D.slots decoded.old) (D.slots decoded.new) (D.left decoder.now values.old) (D.left decoder.now values.new)) }
     ensures err { IfErr result (λ e. OneMayNot (kept_way nested.old) before (zipped block.now.0 block.now.1) e ⊎ CannotTake D.byte_limit block.now.0 block.now.1 nested.old (D.left decoder.now values.old) (D.slots decoded.old) e) }
     ensures ticked { TicksAtMost (length nested.old) steps.old steps.new }
+    ensures suits { D.suits decoder.now decoded.new }
 {
     match check_block(nested, levels, before, block) {
         Ok(()) => take_all(
@@ -77,9 +79,11 @@ fn walk_copies<'a, D: NestedDecoder<'a>, L: Ledger>(
     requires fits { StateFits nested.old }
     requires ended { EndedAt before nested.old }
     requires decoded { length (D.slots decoded.old) ≡ leaf_count nested.old }
+    requires suits { D.suits decoder.now decoded.old }
     ensures ok { OnOk result (Follows (kept_way nested.old) before (zipped (replicate count rep) (replicate count level)) × TookBlock before (replicate count rep) (replicate count level) nested.old nested.new (D.slots decoded.old) (D.slots decoded.new) (D.left decoder.now values.old) (D.left decoder.now values.new)) }
     ensures err { IfErr result (λ e. OneMayNot (kept_way nested.old) before (zipped (replicate count rep) (replicate count level)) e ⊎ CannotTake D.byte_limit (replicate count rep) (replicate count level) nested.old (D.left decoder.now values.old) (D.slots decoded.old) e) }
     ensures ticked { TicksAtMost (length nested.old) steps.old steps.new }
+    ensures suits { D.suits decoder.now decoded.new }
 {
     match check_copies(nested, levels, before, rep, level, count) {
         Ok(()) => take_copies(
@@ -113,10 +117,12 @@ fn step_block<'a, 'b, D: NestedDecoder<'b>, L: Ledger>(
     requires fits { StateFits nested.old }
     requires ended { EndedAt before.old nested.old }
     requires decoded { length (D.slots decoded.old) ≡ leaf_count nested.old }
+    requires suits { D.suits decoder.now decoded.old }
     ensures ok { IfOk result (λ more. TakesStep more rows.old rows.new before.old before.new page.old page.new (D.left decoder.now values.old) (D.left decoder.now values.new) nested.old nested.new (D.slots decoded.old) (D.slots decoded.new)) }
     ensures err { IfErr result (CannotStep D.byte_limit rows.old before.old page.old (D.left decoder.now values.old) nested.old (D.slots decoded.old)) }
     ensures ticked { TicksAtMost (length nested.old) steps.old steps.new }
     ensures idle { IfOk result (λ more. more ≡ false → steps.new ≡ steps.old) }
+    ensures suits { D.suits decoder.now decoded.new }
 {
     let begun = match page.next_block(*rows, block) {
         None => return Ok(false),
@@ -151,10 +157,12 @@ fn step_pairs<'a, 'b, D: NestedDecoder<'b>, L: Ledger>(
     requires fits { StateFits nested.old }
     requires ended { EndedAt before.old nested.old }
     requires decoded { length (D.slots decoded.old) ≡ leaf_count nested.old }
+    requires suits { D.suits decoder.now decoded.old }
     ensures ok { IfOk result (λ more. TakesStep more rows.old rows.new before.old before.new page.old page.new (D.left decoder.now values.old) (D.left decoder.now values.new) nested.old nested.new (D.slots decoded.old) (D.slots decoded.new)) }
     ensures err { IfErr result (CannotStep D.byte_limit rows.old before.old page.old (D.left decoder.now values.old) nested.old (D.slots decoded.old)) }
     ensures ticked { TicksAtMost (length nested.old) steps.old steps.new }
     ensures idle { IfOk result (λ more. more ≡ false → steps.new ≡ steps.old) }
+    ensures suits { D.suits decoder.now decoded.new }
 {
     let Some((rep, level, count)) = page.next_copies(*rows) else {
         return step_block(
@@ -192,10 +200,12 @@ pub fn extend_levels<'a, 'b, D: NestedDecoder<'b>, L: Ledger>(
 ) -> Result<()>
     requires fits { StateFits nested.old }
     requires decoded { length (D.slots decoded.old) ≡ leaf_count nested.old }
+    requires suits { D.suits decoder.now decoded.old }
     ensures ok { OnOk result (Extends additional page.old page.new (D.left decoder.now values.old) (D.left decoder.now values.new) nested.old nested.new (D.slots decoded.old) (D.slots decoded.new)) }
     ensures err { IfErr result (Refuses D.byte_limit additional page.old (D.left decoder.now values.old) nested.old (D.slots decoded.old)) }
     ensures ticked { OnOk result (TicksEach (length nested.old) page.old page.new steps.old steps.new) }
     ensures bounded { TicksAtMost (length nested.old * length page.old) steps.old steps.new }
+    ensures suits { D.suits decoder.now decoded.new }
 {
     let mut block = PairBlock::new();
     let mut rows = additional;

@@ -36,9 +36,11 @@ pub fn take_pairs<'a, D: NestedDecoder<'a>, L: Ledger>(
     requires follow { Follows (kept_way nested.old) before (zipped reps.now defs.now) }
     requires ended { EndedAt before nested.old }
     requires decoded { length (D.slots decoded.old) ≡ leaf_count nested.old }
+    requires suits { D.suits decoder.now decoded.old }
     ensures ok { OnOk result (TookBlock before reps.now defs.now nested.old nested.new (D.slots decoded.old) (D.slots decoded.new) (D.left decoder.now values.old) (D.left decoder.now values.new)) }
     ensures err { IfErr result (CannotTake D.byte_limit reps.now defs.now nested.old (D.left decoder.now values.old) (D.slots decoded.old)) }
     ensures ticked { TicksAtMost (length nested.old) steps.old steps.new }
+    ensures suits { D.suits decoder.now decoded.new }
 {
     match decode_levels(values, decoded, decoder, defs, levels.floor, levels.top) {
         Ok(()) => nested.push_levels(reps, defs, steps),
@@ -68,9 +70,11 @@ pub fn take_all<'a, D: NestedDecoder<'a>, L: Ledger>(
     requires follow { Follows (kept_way nested.old) before (zipped block.now.0 block.now.1) }
     requires ended { EndedAt before nested.old }
     requires decoded { length (D.slots decoded.old) ≡ leaf_count nested.old }
+    requires suits { D.suits decoder.now decoded.old }
     ensures ok { OnOk result (TookBlock before block.now.0 block.now.1 nested.old nested.new (D.slots decoded.old) (D.slots decoded.new) (D.left decoder.now values.old) (D.left decoder.now values.new)) }
     ensures err { IfErr result (CannotTake D.byte_limit block.now.0 block.now.1 nested.old (D.left decoder.now values.old) (D.slots decoded.old)) }
     ensures ticked { TicksAtMost (length nested.old) steps.old steps.new }
+    ensures suits { D.suits decoder.now decoded.new }
 {
     match decode_block(values, decoded, decoder, block, levels.floor, levels.top) {
         Ok(()) => nested.push_levels(block.reps(), block.defs(), steps),
@@ -100,9 +104,11 @@ pub fn take_block<'a, D: NestedDecoder<'a>, L: Ledger>(
     requires follow { Follows (kept_way nested.old) before (zipped reps.now defs.now) }
     requires ended { EndedAt before nested.old }
     requires decoded { length (D.slots decoded.old) ≡ leaf_count nested.old }
+    requires suits { D.suits decoder.now decoded.old }
     ensures ok { OnOk result (TookBlock before reps.now defs.now nested.old nested.new (D.slots decoded.old) (D.slots decoded.new) (D.left decoder.now values.old) (D.left decoder.now values.new)) }
     ensures err { IfErr result (CannotTake D.byte_limit reps.now defs.now nested.old (D.left decoder.now values.old) (D.slots decoded.old)) }
     ensures ticked { TicksAtMost (length nested.old) steps.old steps.new }
+    ensures suits { D.suits decoder.now decoded.new }
 {
     let levels = way_levels(nested);
     take_pairs(
@@ -133,9 +139,11 @@ pub fn take_copies<'a, D: NestedDecoder<'a>, L: Ledger>(
     requires follow { Follows (kept_way nested.old) before (zipped (replicate count rep) (replicate count level)) }
     requires ended { EndedAt before nested.old }
     requires decoded { length (D.slots decoded.old) ≡ leaf_count nested.old }
+    requires suits { D.suits decoder.now decoded.old }
     ensures ok { OnOk result (TookBlock before (replicate count rep) (replicate count level) nested.old nested.new (D.slots decoded.old) (D.slots decoded.new) (D.left decoder.now values.old) (D.left decoder.now values.new)) }
     ensures err { IfErr result (CannotTake D.byte_limit (replicate count rep) (replicate count level) nested.old (D.left decoder.now values.old) (D.slots decoded.old)) }
     ensures ticked { TicksAtMost (length nested.old) steps.old steps.new }
+    ensures suits { D.suits decoder.now decoded.new }
 {
     match decode_copies(
         values,

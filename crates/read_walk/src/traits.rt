@@ -25,6 +25,9 @@ pub trait NestedDecoder<'a> {
     // without bytes
     ghost byte_limit: { ℕ };
 
+    // the decoder may go on behind what was decoded
+    ghost suits: { Self → Self.DecodedState → Type 0 } = { λ d s. Unit {0} };
+
     /// The next `count` stored values, each as a slot.
     ///
     /// # Errors
@@ -37,8 +40,10 @@ pub trait NestedDecoder<'a> {
         decoded: &mut Self::DecodedState,
         count: usize,
     ) -> Result<()>
+        requires suits { suits self.now decoded.old }
         ensures ok { OnOk result (Decodes count (left self.now state.old) (left self.now state.new) (slots decoded.old) (slots decoded.new)) }
-        ensures err { IfErr result (CannotDecode byte_limit count (left self.now state.old) (slots decoded.old)) };
+        ensures err { IfErr result (CannotDecode byte_limit count (left self.now state.old) (slots decoded.old)) }
+        ensures suits { suits self.now decoded.new };
 
     /// `count` null slots.
     ///
@@ -46,8 +51,10 @@ pub trait NestedDecoder<'a> {
     ///
     /// `Memory`.
     fn push_null(&self, decoded: &mut Self::DecodedState, count: usize) -> Result<()>
+        requires suits { suits self.now decoded.old }
         ensures ok { OnOk result (slots decoded.new ≡ slots decoded.old ++ replicate count null) }
-        ensures err { IfErr result (λ e. e ≡ Error.Memory) };
+        ensures err { IfErr result (λ e. e ≡ Error.Memory) }
+        ensures suits { suits self.now decoded.new };
 
     /// The next `count` slots, at most 64: the next stored value where the slot's bit of `valid` is set, the lowest bit first, and null elsewhere.
     ///
@@ -62,6 +69,8 @@ pub trait NestedDecoder<'a> {
         count: usize,
     ) -> Result<()>
         requires few { count ≤ 64 }
+        requires suits { suits self.now decoded.old }
         ensures ok { OnOk result (DecodesMixed (word_bits valid count) (left self.now state.old) (left self.now state.new) (slots decoded.old) (slots decoded.new)) }
-        ensures err { IfErr result (CannotDecode byte_limit (ones (word_bits valid count)) (left self.now state.old) (slots decoded.old)) };
+        ensures err { IfErr result (CannotDecode byte_limit (ones (word_bits valid count)) (left self.now state.old) (slots decoded.old)) }
+        ensures suits { suits self.now decoded.new };
 }

@@ -1,44 +1,26 @@
-use Rattle.std.proofs.Common.{◌≡◌, ◌+◌, ◌*◌, ◌^◌, ◌≤◌, ◌==◌, ℕ, true, false, arith, ap, sym, subst, ◌∙◌}
-use Rattle.std.specs.Int.{bit_at}
-use Rattle.std.proofs.lemmas.Nat.{shl_whole}
-use Rattle.std.proofs.lemmas.Nat.Bits.{bit_at-lt}
-use Rattle.read_leaf.proofs.AmongNulls.{IsAmong, one_left, among_set, among_unset, among_all}
-use Rattle.read_leaf.proofs.truths.take_among.Goals.{then-valid-i-eq1, else-valid-i-eq1}
+use Rattle.std.proofs.Common.{◌≡◌, ◌+◌, ◌/◌, drop, ℕ, arith, ap, sym, refl, ◌∙◌}
+use Rattle.columns_core.specs.Bits.{bits_from, word_bits}
+use Rattle.columns_core.proofs.Words.{word_seen}
+use Rattle.read_walk.specs.Values.{ones}
+use Rattle.read_leaf.specs.Truths.{among_nulls}
+use Rattle.read_leaf.proofs.PlainBits.{next_truths}
+use Rattle.read_leaf.proofs.SetBits.{length-bits, most-ones}
 use Rattle.read_leaf.proofs.truths.take_among.Goals as goal
 
-pub bit_in-requires : goal.bit_in-requires
-bit_in-requires c =
-    let e : (bit_at c.args.valid c.loop-i.i == 1) ≡ true = ap (λ (b : ℕ). b == 1) c.if-valid-i-eq1.true in
-    omega (arith, one_left c.args.bytes.now c.args.bit c.args.valid c.loop-i.i c.args.count c.loop-i.at c.loop-i.word c.loop-i-test.true e c.loop-i.invariant.is, c.requires.within)
-
-pub overflow_add-at : goal.overflow_add-at
-overflow_add-at c =
-    let e : (bit_at c.args.valid c.loop-i.i == 1) ≡ true = ap (λ (b : ℕ). b == 1) c.if-valid-i-eq1.true in
-    omega (arith, one_left c.args.bytes.now c.args.bit c.args.valid c.loop-i.i c.args.count c.loop-i.at c.loop-i.word c.loop-i-test.true e c.loop-i.invariant.is, c.requires.counted)
-
-pub loop-i-preserved : goal.loop-i-preserved
-loop-i-preserved c =
-    let bytes = c.args.bytes.now in
-    let i = c.loop-i.i in
-    let short : 1 + i ≤ 64 = omega (arith, c.loop-i-test.true, c.requires.few) in
-    record {
-      is = elim c.if-valid-i-eq1.branch [
-        | then-valid-i-eq1 w ↦
-            let e : (bit_at c.args.valid i == 1) ≡ true = ap (λ (b : ℕ). b == 1) w.if-valid-i-eq1.true in
-            let b = w.bit_in.result in
-            let whole = shl_whole b 1 i 64 w.bit_in.ensures.below short in
-            let word : c.if-valid-i-eq1.word ≡ c.loop-i.word + b * 2 ^ i = w.word-is ∙ ap (λ (k : ℕ). c.loop-i.word + k) whole in
-            subst (λ (k : ℕ). IsAmong bytes c.args.bit c.args.valid (i + 1) k c.if-valid-i-eq1.word) (sym w.at-is) (among_set bytes c.args.bit c.args.valid i c.loop-i.at c.loop-i.word c.if-valid-i-eq1.word b e w.bit_in.ensures.below w.bit_in.ensures.is word c.loop-i.invariant.is)
-        | else-valid-i-eq1 w ↦
-            let none : bit_at c.args.valid i ≡ 0 = omega (arith, w.if-valid-i-eq1.false, bit_at-lt c.args.valid i) in
-            let e : (bit_at c.args.valid i == 1) ≡ false = ap (λ (b : ℕ). b == 1) none in
-            let same = among_unset bytes c.args.bit c.args.valid i c.loop-i.at c.loop-i.word e c.loop-i.invariant.is in
-            subst (λ (k : ℕ). IsAmong bytes c.args.bit c.args.valid (i + 1) c.if-valid-i-eq1.at k) (sym w.word-is) (subst (λ (k : ℕ). IsAmong bytes c.args.bit c.args.valid (i + 1) k c.loop-i.word) (sym w.at-is) same)
-      ];
-    }
+pub bits_in-source-requires-clause-few : goal.bits_in-source-requires-clause-few
+bits_in-source-requires-clause-few c = omega (arith, c.requires.few, c.count_set-wanted.ensures, most-ones (word_bits c.args.valid c.args.count), length-bits c.args.valid c.args.count)
 
 pub returns : goal.returns
 returns c =
-    let n : c.loop-i.i ≡ c.args.count = omega (arith, c.loop-i-test.false, c.loop-i.auto.i-end) in
-    let all = subst (λ (k : ℕ). IsAmong c.args.bytes.now c.args.bit c.args.valid k c.loop-i.at c.loop-i.word) n c.loop-i.invariant.is in
-    among_all c.args.bytes.now c.args.bit c.args.valid c.args.count c.loop-i.at c.loop-i.word c.skip.result.now (λ i. omega (arith, c.type_inv.bytes i)) c.requires.within c.skip.ensures all
+    let bytes = c.args.bytes.now in
+    let bit = c.args.bit in
+    let bits = word_bits c.args.valid c.args.count in
+    let k = ones bits in
+    let source = c.bits_in-source.result in
+    let wanted : c.count_set-wanted.result ≡ k = c.count_set-wanted.ensures in
+    let seen : bits_from bytes bit k ≡ word_bits source k = word_seen bytes bit k source (λ i h. sym (c.bits_in-source.ensures.bits i (omega (arith, h, wanted)))) in
+    record {
+      truths = bits_from bytes bit k;
+      took = next_truths bytes c.skip.result.now bit k (bit + k) (λ i. omega (arith, c.type_inv.bytes i)) refl c.requires.within (c.skip.ensures ∙ ap (λ (n : ℕ). drop ((bit + n) / 8) bytes) wanted);
+      are = c.spread_bits-word.ensures ∙ ap (among_nulls bits) (sym seen);
+    }

@@ -12,6 +12,7 @@ loop-at-preserved g c =
     record {
       all = λ left' slots' d. c.loop-at.invariant.all left' slots' (rw parts (front-mixed c.args.floor c.args.top part ds _ _ _ left' _ _ slots' c.requires.ordered bits c.in-Ok.ensures.ok d));
       cannot = λ e d. c.loop-at.invariant.cannot e (rw parts (cannot-mixed g.D.NestedDecoder.byte_limit c.args.floor c.args.top part ds _ _ _ _ _ e c.requires.ordered bits c.in-Ok.ensures.ok d));
+      suits = c.push_mixed.ensures.suits;
     }
 
 pub returns-in-Err-clause-err : goal.returns-in-Err-clause-err

@@ -9,6 +9,7 @@ abbrev pub invariant-loop-at : goal.invariant-loop-at
 invariant-loop-at g l = record {
   all : (left' : List Stored) (slots' : List Slot) → Decoded l.floor l.top (drop l.at l.defs) (g.D.NestedDecoder.left l.decoder l.values) left' (g.D.NestedDecoder.slots l.decoded) slots' → Decoded l.floor l.top l.defs (g.D.NestedDecoder.left l.decoder l.initial.values) left' (g.D.NestedDecoder.slots l.initial.decoded) slots';
   cannot : (e : Error) → CannotDecode g.D.NestedDecoder.byte_limit (called l.top (drop l.at l.defs)) (g.D.NestedDecoder.left l.decoder l.values) (g.D.NestedDecoder.slots l.decoded) e → CannotDecode g.D.NestedDecoder.byte_limit (called l.top l.defs) (g.D.NestedDecoder.left l.decoder l.initial.values) (g.D.NestedDecoder.slots l.initial.decoded) e;
+  suits : g.D.NestedDecoder.suits l.decoder l.decoded;
 }
 
 abbrev pub decreases-loop-at : goal.decreases-loop-at

@@ -6,7 +6,7 @@ use Rattle.read_walk.proofs.Ticks.{as-many, no-ticks, ticks-more, last-ticks, so
 use Rattle.read_walk.proofs.extend.extend_levels.Goals as goal
 
 pub pairs-init : goal.pairs-init
-pairs-init g c = (nothing-taken c.args.additional c.args.page.now (g.D.NestedDecoder.left c.args.decoder.now c.args.values.now) c.args.nested.now (g.D.NestedDecoder.slots c.args.decoded.now) c.requires.fits c.requires.decoded, no-ticks (length c.args.nested.now) c.args.page.now c.args.steps.now, c.way_levels-levels.ensures)
+pairs-init g c = (nothing-taken c.args.additional c.args.page.now (g.D.NestedDecoder.left c.args.decoder.now c.args.values.now) c.args.nested.now (g.D.NestedDecoder.slots c.args.decoded.now) c.requires.fits c.requires.decoded, no-ticks (length c.args.nested.now) c.args.page.now c.args.steps.now, c.way_levels-levels.ensures, c.requires.suits)
 
 pub returns-in-Err-clause-err : goal.returns-in-Err-clause-err
 returns-in-Err-clause-err g c = refused-step g.D.NestedDecoder.byte_limit c.args.additional c.pairs.rows c.pairs.before _ _ _ _ _ _ _ _ c.in-Err.error c.pairs.invariant.0 c.in-Err.ensures.err
@@ -23,6 +23,7 @@ pairs-preserved g c =
       progress-more c.args.additional c.pairs.rows c.step_pairs.new.rows c.pairs.before c.step_pairs.new.before _ _ _ _ _ _ _ _ _ _ _ _ c.pairs.invariant.0 t,
       ticks-more (length c.args.nested.now) (length c.pairs.nested) c.args.page.now c.pairs.page c.step_pairs.new.page c.args.steps.now c.pairs.steps c.step_pairs.new.steps c.pairs.invariant.1 parts (smaller t.reps t.defs c.pairs.page c.step_pairs.new.page t.takes.0 t.takes.1 t.takes.2) c.step_pairs.ensures.ticked,
       rw t.took.way c.pairs.invariant.2,
+      c.step_pairs.ensures.suits,
     )
 
 pub returns-in-Err-clause-bounded : goal.returns-in-Err-clause-bounded

@@ -34,7 +34,7 @@ returns-in-Some-pop-clause-gives g c o pieces r =
     let before = subst (λ (os : List Outcome). IsReading (λ (text : List ℕ). g.L.LeafReader.stored c.args.leaf.now text 0) g.L.LeafReader.byte_limit o pieces (reading os (means c.self.inside.entries c.self.inside.deltas) c.in-Some.queue c.self.inside.began)) (sym (own-foreseen (g.I.Pages.outcomes c.self.inside.pages))) own in
     let f = c.in-Ok.ensures.ok o pieces others before in
     let is = own-reading _ _ o pieces _ others _ _ _ (own-behind _ _ c.in-Ok.ensures.behind) f.is in
-    let gives = gives-piece _ _ o pieces _ _ c.in-Ok.queue c.pop.new.self _ (c.in-Some-pop.piece.0, g.L.LeafReader.slots c.in-Some-pop.piece.1) is c.in-Some-pop.ensures in
+    let gives = gives-piece _ _ o pieces _ _ c.in-Ok.queue c.pop.new.self _ (c.in-Some-pop.piece.0, g.L.LeafReader.slots c.in-Some-pop.piece.1) is c.in-Some-pop.ensures.0 in
     (gives.triples, gives.next, gives.is, gives.reads)
 
 pub returns-in-Some-pop-clause-foreseen : goal.returns-in-Some-pop-clause-foreseen
@@ -43,7 +43,7 @@ returns-in-Some-pop-clause-foreseen g c o pieces others r =
     let queue : c.self.inside.queue ≡ Some c.in-Some.queue = sym c.take.ensures.value ∙ c.in-Some.is in
     let before = subst (λ (q : Option Waiting). IsReading (λ (text : List ℕ). g.L.LeafReader.stored c.args.leaf.now text 0) g.L.LeafReader.byte_limit o pieces (record { outcomes = foreseen (g.I.Pages.outcomes c.self.inside.pages) others; means = means c.self.inside.entries c.self.inside.deltas; queue = q; began = c.self.inside.began })) queue opened in
     let f = c.in-Ok.ensures.ok o pieces others before in
-    let gives = gives-piece _ _ o pieces _ _ c.in-Ok.queue c.pop.new.self _ (c.in-Some-pop.piece.0, g.L.LeafReader.slots c.in-Some-pop.piece.1) f.is c.in-Some-pop.ensures in
+    let gives = gives-piece _ _ o pieces _ _ c.in-Ok.queue c.pop.new.self _ (c.in-Some-pop.piece.0, g.L.LeafReader.slots c.in-Some-pop.piece.1) f.is c.in-Some-pop.ensures.0 in
     (gives.triples, gives.next, gives.is, gives.reads)
 
 pub returns-in-None-clause-gives : goal.returns-in-None-clause-gives

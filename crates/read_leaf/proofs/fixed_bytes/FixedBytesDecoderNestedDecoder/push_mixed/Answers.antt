@@ -15,4 +15,5 @@ loop-left-preserved c =
     record {
       most = omega (arith, c.loop-left.invariant.most);
       decoded = more-decoded c.args.valid done c.loop-left.bits c.first_run-run.result (c.loop-left.bits % 2 == 1) _ _ _ _ c.first_run-run.ensures.alike c.loop-left.invariant.decoded _ _ _ _ place c.bits_behind-bits.ensures c.in-Ok.ensures.ok;
+      suits = c.push_run.ensures.suits;
     }

@@ -7,5 +7,5 @@ returns-in-Ok-clause-ok c = record {
   values = chunks_values c.args.self.now.size c.args.count c.in-Some.strings.now;
   size = values-count c.args.self.now.size c.args.count c.in-Some.strings.now;
   taken = c.in-Some.ensures.1;
-  pushed = c.in-Ok.ensures.ok;
+  pushed = rw (← c.requires.suits) c.in-Ok.ensures.ok;
 }

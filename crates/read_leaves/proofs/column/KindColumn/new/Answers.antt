@@ -25,3 +25,28 @@ returns-clause-reads g c o readable physical outcomes way rows size = elim c.mat
   | in-Days+in_ok-read-in-Days w ↦ rw (w.in-Days.is, w.result-is) (w.in_ok-read-in-Days.ensures.reads o _ _ (rw w.in-Days.is at readable) physical outcomes way rows size)
   | in-FixedSizeBinary+in_ok-read-in-FixedSizeBinary w ↦ rw (w.in-FixedSizeBinary.is, w.result-is) (w.in_ok-read-in-FixedSizeBinary.ensures.reads o _ _ (rw w.in-FixedSizeBinary.is at readable) physical outcomes way rows size)
 ]
+
+pub returns-clause-sized : goal.returns-clause-sized
+returns-clause-sized g c = elim c.match-kind.branch [
+  | in-Boolean+in_ok-read-in-Boolean w ↦ rw w.result-is tt
+  | in-Null+in_ok-read-in-Null w ↦ rw w.result-is tt
+  | in-Int8+in_ok-read-in-Int8 w ↦ rw w.result-is tt
+  | in-Int16+in_ok-read-in-Int16 w ↦ rw w.result-is tt
+  | in-Int32+in_ok-read-in-Int32 w ↦ rw w.result-is tt
+  | in-UInt8+in_ok-read-in-UInt8 w ↦ rw w.result-is tt
+  | in-UInt16+in_ok-read-in-UInt16 w ↦ rw w.result-is tt
+  | in-UInt32+in_ok-read-in-UInt32 w ↦ rw w.result-is tt
+  | in-Int64+in_ok-read-in-Int64 w ↦ rw w.result-is tt
+  | in-Decimal+in_ok-read-in-Decimal w ↦ rw w.result-is tt
+  | in-WideDecimal+in_ok-read-in-WideDecimal w ↦ rw w.result-is tt
+  | in-WideUInt32+in_ok-read-in-WideUInt32 w ↦ rw w.result-is tt
+  | in-UInt64+in_ok-read-in-UInt64 w ↦ rw w.result-is tt
+  | in-Utf8+in_ok-read-in-Utf8 w ↦ rw w.result-is tt
+  | in-LargeUtf8+in_ok-read-in-LargeUtf8 w ↦ rw w.result-is tt
+  | in-Binary+in_ok-read-in-Binary w ↦ rw w.result-is tt
+  | in-LargeBinary+in_ok-read-in-LargeBinary w ↦ rw w.result-is tt
+  | in-FixedDecimal+in_ok-read-in-FixedDecimal w ↦ rw w.result-is tt
+  | in-Months+in_ok-read-in-Months w ↦ rw w.result-is tt
+  | in-Days+in_ok-read-in-Days w ↦ rw w.result-is tt
+  | in-FixedSizeBinary+in_ok-read-in-FixedSizeBinary w ↦ rw w.result-is w.in_ok-read-in-FixedSizeBinary.ensures.suits
+]

@@ -9,4 +9,4 @@ returns g c o t pieces r =
     let column = c.self.inside.column in
     let after = c.next_piece.new.self in
     rw (← before.typed)
-    (leaf-gives o (type_view c.self.inside.data_type) pieces (kind_in column) (kind_in after) (reader_in after) c.next_piece.result c.next_piece.ensures.kind c.self.invariant (c.next_piece.ensures.gives o pieces before.reads))
+    (leaf-gives o (type_view c.self.inside.data_type) pieces (kind_in column) (kind_in after) (reader_in after) c.next_piece.result c.next_piece.ensures.kind c.self.invariant.0 (c.next_piece.ensures.gives o pieces before.reads))
