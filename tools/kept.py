@@ -5,7 +5,7 @@ usage: kept.py [--no-edits] [--no-tests] [CRATE ..]     at the top of a clean cl
        kept.py --harvest CLONE LOG                       takes over what a run of `rt ci` in CLONE, with its output in LOG, has proved so far
 
 Some kits' `rt ci` keeps nothing and takes no names, so that each run proves everything anew. This one keeps, for each crate, what it built under a sum of the
-crate's files and of those of all crates below it (KEPT, or /tmp/kept), and proves only what changed. A run of `rt ci` need not have ended to be harvested.
+crate's files and of those of all crates below it (KEPT, or /tmp/kept), and proves only what changed. With TIMES=FOLDER it also notes what each function costs (tools/cost/timed.py). A run of `rt ci` need not have ended to be harvested.
 """
 import hashlib
 import os
@@ -141,6 +141,8 @@ os.makedirs(STORE, exist_ok=True)
 if "--harvest" in FLAGS:
     harvest(*NAMES)
     sys.exit(0)
+if os.environ.get("TIMES"):
+    rtlib.RATTLE = f"{os.path.dirname(os.path.abspath(__file__))}/cost/timed.py"
 PROVE, TRY, ALL = rt.Crate.ci, rt.must_fail_all, rt.crates_of
 rt.Crate.ci, rt.must_fail_all = ci, must_fail_all
 if NAMES:
