@@ -5,7 +5,7 @@ ghost use Rattle.pq_tree.specs.Views.{statistics_view};
 ghost use Rattle.pq_files.specs.Written.{statistics_value, column_value, chunk_value, group_value};
 ghost use Rattle.footer_write.specs.FooterView.{column_view, chunk_view, row_group_view};
 
-use crate::parts::{bytes_from, i16_from, i64_from, struct_of, text_from};
+use crate::parts::{bytes_from, i16_from, i64_from, push_part, struct_of, text_from};
 use crate::types::{ThriftColumnChunk, ThriftColumnMetaData, ThriftRowGroup};
 use pq_thrift::Thrift;
 use pq_tree::Statistics;
@@ -16,12 +16,11 @@ fn statistics_from(alloc: Global, statistics: &Statistics) -> Result<Thrift, All
 {
     let max_value = bytes_from(alloc, &statistics.max_value)?;
     let min_value = bytes_from(alloc, &statistics.min_value)?;
-    let parts = vec![in alloc;
-        (3, i64_from(statistics.null_count)),
-        (5, max_value),
-        (6, min_value),
-    ]?;
-    struct_of(alloc, parts)
+    let mut fields = Vec::with_capacity(alloc, 3)?;
+    push_part(&mut fields, 3, i64_from(statistics.null_count))?;
+    push_part(&mut fields, 5, max_value)?;
+    push_part(&mut fields, 6, min_value)?;
+    Ok(Thrift::Struct(fields))
 }
 
 fn some_statistics(
@@ -68,19 +67,19 @@ fn column_from(alloc: Global, column: &ThriftColumnMetaData) -> Result<Thrift, A
     let encodings = numbers_from(alloc, &column.encodings)?;
     let path = texts_from(alloc, &column.path_in_schema)?;
     let statistics = some_statistics(alloc, &column.statistics)?;
-    let parts = vec![in alloc;
-        (1, Some(Thrift::I32(column.type_))),
-        (2, Some(Thrift::List(5, encodings))),
-        (3, Some(Thrift::List(8, path))),
-        (4, Some(Thrift::I32(column.codec))),
-        (5, Some(Thrift::I64(column.num_values))),
-        (6, Some(Thrift::I64(column.total_uncompressed_size))),
-        (7, Some(Thrift::I64(column.total_compressed_size))),
-        (9, Some(Thrift::I64(column.data_page_offset))),
-        (11, i64_from(column.dictionary_page_offset)),
-        (12, statistics),
+    let mut fields = vec![in alloc;
+        (1, Thrift::I32(column.type_)),
+        (2, Thrift::List(5, encodings)),
+        (3, Thrift::List(8, path)),
+        (4, Thrift::I32(column.codec)),
+        (5, Thrift::I64(column.num_values)),
+        (6, Thrift::I64(column.total_uncompressed_size)),
+        (7, Thrift::I64(column.total_compressed_size)),
+        (9, Thrift::I64(column.data_page_offset)),
     ]?;
-    struct_of(alloc, parts)
+    push_part(&mut fields, 11, i64_from(column.dictionary_page_offset))?;
+    push_part(&mut fields, 12, statistics)?;
+    Ok(Thrift::Struct(fields))
 }
 
 fn chunk_from(alloc: Global, chunk: &ThriftColumnChunk) -> Result<Thrift, AllocError>

@@ -10,7 +10,8 @@ use std::alloc::{AllocError, Global};
 /// A field's id, and its value if it stands.
 pub type Part = (u8, Option<Thrift>);
 
-fn push_part(
+/// Appends a field, if it stands.
+pub fn push_part(
     fields: &mut Vec<(i16, Thrift)>,
     id: u8,
     value: Option<Thrift>,
