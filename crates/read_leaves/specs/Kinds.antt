@@ -31,27 +31,27 @@ kind_in (C.Days r) = K.Days
 kind_in (C.FixedSizeBinary r n) = K.FixedSizeBinary n
 
 abbrev pub reader_in : {I : Type 0} → KindColumn I → Reading
-reader_in (C.Boolean r) = r
-reader_in (C.Null r) = r
-reader_in (C.Int8 r) = r
-reader_in (C.Int16 r) = r
-reader_in (C.Int32 r) = r
-reader_in (C.UInt8 r) = r
-reader_in (C.UInt16 r) = r
-reader_in (C.UInt32 r) = r
-reader_in (C.Int64 r) = r
-reader_in (C.Decimal r) = r
-reader_in (C.WideDecimal r) = r
-reader_in (C.WideUInt32 r) = r
-reader_in (C.UInt64 r) = r
-reader_in (C.Utf8 r) = r
-reader_in (C.LargeUtf8 r) = r
-reader_in (C.Binary r) = r
-reader_in (C.LargeBinary r) = r
-reader_in (C.FixedDecimal r n) = r
-reader_in (C.Months r) = r
-reader_in (C.Days r) = r
-reader_in (C.FixedSizeBinary r n) = r
+reader_in (C.Boolean r) = r.value
+reader_in (C.Null r) = r.value
+reader_in (C.Int8 r) = r.value
+reader_in (C.Int16 r) = r.value
+reader_in (C.Int32 r) = r.value
+reader_in (C.UInt8 r) = r.value
+reader_in (C.UInt16 r) = r.value
+reader_in (C.UInt32 r) = r.value
+reader_in (C.Int64 r) = r.value
+reader_in (C.Decimal r) = r.value
+reader_in (C.WideDecimal r) = r.value
+reader_in (C.WideUInt32 r) = r.value
+reader_in (C.UInt64 r) = r.value
+reader_in (C.Utf8 r) = r.value
+reader_in (C.LargeUtf8 r) = r.value
+reader_in (C.Binary r) = r.value
+reader_in (C.LargeBinary r) = r.value
+reader_in (C.FixedDecimal r n) = r.value
+reader_in (C.Months r) = r.value
+reader_in (C.Days r) = r.value
+reader_in (C.FixedSizeBinary r n) = r.value
 
 -- what its reader holds of byte strings of one size has the size of the kind
 abbrev pub IsSized : LeafKind → Reading → Type 0

@@ -36,29 +36,29 @@ use std::marker::PhantomData;
 /// The reader of a column, by how its values are read.
 #[derive(Drop)]
 pub enum KindColumn<I: Pages> {
-    Boolean(ColumnReader<I, Truths>),
-    Null(ColumnReader<I, Nulls>),
-    Int8(ColumnReader<I, Numbers<i8, i32>>),
-    Int16(ColumnReader<I, Numbers<i16, i32>>),
-    Int32(ColumnReader<I, Numbers<i32, i32>>),
-    UInt8(ColumnReader<I, Numbers<u8, i32>>),
-    UInt16(ColumnReader<I, Numbers<u16, i32>>),
-    UInt32(ColumnReader<I, Numbers<u32, i32>>),
-    Int64(ColumnReader<I, Numbers<i64, i64>>),
-    Decimal(ColumnReader<I, Numbers<i128, i32>>),
-    WideDecimal(ColumnReader<I, Numbers<i128, i64>>),
-    WideUInt32(ColumnReader<I, Numbers<u32, i64>>),
-    UInt64(ColumnReader<I, Numbers<u64, i64>>),
-    Utf8(ColumnReader<I, Strings<i32, Text>>),
-    LargeUtf8(ColumnReader<I, Strings<i64, Text>>),
-    Binary(ColumnReader<I, Strings<i32, Bytes>>),
-    LargeBinary(ColumnReader<I, Strings<i64, Bytes>>),
+    Boolean(Box<ColumnReader<I, Truths>>),
+    Null(Box<ColumnReader<I, Nulls>>),
+    Int8(Box<ColumnReader<I, Numbers<i8, i32>>>),
+    Int16(Box<ColumnReader<I, Numbers<i16, i32>>>),
+    Int32(Box<ColumnReader<I, Numbers<i32, i32>>>),
+    UInt8(Box<ColumnReader<I, Numbers<u8, i32>>>),
+    UInt16(Box<ColumnReader<I, Numbers<u16, i32>>>),
+    UInt32(Box<ColumnReader<I, Numbers<u32, i32>>>),
+    Int64(Box<ColumnReader<I, Numbers<i64, i64>>>),
+    Decimal(Box<ColumnReader<I, Numbers<i128, i32>>>),
+    WideDecimal(Box<ColumnReader<I, Numbers<i128, i64>>>),
+    WideUInt32(Box<ColumnReader<I, Numbers<u32, i64>>>),
+    UInt64(Box<ColumnReader<I, Numbers<u64, i64>>>),
+    Utf8(Box<ColumnReader<I, Strings<i32, Text>>>),
+    LargeUtf8(Box<ColumnReader<I, Strings<i64, Text>>>),
+    Binary(Box<ColumnReader<I, Strings<i32, Bytes>>>),
+    LargeBinary(Box<ColumnReader<I, Strings<i64, Bytes>>>),
     /// With the size of each value.
-    FixedDecimal(ColumnReader<I, Fixed<i128>>, usize),
-    Months(ColumnReader<I, Fixed<i32>>),
-    Days(ColumnReader<I, Fixed<DaysMs>>),
+    FixedDecimal(Box<ColumnReader<I, Fixed<i128>>>, usize),
+    Months(Box<ColumnReader<I, Fixed<i32>>>),
+    Days(Box<ColumnReader<I, Fixed<DaysMs>>>),
     /// With the size of each string.
-    FixedSizeBinary(ColumnReader<I, FixedBytes>, usize),
+    FixedSizeBinary(Box<ColumnReader<I, FixedBytes>>, usize),
 }
 
 /// The pages of a column, its physical type, the parts of the way to its leaf, and how its rows are read.
@@ -72,23 +72,31 @@ pub struct PagesOfRows<I: Pages> {
     pub num_rows: usize,
 }
 
-impl<I: Pages> PagesOfRows<I> {
-    // The reader of the column of such a leaf.
-    fn read<L: LeafReader>(self, leaf: &L) -> Result<ColumnReader<I, L>>
-        ensures reads { (o : ColumnOpening) (stored : List ℕ → List Stored) (limit : ℕ) → IsReadable o stored limit → o.leaf.physical ≡ physical_view self.physical_type → o.outcomes ≡ I.outcomes self.pages → IsWay self.nested.items (thin o.column.way) → o.rows ≡ self.num_rows → o.chunk_size ≡ self.chunk_size → IfOk result (λ r. IsReading stored limit o [] r) }
-        ensures suits { IfOk result (λ r. IsSuited (L.suits leaf.now) r.queue) }
-        ensures err { IfErr result (λ e. e ≡ Memory) }
-    {
-        ColumnReader::new(
-            self.alloc,
-            leaf,
-            self.pages,
-            self.physical_type,
-            self.nested,
-            self.chunk_size,
-            self.num_rows,
-        )
-    }
+// The reader of the column of such a leaf. Pages and reader are on the heap, since both are large: the call of each kind has a place of its own for
+// what it hands over, and the reader is handed up through several calls.
+#[inline(never)]
+fn read<I: Pages, L: LeafReader>(
+    rows: Box<PagesOfRows<I>>,
+    leaf: &L,
+) -> Result<Box<ColumnReader<I, L>>>
+    ensures reads { (o : ColumnOpening) (stored : List ℕ → List Stored) (limit : ℕ) → IsReadable o stored limit → o.leaf.physical ≡ physical_view rows.value.physical_type → o.outcomes ≡ I.outcomes rows.value.pages → IsWay rows.value.nested.items (thin o.column.way) → o.rows ≡ rows.value.num_rows → o.chunk_size ≡ rows.value.chunk_size → IfOk result (λ b. IsReading stored limit o [] b.value) }
+    ensures suits { IfOk result (λ b. IsSuited (L.suits leaf.now) b.value.queue) }
+    ensures err { IfErr result (λ e. e ≡ Memory) }
+{
+    let rows = Box::into_inner(rows);
+    let reader = match ColumnReader::new(
+        rows.alloc,
+        leaf,
+        rows.pages,
+        rows.physical_type,
+        rows.nested,
+        rows.chunk_size,
+        rows.num_rows,
+    ) {
+        Ok(reader) => reader,
+        Err(error) => return Err(error),
+    };
+    Ok(Box::new(rows.alloc, reader)?)
 }
 
 // How values that are stored as so many bytes each are read.
@@ -103,28 +111,28 @@ fn fixed_of<T>(size: usize) -> Fixed<T>
 
 // The next piece, with the array of its leaf, of this type.
 fn next_of<I: Pages, L: LeafArray>(
-    reader: &mut ColumnReader<I, L>,
+    reader: &mut Box<ColumnReader<I, L>>,
     leaf: &L,
     alloc: Global,
     data_type: &DataType,
 ) -> Option<Result<ColumnPiece>>
     requires makes { L.makes leaf.now (base (type_view data_type.now)) ≡ true }
-    requires suits { IsSuited (L.suits leaf.now) reader.old.queue }
-    ensures gives { (o : ColumnOpening) (pieces : List (List Triple)) → IsReading (λ text. L.stored leaf.now text 0) L.byte_limit o pieces reader.old → GivesPiece (IsReading (λ text. L.stored leaf.now text 0) L.byte_limit) (λ p ts. IsPieceOf o.column (type_view data_type.now) ts None p) o pieces result reader.new }
-    ensures suits { IsSuited (L.suits leaf.now) reader.new.queue }
+    requires suits { IsSuited (L.suits leaf.now) reader.old.value.queue }
+    ensures gives { (o : ColumnOpening) (pieces : List (List Triple)) → IsReading (λ text. L.stored leaf.now text 0) L.byte_limit o pieces reader.old.value → GivesPiece (IsReading (λ text. L.stored leaf.now text 0) L.byte_limit) (λ p ts. IsPieceOf o.column (type_view data_type.now) ts None p) o pieces result reader.new.value }
+    ensures suits { IsSuited (L.suits leaf.now) reader.new.value.queue }
 {
     piece_of(alloc, leaf, data_type, reader.next_piece(leaf))
 }
 
 // The same of values that are stored as so many bytes each.
 fn next_fixed<I: Pages, T: FixedValue + NumberBox>(
-    reader: &mut ColumnReader<I, Fixed<T>>,
+    reader: &mut Box<ColumnReader<I, Fixed<T>>>,
     size: usize,
     alloc: Global,
     data_type: &DataType,
 ) -> Option<Result<ColumnPiece>>
     requires { makes_fixed T.stores (base (type_view data_type.now)) ≡ true }
-    ensures { (o : ColumnOpening) (pieces : List (List Triple)) → IsReading (stored_fixed T.loaded size) 0 o pieces reader.old → GivesPiece (IsReading (stored_fixed T.loaded size) 0) (λ p ts. IsPieceOf o.column (type_view data_type.now) ts None p) o pieces result reader.new }
+    ensures { (o : ColumnOpening) (pieces : List (List Triple)) → IsReading (stored_fixed T.loaded size) 0 o pieces reader.old.value → GivesPiece (IsReading (stored_fixed T.loaded size) 0) (λ p ts. IsPieceOf o.column (type_view data_type.now) ts None p) o pieces result reader.new.value }
 {
     let leaf = Fixed {
         size,
@@ -135,15 +143,15 @@ fn next_fixed<I: Pages, T: FixedValue + NumberBox>(
 
 // The same of byte strings of so many bytes each.
 fn next_chunks<I: Pages>(
-    reader: &mut ColumnReader<I, FixedBytes>,
+    reader: &mut Box<ColumnReader<I, FixedBytes>>,
     size: usize,
     alloc: Global,
     data_type: &DataType,
 ) -> Option<Result<ColumnPiece>>
     requires makes { reads_chunks size (base (type_view data_type.now)) ≡ true }
-    requires suits { IsSuited (λ n. n ≡ size) reader.old.queue }
-    ensures gives { (o : ColumnOpening) (pieces : List (List Triple)) → IsReading (stored_fixed loaded_bytes size) 0 o pieces reader.old → GivesPiece (IsReading (stored_fixed loaded_bytes size) 0) (λ p ts. IsPieceOf o.column (type_view data_type.now) ts None p) o pieces result reader.new }
-    ensures suits { IsSuited (λ n. n ≡ size) reader.new.queue }
+    requires suits { IsSuited (λ n. n ≡ size) reader.old.value.queue }
+    ensures gives { (o : ColumnOpening) (pieces : List (List Triple)) → IsReading (stored_fixed loaded_bytes size) 0 o pieces reader.old.value → GivesPiece (IsReading (stored_fixed loaded_bytes size) 0) (λ p ts. IsPieceOf o.column (type_view data_type.now) ts None p) o pieces result reader.new.value }
+    ensures suits { IsSuited (λ n. n ≡ size) reader.new.value.queue }
 {
     next_of(reader, &FixedBytes { size }, alloc, data_type)
 }
@@ -154,38 +162,38 @@ impl<I: Pages> KindColumn<I> {
     /// # Errors
     ///
     /// `Memory`.
-    pub fn new(kind: LeafKind, rows: PagesOfRows<I>) -> Result<Self>
+    pub fn new(kind: LeafKind, rows: Box<PagesOfRows<I>>) -> Result<Self>
         ensures kind { IfOk result (λ c. kind_in c ≡ kind) }
-        ensures reads { (o : ColumnOpening) → IsReadable o (stored_of kind) (limit_of kind) → o.leaf.physical ≡ physical_view rows.physical_type → o.outcomes ≡ I.outcomes rows.pages → IsWay rows.nested.items (thin o.column.way) → o.rows ≡ rows.num_rows → o.chunk_size ≡ rows.chunk_size → IfOk result (λ c. IsReading (stored_of kind) (limit_of kind) o [] (reader_in c)) }
+        ensures reads { (o : ColumnOpening) → IsReadable o (stored_of kind) (limit_of kind) → o.leaf.physical ≡ physical_view rows.value.physical_type → o.outcomes ≡ I.outcomes rows.value.pages → IsWay rows.value.nested.items (thin o.column.way) → o.rows ≡ rows.value.num_rows → o.chunk_size ≡ rows.value.chunk_size → IfOk result (λ c. IsReading (stored_of kind) (limit_of kind) o [] (reader_in c)) }
         ensures sized { IfOk result (λ c. IsSized (kind_in c) (reader_in c)) }
         ensures err { IfErr result (λ e. e ≡ Memory) }
     {
         Ok(match kind {
-            LeafKind::Boolean => KindColumn::Boolean(rows.read(&Truths)?),
-            LeafKind::Null => KindColumn::Null(rows.read(&Nulls)?),
-            LeafKind::Int8 => KindColumn::Int8(rows.read(&Numbers::new())?),
-            LeafKind::Int16 => KindColumn::Int16(rows.read(&Numbers::new())?),
-            LeafKind::Int32 => KindColumn::Int32(rows.read(&Numbers::new())?),
-            LeafKind::UInt8 => KindColumn::UInt8(rows.read(&Numbers::new())?),
-            LeafKind::UInt16 => KindColumn::UInt16(rows.read(&Numbers::new())?),
-            LeafKind::UInt32 => KindColumn::UInt32(rows.read(&Numbers::new())?),
-            LeafKind::Int64 => KindColumn::Int64(rows.read(&Numbers::new())?),
-            LeafKind::Decimal => KindColumn::Decimal(rows.read(&Numbers::new())?),
-            LeafKind::WideDecimal => KindColumn::WideDecimal(rows.read(&Numbers::new())?),
-            LeafKind::WideUInt32 => KindColumn::WideUInt32(rows.read(&Numbers::new())?),
-            LeafKind::UInt64 => KindColumn::UInt64(rows.read(&Numbers::new())?),
-            LeafKind::Utf8 => KindColumn::Utf8(rows.read(&Strings::new())?),
-            LeafKind::LargeUtf8 => KindColumn::LargeUtf8(rows.read(&Strings::new())?),
-            LeafKind::Binary => KindColumn::Binary(rows.read(&Strings::new())?),
-            LeafKind::LargeBinary => KindColumn::LargeBinary(rows.read(&Strings::new())?),
+            LeafKind::Boolean => KindColumn::Boolean(read(rows, &Truths)?),
+            LeafKind::Null => KindColumn::Null(read(rows, &Nulls)?),
+            LeafKind::Int8 => KindColumn::Int8(read(rows, &Numbers::new())?),
+            LeafKind::Int16 => KindColumn::Int16(read(rows, &Numbers::new())?),
+            LeafKind::Int32 => KindColumn::Int32(read(rows, &Numbers::new())?),
+            LeafKind::UInt8 => KindColumn::UInt8(read(rows, &Numbers::new())?),
+            LeafKind::UInt16 => KindColumn::UInt16(read(rows, &Numbers::new())?),
+            LeafKind::UInt32 => KindColumn::UInt32(read(rows, &Numbers::new())?),
+            LeafKind::Int64 => KindColumn::Int64(read(rows, &Numbers::new())?),
+            LeafKind::Decimal => KindColumn::Decimal(read(rows, &Numbers::new())?),
+            LeafKind::WideDecimal => KindColumn::WideDecimal(read(rows, &Numbers::new())?),
+            LeafKind::WideUInt32 => KindColumn::WideUInt32(read(rows, &Numbers::new())?),
+            LeafKind::UInt64 => KindColumn::UInt64(read(rows, &Numbers::new())?),
+            LeafKind::Utf8 => KindColumn::Utf8(read(rows, &Strings::new())?),
+            LeafKind::LargeUtf8 => KindColumn::LargeUtf8(read(rows, &Strings::new())?),
+            LeafKind::Binary => KindColumn::Binary(read(rows, &Strings::new())?),
+            LeafKind::LargeBinary => KindColumn::LargeBinary(read(rows, &Strings::new())?),
             LeafKind::FixedDecimal(size) => KindColumn::FixedDecimal(
-                rows.read(&fixed_of(size))?,
+                read(rows, &fixed_of(size))?,
                 size,
             ),
-            LeafKind::Months => KindColumn::Months(rows.read(&fixed_of(12))?),
-            LeafKind::Days => KindColumn::Days(rows.read(&fixed_of(12))?),
+            LeafKind::Months => KindColumn::Months(read(rows, &fixed_of(12))?),
+            LeafKind::Days => KindColumn::Days(read(rows, &fixed_of(12))?),
             LeafKind::FixedSizeBinary(size) => KindColumn::FixedSizeBinary(
-                rows.read(&FixedBytes { size })?,
+                read(rows, &FixedBytes { size })?,
                 size,
             ),
         })

@@ -149,6 +149,7 @@ impl<I: Pages> LeafColumn<I> {
             chunk_size,
             num_rows,
         };
+        let rows = Box::new(alloc, rows)?;
         match KindColumn::new(kind, rows) {
             Ok(column) => Ok(LeafColumn {
                 alloc,

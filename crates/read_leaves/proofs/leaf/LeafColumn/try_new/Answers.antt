@@ -7,4 +7,5 @@ pub returns-in-Ok-clause-ok : goal.returns-in-Ok-clause-ok
 returns-in-Ok-clause-ok g c o opened outcomes way rows size =
     let kind = c.in-Ok.ensures.kind in
     let readable = opens o (type_view c.args.data_type) _ c.in-Some.kind opened c.in-Some.ensures.0 c.in-Some.ensures.1 in
-    record { typed = refl; made = rw kind c.in-Some.ensures.1; reads = rw kind (c.in-Ok.ensures.reads o readable opened.physical outcomes way rows size) }
+    let reads = rw c.in_ok-rows.ensures.ok at c.in-Ok.ensures.reads in
+    record { typed = refl; made = rw kind c.in-Some.ensures.1; reads = rw kind (reads o readable opened.physical outcomes way rows size) }
