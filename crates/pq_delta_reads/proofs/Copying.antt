@@ -1,5 +1,5 @@
 -- Byte strings one after another, spelled plain.
-use Rattle.std.proofs.Common.{◌≡◌, ◌⊎◌, ℕ, ℤ, pos, ◌+◌, ◌-◌, ◌<◌, ◌≤◌, ◌^◌, false, List, [], ◌∷◌, ◌++◌, length, take, drop, map, get_or, All, inl, inr, Result, Ok, Err, Some, None, refl, sym, ap, subst, ◌∙◌, arith, append-nil, append_assoc}
+use Rattle.std.proofs.Common.{◌≡◌, ◌⊎◌, ℕ, suc, ℤ, pos, ◌+◌, ◌-◌, ◌<◌, ◌≤◌, ◌^◌, false, List, [], ◌∷◌, ◌++◌, length, take, drop, map, get_or, All, inl, inr, Result, Ok, Err, Some, None, refl, sym, ap, subst, ◌∙◌, arith, append-nil, append_assoc}
 use Rattle.std.proofs.lemmas.List.{length-append, length-map, length-take, map-append, drop_at, drop_more, get_or-take, take-append-drop, take-take}
 use Rattle.std.proofs.lemmas.List.Elements.{All-push}
 use Rattle.std.proofs.lemmas.Option.{same_Some}
@@ -8,7 +8,7 @@ use Rattle.std.specs.Int.RustNames.{unsigned_abs}
 use Rattle.std.specs.List.{flat_map}
 use Rattle.columns_base.specs.declared.error.Error.{Error}
 use Rattle.shredding.specs.Slot.{Value, bytes}
-use Rattle.pq_numbers.specs.Texts.{Begins}
+use Rattle.pq_numbers.specs.Texts.{Begins, number_of}
 use Rattle.pq_tree.specs.Physical.{byte_array}
 use Rattle.pq_files.specs.Delta.{AreDeltaLengths}
 use Rattle.pq_files.specs.Plain.{IsOne, InARow}
@@ -240,6 +240,38 @@ pub takes_next : (i : ℕ) (ns front mid rest before between after : List ℕ) (
 takes_next i ns front mid rest before between after z size within is takes length_is few string =
     let more : signed (take (i + 1) ns) ≡ signed (take i ns) ++ z ∷ [] = signed_more i ns within ∙ ap (λ (y : ℤ). signed (take i ns) ++ y ∷ []) (sym is) in
     subst (λ (ys : List ℤ). TakesStrings ys front rest before after) (sym more) (takes_push (signed (take i ns)) z size front mid rest before between after takes length_is few string)
+
+-- behind another text
+pub takes_behind : (ys : List ℤ) (start front rest before after : List ℕ) → TakesStrings ys front rest before after → TakesStrings ys front rest (start ++ before) (start ++ after)
+takes_behind [] start front rest before after t = (t.0, ap (λ (x : List ℕ). start ++ x) t.1)
+takes_behind (y ∷ ys) start front rest before after t =
+    let s = t.3.2 in
+    (t.0, t.1, t.2, (t.3.0, start ++ t.3.1, (s.0, s.1, (s.2.0, ap (λ (x : List ℕ). start ++ x) s.2.1 ∙ sym (append_assoc start before s.2.0), s.2.2)), takes_behind ys start t.3.0 rest t.3.1 after t.3.3))
+
+pub takes_appended : (ys : List ℤ) (front rest before after text : List ℕ) → TakesStrings ys front rest [] text → after ≡ before ++ text → TakesStrings ys front rest before after
+takes_appended ys front rest before after text t e =
+    subst (λ (x : List ℕ). TakesStrings ys front rest before x) (sym e) (subst (λ (x : List ℕ). TakesStrings ys front rest x (before ++ text)) (append-nil before) (takes_behind ys before front rest [] text t))
+
+take_past : (xs ys : List ℕ) (k : ℕ) → take (length xs + k) (xs ++ ys) ≡ xs ++ take k ys
+take_past [] ys k = (let e : 0 + k ≡ k = omega arith in ap (λ (n : ℕ). take n ys) e)
+take_past (x ∷ xs) ys k =
+    let e : suc (length xs) + k ≡ suc (length xs + k) = omega arith in
+    ap (λ (n : ℕ). take n (x ∷ (xs ++ ys))) e ∙ ap (λ (t : List ℕ). x ∷ t) (take_past xs ys k)
+
+-- a string that was put with more bytes behind it
+pub string_put : (at size n : ℕ) (head places between after front rest : List ℕ) → at ≤ length places → length head ≡ 4 → number_of head ≡ size → size ≤ n → n ≤ length front → rest ≡ drop size front → take (at + 4) between ≡ take at places ++ head → take (at + 4 + n) after ≡ take (at + 4) between ++ take n front → TakesString size front rest (take at places) (take (at + 4 + size) after)
+string_put at size n head places between after front rest within four value short enough behind first second =
+    let long : length (take (at + 4) between) ≡ at + 4 = ap length first ∙ omega (arith, length-append (take at places) head, length-take at places, within, four) in
+    let text : take (at + 4 + size) after ≡ take at places ++ (head ++ take size front) =
+    sym (take-take (at + 4 + size) (at + 4 + n) after (omega (arith, short)))
+    ∙ ap (take (at + 4 + size)) second
+    ∙ ap (λ (k : ℕ). take (k + size) (take (at + 4) between ++ take n front)) (sym long)
+    ∙ take_past (take (at + 4) between) (take n front) size
+    ∙ ap (λ (t : List ℕ). take (at + 4) between ++ t) (take-take size n front short)
+    ∙ ap (λ (t : List ℕ). t ++ take size front) first
+    ∙ append_assoc (take at places) head (take size front)
+    in
+    (omega (arith, short, enough), behind, (head ++ take size front, text, record { head = head; four = four; size = value ∙ sym (omega (arith, length-take size front, short, enough)); parts = refl }))
 
 pub takes_kept : (ys : List ℤ) (front rest before after : List ℕ) → TakesStrings ys front rest before after → Extends before after
 takes_kept [] front rest before after t = kept_more before after [] (t.1 ∙ sym (append-nil before))

@@ -1,6 +1,6 @@
 -- Eight packed numbers at once.
-use Rattle.std.proofs.Common.{◌≡◌, ℕ, zero, suc, ◌+◌, ◌-◌, ◌*◌, ◌/◌, ◌%◌, ◌^◌, ◌<◌, ◌≤◌, List, [], ◌∷◌, ◌++◌, length, take, drop, replicate, refl, sym, ap, ◌∙◌, arith, append-nil, take_all}
-use Rattle.std.proofs.lemmas.List.{length-take, length-drop, take-append-drop}
+use Rattle.std.proofs.Common.{◌≡◌, ℕ, zero, suc, ◌+◌, ◌-◌, ◌*◌, ◌/◌, ◌%◌, ◌^◌, ◌<◌, ◌≤◌, List, [], ◌∷◌, ◌++◌, length, take, drop, set, get_or, replicate, refl, sym, ap, ◌∙◌, arith, append-nil, append_assoc, take_all}
+use Rattle.std.proofs.lemmas.List.{length-set, length-take, length-drop, take-append-drop, take_more, take_more_set}
 use Rattle.std.proofs.lemmas.Nat.{shr-shr}
 use Rattle.pq_numbers.specs.Bits.{digits_of, unpacked}
 use Rattle.pq_numbers.specs.Texts.{number_of}
@@ -47,6 +47,41 @@ word_from w a at size to m xs e x = x ∙ ap (λ (k : ℕ). digits_of (2 ^ w) a 
 
 pub word_first : (w a m : ℕ) (xs : List ℕ) → xs ≡ digits_of (2 ^ w) a (m / 2 ^ w) → xs ≡ digits_of (2 ^ w) a (m / 2 ^ (1 * w))
 word_first w a m xs x = (let e : w ≡ 1 * w = omega arith in x ∙ ap (λ (k : ℕ). digits_of (2 ^ w) a (m / 2 ^ k)) e)
+
+-- ---- places
+
+put_more : (i n k j : ℕ) (xs start eight : List ℕ) → n ≡ i + 1 → j ≡ k + 1 → i < length xs → k < length eight → take i xs ≡ start ++ take k eight → take n (set xs i (get_or eight k 0)) ≡ start ++ take j eight
+put_more i n k j xs start eight ni jk lt within e =
+    ap (λ (m : ℕ). take m (set xs i (get_or eight k 0))) ni
+    ∙ take_more_set xs i (get_or eight k 0) lt
+    ∙ ap (λ (t : List ℕ). t ++ get_or eight k 0 ∷ []) e
+    ∙ append_assoc start (take k eight) (get_or eight k 0 ∷ [])
+    ∙ ap (λ (t : List ℕ). start ++ t) (sym (ap (λ (m : ℕ). take m eight) jk ∙ take_more eight k 0 within))
+
+pub eight_put : (at : ℕ) (xs eight : List ℕ) → at + 8 ≤ length xs → length eight ≡ 8 → take (at + 8) (set (set (set (set (set (set (set (set xs at (get_or eight 0 0)) (at + 1) (get_or eight 1 0)) (at + 2) (get_or eight 2 0)) (at + 3) (get_or eight 3 0)) (at + 4) (get_or eight 4 0)) (at + 5) (get_or eight 5 0)) (at + 6) (get_or eight 6 0)) (at + 7) (get_or eight 7 0)) ≡ take at xs ++ eight
+eight_put at xs eight within size =
+    let x1 : List ℕ = set xs at (get_or eight 0 0) in
+    let x2 : List ℕ = set x1 (at + 1) (get_or eight 1 0) in
+    let x3 : List ℕ = set x2 (at + 2) (get_or eight 2 0) in
+    let x4 : List ℕ = set x3 (at + 3) (get_or eight 3 0) in
+    let x5 : List ℕ = set x4 (at + 4) (get_or eight 4 0) in
+    let x6 : List ℕ = set x5 (at + 5) (get_or eight 5 0) in
+    let x7 : List ℕ = set x6 (at + 6) (get_or eight 6 0) in
+    let l1 : length x1 ≡ length xs = length-set xs at (get_or eight 0 0) in
+    let l2 : length x2 ≡ length xs = length-set x1 (at + 1) (get_or eight 1 0) ∙ l1 in
+    let l3 : length x3 ≡ length xs = length-set x2 (at + 2) (get_or eight 2 0) ∙ l2 in
+    let l4 : length x4 ≡ length xs = length-set x3 (at + 3) (get_or eight 3 0) ∙ l3 in
+    let l5 : length x5 ≡ length xs = length-set x4 (at + 4) (get_or eight 4 0) ∙ l4 in
+    let l6 : length x6 ≡ length xs = length-set x5 (at + 5) (get_or eight 5 0) ∙ l5 in
+    let l7 : length x7 ≡ length xs = length-set x6 (at + 6) (get_or eight 6 0) ∙ l6 in
+    let e1 = put_more at (at + 1) 0 1 xs (take at xs) eight refl refl (omega (arith, within)) (omega (arith, size)) (sym (append-nil (take at xs))) in
+    let e2 = put_more (at + 1) (at + 2) 1 2 x1 (take at xs) eight (omega arith) refl (omega (arith, within, l1)) (omega (arith, size)) e1 in
+    let e3 = put_more (at + 2) (at + 3) 2 3 x2 (take at xs) eight (omega arith) refl (omega (arith, within, l2)) (omega (arith, size)) e2 in
+    let e4 = put_more (at + 3) (at + 4) 3 4 x3 (take at xs) eight (omega arith) refl (omega (arith, within, l3)) (omega (arith, size)) e3 in
+    let e5 = put_more (at + 4) (at + 5) 4 5 x4 (take at xs) eight (omega arith) refl (omega (arith, within, l4)) (omega (arith, size)) e4 in
+    let e6 = put_more (at + 5) (at + 6) 5 6 x5 (take at xs) eight (omega arith) refl (omega (arith, within, l5)) (omega (arith, size)) e5 in
+    let e7 = put_more (at + 6) (at + 7) 6 7 x6 (take at xs) eight (omega arith) refl (omega (arith, within, l6)) (omega (arith, size)) e6 in
+    put_more (at + 7) (at + 8) 7 8 x7 (take at xs) eight (omega arith) refl (omega (arith, within, l7)) (omega (arith, size)) e7 ∙ ap (λ (t : List ℕ). take at xs ++ t) (take_all 8 eight (omega (arith, size)))
 
 -- ---- zeros
 

@@ -3,14 +3,15 @@ use Rattle.std.proofs.Common.{◌≡◌, ◌⊎◌, ℕ, zero, suc, ◌+◌, ◌
 use Rattle.std.proofs.lemmas.Bool.{lt-ltb, le-ltb, ne_eqb, cases_lt, cases_eq}
 use Rattle.std.proofs.Math.Nat.{mod-eq_of_lt, div-add-mod}
 use Rattle.std.proofs.lemmas.Int.{ints, int_wrap-add_left, int_wrap-add_right}
-use Rattle.std.proofs.lemmas.Nat.{mul-le}
-use Rattle.std.proofs.lemmas.List.{length-take, length-drop}
+use Rattle.std.proofs.lemmas.Nat.{le-div, mul-le}
+use Rattle.std.proofs.lemmas.List.{length-take, length-drop, take-append-drop}
 use Rattle.std.specs.Int.{Width, w64, int_wrap, cast_signed}
 use Rattle.columns_base.specs.declared.error.Error.{Error}
 use Rattle.pq_numbers.specs.Bits.{unpacked}
 use Rattle.pq_numbers.specs.Varint.{varint_at}
 use Rattle.pq_numbers.specs.Zigzag.{unzigzag}
 use Rattle.pq_numbers.proofs.Bytes.{AreBytes}
+use Rattle.pq_numbers.proofs.Digits.{unpacked-append}
 use Rattle.pq_numbers.proofs.Numbers.{varint-none}
 use Rattle.pq_runs.specs.Delta.{wrapped}
 use Rattle.pq_runs.specs.DeltaReading.{Out, all, gives, ends, failed, DeltaReader, above, there, mini_at, minis_at, block_part, blocks_at, running, Head, is_good, deltas_of, numbers_of}
@@ -210,18 +211,38 @@ no_numbers least w standing d packed o none = rw none refl
 pub block_on : (cut : Bool) (m q k n : ℕ) (least least' : ℤ) (widths widths' bytes tail bytes' : List ℕ) → cut ≡ false → 0 < k → length widths ≡ 0 → varint_at bytes ≡ Some (n, tail) → m ≤ length tail → least' ≡ unzigzag n → widths' ≡ take m tail → bytes' ≡ drop m tail → later_of cut m q least widths k bytes ≡ gives [] (length bytes - length tail + m) (later_of cut m q least' widths' k bytes')
 block_on cut m q k n least least' widths widths' bytes tail bytes' whole some none e long l w b = rw (whole, l, w, b) (block_begins m q k n least widths bytes tail some none e long)
 
-pub mini_on : (cut : Bool) (m q k w count size : ℕ) (least : ℤ) (widths ws bytes body rest : List ℕ) → cut ≡ false → 0 < k → w ≤ 64 → widths ≡ w ∷ ws → size ≡ w * q → body ≡ take size bytes → rest ≡ drop size bytes → count ≡ min (there w q body) (min k (8 * q)) → min k (8 * q) ≤ count → later_of cut m q least widths k bytes ≡ gives (above least (unpacked w count body)) (w * q) (later_of cut m q least ws (k - count) rest)
+-- numbers that stand in the front of bytes are those of the bytes
+unpacked_longer : (w q count k size : ℕ) (bytes body : List ℕ) → body ≡ take size bytes → count ≡ min (there w q body) (min k (8 * q)) → unpacked w count body ≡ unpacked w count bytes
+unpacked_longer w q count k size bytes body front counted =
+    let enough : w * count ≤ 8 * length body = elim (cases_eq w 0) [
+      | inl none ↦ (let z : w * count ≡ 0 = ap (λ (j : ℕ). j * count) none ∙ omega arith in omega (arith, z))
+      | inr some ↦
+          let f : there w q body ≡ min (8 * q) (8 * length body / w) = rw (ne_eqb w 0 some) refl in
+          mul-le-div count w (8 * length body) (omega (arith, counted, f))
+    ] in
+    sym (unpacked-append w count body (drop size bytes) enough) ∙ ap (unpacked w count) (ap (λ (t : List ℕ). t ++ drop size bytes) front ∙ take-append-drop size bytes)
+
+-- all that are wanted stand in a miniblock that is whole
+pub all_standing : (w q k n : ℕ) (body : List ℕ) → (w ≡ 0 → ⊥) → n ≡ length body → w * q ≤ n → min k (8 * q) ≡ min (there w q body) (min k (8 * q))
+all_standing w q k n body some size long =
+    let f : there w q body ≡ min (8 * q) (8 * length body / w) = rw (ne_eqb w 0 some) refl in
+    let most : 8 * q ≤ 8 * length body / w = le-div (8 * q) (8 * length body) w (omega (arith, some)) (omega (arith, size, long)) in
+    omega (arith, f, most)
+
+pub mini_on : (cut : Bool) (m q k w count size : ℕ) (least : ℤ) (widths ws bytes body rest : List ℕ) → cut ≡ false → 0 < k → w ≤ 64 → widths ≡ w ∷ ws → size ≡ w * q → body ≡ take size bytes → rest ≡ drop size bytes → count ≡ min (there w q body) (min k (8 * q)) → min k (8 * q) ≤ count → later_of cut m q least widths k bytes ≡ gives (above least (unpacked w count bytes)) (w * q) (later_of cut m q least ws (k - count) rest)
 mini_on cut m q k w count size least widths ws bytes body rest whole some fits are is front back counted all_there =
     let body_is : body ≡ take (w * q) bytes = front ∙ ap (λ (n : ℕ). take n bytes) is in
     let rest_is : rest ≡ drop (w * q) bytes = back ∙ ap (λ (n : ℕ). drop n bytes) is in
     let count_is : count ≡ min (there w q (take (w * q) bytes)) (min k (8 * q)) = counted ∙ ap (λ (b : List ℕ). min (there w q b) (min k (8 * q))) body_is in
     rw (whole, are, body_is, rest_is) (mini_begins m q k w count least ws bytes some fits count_is all_there)
+    ∙ ap (λ (ns : List ℕ). gives (above least ns) (w * q) (later_of cut m q least ws (k - count) rest)) (unpacked_longer w q count k size bytes body front counted)
 
-pub mini_off : (cut : Bool) (m q k w count size : ℕ) (least : ℤ) (widths ws bytes body : List ℕ) → cut ≡ false → 0 < k → w ≤ 64 → widths ≡ w ∷ ws → size ≡ w * q → body ≡ take size bytes → count ≡ min (there w q body) (min k (8 * q)) → count < min k (8 * q) → later_of cut m q least widths k bytes ≡ gives (above least (unpacked w count body)) 0 failed
+pub mini_off : (cut : Bool) (m q k w count size : ℕ) (least : ℤ) (widths ws bytes body : List ℕ) → cut ≡ false → 0 < k → w ≤ 64 → widths ≡ w ∷ ws → size ≡ w * q → body ≡ take size bytes → count ≡ min (there w q body) (min k (8 * q)) → count < min k (8 * q) → later_of cut m q least widths k bytes ≡ gives (above least (unpacked w count bytes)) 0 failed
 mini_off cut m q k w count size least widths ws bytes body whole some fits are is front counted few =
     let body_is : body ≡ take (w * q) bytes = front ∙ ap (λ (n : ℕ). take n bytes) is in
     let count_is : count ≡ min (there w q (take (w * q) bytes)) (min k (8 * q)) = counted ∙ ap (λ (b : List ℕ). min (there w q b) (min k (8 * q))) body_is in
     rw (whole, are, body_is) (mini_cut m q k w count least ws bytes some fits count_is few)
+    ∙ ap (λ (ns : List ℕ). gives (above least ns) 0 failed) (unpacked_longer w q count k size bytes body front counted)
 
 -- bytes that a miniblock takes and lacks
 pub mini_taken : (all_bytes q k w count size missing missing' : ℕ) (bytes body rest : List ℕ) → length bytes ≤ all_bytes → missing ≡ 0 → size ≡ w * q → body ≡ take size bytes → rest ≡ drop size bytes → missing' ≡ size - length body → all_bytes - length rest + missing' ≡ all_bytes - length bytes + missing + w * q

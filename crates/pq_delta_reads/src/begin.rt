@@ -54,6 +54,9 @@ fn standing(body: &[u8], width: u32, groups: usize, left: usize) -> usize
     if width == 0 {
         return wanted;
     }
+    if u128::from(width) * groups as u128 <= body.len() as u128 {
+        return wanted;
+    }
     let all = 8 * body.len() as u128 / u128::from(width);
     if all < wanted as u128 {
         all as usize
@@ -93,7 +96,7 @@ fn begin_miniblock(state: &mut State<'_>) -> Result<()>
     let (body, rest) = split_up_to(state.bytes, size);
     let wanted = state.left.min(8 * state.groups);
     let count = standing(body, width, state.groups, state.left);
-    state.packed = body;
+    state.packed = state.bytes;
     state.width = width;
     state.standing = count;
     state.left -= count;

@@ -207,25 +207,6 @@ fn by_ones(bytes: &[u8], width: u32) -> [u64; 8]
     ]
 }
 
-// The first eight numbers.
-#[inline(always)]
-fn first_eight(bytes: &[u8], width: u32) -> [u64; 8]
-    requires fits { width ≤ 57 }
-    requires enough { width + 8 ≤ length bytes.now }
-    ensures { result ≡ unpacked width 8 bytes.now }
-{
-    if width <= 7 {
-        return by_eights(bytes, width);
-    }
-    if width <= 14 {
-        return by_fours(bytes, width);
-    }
-    if width <= 28 {
-        return by_twos(bytes, width);
-    }
-    by_ones(bytes, width)
-}
-
 // Eight numbers take their places, and those before them stay.
 #[inline(always)]
 fn put_eight(numbers: &mut [u64; 32], at: usize, eight: [u64; 8])
@@ -233,7 +214,14 @@ fn put_eight(numbers: &mut [u64; 32], at: usize, eight: [u64; 8])
     ensures len { length numbers.new ≡ 32 }
     ensures front { take (at + 8) numbers.new ≡ take at numbers.old ++ eight }
 {
-    numbers[at..at + 8].copy_from_slice(&eight);
+    numbers[at] = eight[0];
+    numbers[at + 1] = eight[1];
+    numbers[at + 2] = eight[2];
+    numbers[at + 3] = eight[3];
+    numbers[at + 4] = eight[4];
+    numbers[at + 5] = eight[5];
+    numbers[at + 6] = eight[6];
+    numbers[at + 7] = eight[7];
 }
 
 // The bytes behind the first so many.
@@ -245,21 +233,81 @@ fn behind(bytes: &[u8], count: usize) -> &[u8]
     &bytes[count..]
 }
 
-// The first 32 numbers, eight at once.
-fn unpack_groups(bytes: &[u8], width: u32) -> [u64; 32]
-    requires fits { width ≤ 57 }
+// In the place of the numbers come the first 32, eight of which stand in a word.
+fn unpack_by_eights(bytes: &[u8], width: u32, numbers: &mut [u64; 32])
+    requires fits { width ≤ 7 }
     requires enough { 4 * width + 8 ≤ length bytes.now }
-    ensures { result ≡ block_of width bytes.now }
+    ensures { numbers.new ≡ block_of width bytes.now }
 {
-    let mut numbers = [0; 32];
     let mut rest = bytes;
     let mut at = 0;
     while at < 32 {
-        put_eight(&mut numbers, at, first_eight(rest, width));
+        put_eight(numbers, at, by_eights(rest, width));
         rest = behind(rest, width as usize);
         at += 8;
     }
-    numbers
+}
+
+// The same, four in a word.
+fn unpack_by_fours(bytes: &[u8], width: u32, numbers: &mut [u64; 32])
+    requires fits { width ≤ 14 }
+    requires enough { 4 * width + 8 ≤ length bytes.now }
+    ensures { numbers.new ≡ block_of width bytes.now }
+{
+    let mut rest = bytes;
+    let mut at = 0;
+    while at < 32 {
+        put_eight(numbers, at, by_fours(rest, width));
+        rest = behind(rest, width as usize);
+        at += 8;
+    }
+}
+
+// The same, two in a word.
+fn unpack_by_twos(bytes: &[u8], width: u32, numbers: &mut [u64; 32])
+    requires fits { width ≤ 28 }
+    requires enough { 4 * width + 8 ≤ length bytes.now }
+    ensures { numbers.new ≡ block_of width bytes.now }
+{
+    let mut rest = bytes;
+    let mut at = 0;
+    while at < 32 {
+        put_eight(numbers, at, by_twos(rest, width));
+        rest = behind(rest, width as usize);
+        at += 8;
+    }
+}
+
+// The same, one in a word.
+fn unpack_by_ones(bytes: &[u8], width: u32, numbers: &mut [u64; 32])
+    requires fits { width ≤ 57 }
+    requires enough { 4 * width + 8 ≤ length bytes.now }
+    ensures { numbers.new ≡ block_of width bytes.now }
+{
+    let mut rest = bytes;
+    let mut at = 0;
+    while at < 32 {
+        put_eight(numbers, at, by_ones(rest, width));
+        rest = behind(rest, width as usize);
+        at += 8;
+    }
+}
+
+// In the place of the numbers come the first 32.
+fn unpack_groups(bytes: &[u8], width: u32, numbers: &mut [u64; 32])
+    requires fits { width ≤ 57 }
+    requires enough { 4 * width + 8 ≤ length bytes.now }
+    ensures { numbers.new ≡ block_of width bytes.now }
+{
+    if width <= 7 {
+        unpack_by_eights(bytes, width, numbers);
+    } else if width <= 14 {
+        unpack_by_fours(bytes, width, numbers);
+    } else if width <= 28 {
+        unpack_by_twos(bytes, width, numbers);
+    } else {
+        unpack_by_ones(bytes, width, numbers);
+    }
 }
 
 // The first 32 numbers, one by one.
@@ -282,14 +330,31 @@ fn padded(bytes: &[u8]) -> [u8; 264]
     padded
 }
 
-// The same of fewer bytes.
-fn padded_short(bytes: &[u8]) -> [u8; 64]
-    requires { length bytes.now ≤ 64 }
-    ensures { number_of result ≡ number_of bytes.now }
+// In the place of the numbers come the first 32 of bytes that end soon.
+#[cold]
+#[inline(never)]
+fn unpack_end(bytes: &[u8], width: u32, numbers: &mut [u64; 32])
+    requires fits { width ≤ 57 }
+    requires few { length bytes.now ≤ 264 }
+    ensures { numbers.new ≡ block_of width bytes.now }
 {
-    let mut padded = [0; 64];
-    padded[..bytes.len()].copy_from_slice(bytes);
-    padded
+    unpack_groups(&padded(bytes), width, numbers);
+}
+
+/// In the place of the numbers come the first 32 of the bytes, `width` bits each, lowest bit first. Behind the end stand zeros.
+pub fn unpack_into(bytes: &[u8], width: u32, numbers: &mut [u64; 32])
+    requires { width ≤ 64 }
+    ensures { numbers.new ≡ block_of width bytes.now }
+{
+    if width == 0 {
+        *numbers = [0; 32];
+    } else if width > 57 {
+        *numbers = unpack_each(bytes, width);
+    } else if 4 * width as usize + 8 <= bytes.len() {
+        unpack_groups(bytes, width, numbers);
+    } else {
+        unpack_end(bytes, width, numbers);
+    }
 }
 
 /// The first 32 numbers of the bytes, `width` bits each, lowest bit first. Behind the end stand zeros.
@@ -297,17 +362,7 @@ pub fn unpack_block(bytes: &[u8], width: u32) -> [u64; 32]
     requires { width ≤ 64 }
     ensures { result ≡ block_of width bytes.now }
 {
-    if width == 0 {
-        return [0; 32];
-    }
-    if width > 57 {
-        return unpack_each(bytes, width);
-    }
-    if 4 * width as usize + 8 <= bytes.len() {
-        return unpack_groups(bytes, width);
-    }
-    if width <= 14 {
-        return unpack_groups(&padded_short(bytes), width);
-    }
-    unpack_groups(&padded(bytes), width)
+    let mut numbers = [0; 32];
+    unpack_into(bytes, width, &mut numbers);
+    numbers
 }

@@ -1,6 +1,6 @@
 //! Sections of byte strings, spelled plain.
 
-ghost use Rattle.std.specs.Prelude.{◌≡◌, ◌⊎◌, ◌<◌, ◌≤◌, ◌^◌, ℕ, pos, length, take, OnOk, IfOk, IfErr, MatchOption};
+ghost use Rattle.std.specs.Prelude.{◌≡◌, ◌⊎◌, ◌+◌, ◌++◌, ◌<◌, ◌≤◌, ◌^◌, ℕ, [], pos, length, take, OnOk, IfOk, IfErr, MatchOption};
 ghost use Rattle.std.specs.Int.{w32};
 ghost use Rattle.columns_base.specs.declared.error.Error.TheVariants.{Memory};
 ghost use Rattle.pq_tree.specs.Physical.{byte_array};
@@ -66,6 +66,89 @@ fn push_string<'a>(out: &mut Vec<u8>, bytes: &'a [u8], size: usize) -> Result<&'
     Ok(rest)
 }
 
+// The same, of at most 32, where so many bytes stand there.
+#[inline(always)]
+fn short_length(value: i64, bytes: &[u8]) -> Option<usize>
+    ensures { MatchOption result (Unit {0}) (λ n. (wrapped w32 value ≡ pos n) × (n ≤ 32) × (32 ≤ length bytes.now)) }
+{
+    let Some(size) = length_of(value) else {
+        return None;
+    };
+    if size > 32 {
+        return None;
+    }
+    if bytes.len() < 32 {
+        return None;
+    }
+    Some(size)
+}
+
+// Bytes take their places, and those before them stay.
+#[inline(always)]
+fn put_bytes(places: &mut [u8; 1152], at: usize, text: &[u8])
+    requires { at + length text.now ≤ 1152 }
+    ensures { take (at + length text.now) places.new ≡ take at places.old ++ text.now }
+{
+    places[at..at + text.len()].copy_from_slice(text);
+}
+
+// As many bytes as a short string may have take their places, and those before them stay.
+#[inline(always)]
+fn put_chunk(places: &mut [u8; 1152], at: usize, bytes: &[u8])
+    requires within { at + 32 ≤ 1152 }
+    requires enough { 32 ≤ length bytes.now }
+    ensures { take (at + 32) places.new ≡ take at places.old ++ take 32 bytes.now }
+{
+    match bytes.first_chunk::<32>() {
+        Some(chunk) => {
+            let chunk = *chunk;
+            put_bytes(places, at, &chunk);
+        }
+        None => unreachable!(),
+    }
+}
+
+// Puts the string of so many bytes at the front, and gives the bytes behind it. As many bytes are copied as a short string may have, which costs less.
+#[inline(always)]
+fn put_string<'a>(places: &mut [u8; 1152], at: usize, bytes: &'a [u8], size: usize) -> &'a [u8]
+    requires within { at + 36 ≤ 1152 }
+    requires short { size ≤ 32 }
+    requires enough { 32 ≤ length bytes.now }
+    ensures { TakesString size bytes.now result.now (take at places.old) (take (at + 4 + size) places.new) }
+{
+    let head = (size as u32).to_le_bytes();
+    put_bytes(places, at, &head);
+    put_chunk(places, at + 4, bytes);
+    &bytes[size..]
+}
+
+// Puts the strings of the first lengths one behind the other, up to the first that is not short or has few bytes behind it. Gives how many, how many
+// bytes they take, and the bytes behind them.
+fn put_strings<'a>(
+    places: &mut [u8; 1152],
+    bytes: &'a [u8],
+    lengths: &[u64; 32],
+    count: usize,
+) -> (usize, usize, &'a [u8])
+    requires few { count ≤ 32 }
+    ensures few { result.0 ≤ count }
+    ensures fits { result.1 ≤ 1152 }
+    ensures takes { TakesStrings (signed (take result.0 lengths.now)) bytes.now result.2.now [] (take result.1 places.new) }
+{
+    let mut rest = bytes;
+    let mut at = 0;
+    for i in 0..count {
+        match short_length(lengths[i].cast_signed(), rest) {
+            None => return (i, at, rest),
+            Some(size) => {
+                rest = put_string(places, at, rest, size);
+                at += 4 + size;
+            }
+        }
+    }
+    (count, at, rest)
+}
+
 // Appends the strings of the first lengths, and gives the bytes behind them.
 fn push_strings<'a>(
     out: &mut Vec<u8>,
@@ -78,8 +161,11 @@ fn push_strings<'a>(
     ensures err { IfErr result (λ e. (e ≡ Memory) ⊎ ((e ≡ fault) × StopsStrings (signed (take count lengths.now)) bytes.now out.old.items)) }
     ensures kept { Extends out.old.items out.new.items }
 {
-    let mut rest = bytes;
-    for i in 0..count {
+    let mut places = [0; 1152];
+    let (first, size, rest) = put_strings(&mut places, bytes, lengths, count);
+    out.extend_from_slice(&places[..size])?;
+    let mut rest = rest;
+    for i in first..count {
         let Some(size) = length_of(lengths[i].cast_signed()) else {
             return Err(Error::OutOfSpec(S::S6));
         };

@@ -9,7 +9,7 @@ ghost use Rattle.pq_delta_reads.specs.Blocks.{signed};
 ghost use Rattle.pq_delta_reads.specs.Reading.{IsState, Keeps, items, later, left_of, stepped, total};
 
 use crate::begin::begin;
-use crate::bits::unpack_block;
+use crate::bits::unpack_into;
 use crate::state::State;
 use columns_base::Result;
 
@@ -145,7 +145,7 @@ pub fn take_block(state: &mut State<'_>, numbers: &mut [u64; 32]) -> usize
     ensures left { left_of state.old ≡ result + left_of state.new }
 {
     let count = state.standing.min(32);
-    *numbers = unpack_block(state.packed, state.width);
+    unpack_into(state.packed, state.width, numbers);
     add_up(numbers, state.least, state.latest);
     state.packed = skip(state.packed, 4 * state.width as usize);
     state.standing -= count;

@@ -1,7 +1,7 @@
-use Rattle.std.proofs.Common.{◌<◌, ◌++◌, ◌∙◌, ap, arith, List, ℕ, take, refl, replicate}
+use Rattle.std.proofs.Common.{◌<◌, ◌++◌, ◌∙◌, ap, arith, List, ℕ, take}
 use Rattle.pq_numbers.proofs.Bytes.{are-drop}
 use Rattle.pq_delta_reads.proofs.Groups.{enough_next, group_begin, groups_end, next_group}
-use Rattle.pq_delta_reads.proofs.bits.unpack_groups.Goals as goal
+use Rattle.pq_delta_reads.proofs.bits.unpack_by_eights.Goals as goal
 
 pub loop-at-init : goal.loop-at-init
 loop-at-init c = record {
@@ -9,12 +9,12 @@ loop-at-init c = record {
   eights = omega arith;
   most = omega arith;
   enough = omega (arith, c.requires.enough);
-  so_far = group_begin c.args.width (replicate 32 0) c.args.bytes.now;
-  size = refl;
+  so_far = group_begin c.args.width c.args.numbers.now c.args.bytes.now;
+  size = omega arith;
 }
 
-pub first_eight-requires-clause-enough : goal.first_eight-requires-clause-enough
-first_eight-requires-clause-enough c = (enough_next c.args.width c.loop-at.at c.loop-at.rest.now (omega (arith, c.loop-at-test.true)) c.loop-at.invariant.eights c.loop-at.invariant.enough).0
+pub by_eights-requires-clause-enough : goal.by_eights-requires-clause-enough
+by_eights-requires-clause-enough c = (let e = (enough_next c.args.width c.loop-at.at c.loop-at.rest.now (omega (arith, c.loop-at-test.true)) c.loop-at.invariant.eights c.loop-at.invariant.enough).0 in omega (arith, e))
 
 pub behind-rest-requires : goal.behind-rest-requires
 behind-rest-requires c = (let e = (enough_next c.args.width c.loop-at.at c.loop-at.rest.now (omega (arith, c.loop-at-test.true)) c.loop-at.invariant.eights c.loop-at.invariant.enough).0 in omega (arith, e))
@@ -29,7 +29,7 @@ loop-at-preserved c =
       size = c.put_eight.ensures.len;
       most = omega (arith, some, i.eights);
       enough = (enough_next c.args.width c.loop-at.at c.loop-at.rest.now some i.eights i.enough).1;
-      so_far = next_group c.args.width c.loop-at.at _ _ c.loop-at.rest.now _ some i.eights i.are (c.put_eight.ensures.front ∙ ap (λ (t : List ℕ). take c.loop-at.at c.loop-at.numbers ++ t) c.first_eight.ensures) i.so_far;
+      so_far = next_group c.args.width c.loop-at.at _ _ c.loop-at.rest.now _ some i.eights i.are (c.put_eight.ensures.front ∙ ap (λ (t : List ℕ). take c.loop-at.at c.loop-at.numbers ++ t) c.by_eights.ensures) i.so_far;
     })
 
 pub returns : goal.returns

@@ -2,7 +2,7 @@ use Rattle.std.proofs.Common.{◌≡◌, ◌≤◌, ◌+◌, ◌-◌, ◌*◌, �
 use Rattle.pq_numbers.specs.Bits.{unpacked}
 use Rattle.pq_numbers.proofs.Bytes.{AreBytes}
 use Rattle.pq_delta_reads.specs.Blocks.{block_of}
-use Rattle.pq_delta_reads.proofs.bits.unpack_groups.Given as goal
+use Rattle.pq_delta_reads.proofs.bits.unpack_by_ones.Given as goal
 
 abbrev pub invariant-loop-at : goal.invariant-loop-at
 invariant-loop-at l = record {
