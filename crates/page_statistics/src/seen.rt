@@ -87,16 +87,29 @@ fn with_each<L: OrderedLeaf>(leaf: &L, extremes: Extremes, from: usize, to: usiz
     now
 }
 
-// The same: where no value is past the extremes, they stay.
+// The extremes with the first and the last place of a block.
+fn with_ends<L: OrderedLeaf>(leaf: &L, extremes: Extremes, from: usize, to: usize) -> Extremes
+    requires before { AreWithin (L.count leaf.now) (Some extremes) }
+    requires some { from < to }
+    requires within { to ≤ L.count leaf.now }
+    ensures within { AreWithin (L.count leaf.now) (Some result) }
+    ensures are { (places : List ℕ) → AreExtremes (L.value leaf.now) places (Some extremes) → AreExtremes (L.value leaf.now) ((places ++ from ∷ []) ++ (to - 1) ∷ []) (Some result) }
+{
+    let first = with_place(leaf, extremes, from);
+    with_place(leaf, first, to - 1)
+}
+
+// The same as one by one: where no value is past the extremes with both ends, as in numbers that rise or fall, these are those of the block.
 fn with_block<L: OrderedLeaf>(leaf: &L, extremes: Extremes, from: usize, to: usize) -> Extremes
     requires before { AreWithin (L.count leaf.now) (Some extremes) }
-    requires ordered { from ≤ to }
+    requires some { from < to }
     requires within { to ≤ L.count leaf.now }
     ensures within { AreWithin (L.count leaf.now) (Some result) }
     ensures are { (places : List ℕ) → AreExtremes (L.value leaf.now) places (Some extremes) → AreExtremes (L.value leaf.now) (places ++ range from (to - from)) (Some result) }
 {
-    if are_between(leaf, extremes, from, to) {
-        return extremes;
+    let ends = with_ends(leaf, extremes, from, to);
+    if are_between(leaf, ends, from, to) {
+        return ends;
     }
     with_each(leaf, extremes, from, to)
 }
