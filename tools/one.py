@@ -44,8 +44,8 @@ def below(named, name, seen):
     return seen
 
 
-def main():
-    verb, crate, flags = sys.argv[1], sys.argv[2], sys.argv[3:]
+def command(verb, crate):
+    """The words that check or build a crate in its folder, but for where it keeps what it did."""
     named = read_crates()
     words = [f"{KIT}/bin/rattle", verb, "--crate-name", crate, "src/lib.rt", "--extern", f"std={KIT}/rlibs/std.rlib"]
     found = [interface(it) for it in below(named, crate, [])]
@@ -57,15 +57,19 @@ def main():
             sys.exit(f"no interface of {it}: prove it first, or name a clone that has it in BASES")
         words += ["--extern", f"{it}={interface(it)}"]
     words += ["--antt-project", f"{KIT}/rattle/logic/antt-project.json", "--logic-built", f"{KIT}/logic_built"]
-    words += ["--links", f"{crate}=", "--jobs", "1"]
+    return words + ["--links", f"{crate}=", "--jobs", "1"]
+
+
+def main():
+    verb, crate, flags = sys.argv[1], sys.argv[2], sys.argv[3:]
+    words = [*command(verb, crate), "--incremental", "out/incremental"]
     if verb == "build":
         os.makedirs(OWN, exist_ok=True)
-        words += ["--incremental", "out/incremental", "-o", f"{OWN}/{crate}.rlib"]
-    else:
-        words += ["--incremental", "out/incremental"]
+        words += ["-o", f"{OWN}/{crate}.rlib"]
     os.chdir(f"{ROOT}/crates/{crate}")
     os.makedirs("out", exist_ok=True)
     sys.exit(subprocess.call(words + flags))
 
 
-main()
+if __name__ == "__main__":
+    main()
