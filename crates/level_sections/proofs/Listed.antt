@@ -237,3 +237,16 @@ items-step level (list_part is_optional mask offsets ∷ rest) above place end t
     sym (is place (to - place)) ∙ (listed-split levels place (end - place) to (omega (arith, le, within))
     ∙ (ap (λ k. listed_from levels place (end - place) ++ listed_from levels k (to - k)) e
     ∙ (ap (λ ys. ys ++ listed_from levels end (to - end)) (is place (end - place)) ∙ ap (λ ys. walked level (list_part is_optional mask offsets ∷ rest) above place (end - place) ++ ys) (is end (to - end)))))
+
+-- a list without items has none where it is not there
+pub no-items : (there : Bool) (items : ℕ) → items ≡ 0 → items ≡ cond there items 0
+no-items true items none = refl
+no-items false items none = none
+
+-- a list that is there has its items
+pub some-items : (there : Bool) (items : ℕ) → there ≡ true → items ≡ cond there items 0
+some-items there items is = rw is refl
+
+-- the items of a list that is there, and none of one that is not
+pub items-there : (there : Bool) (items count : ℕ) → items ≡ cond there items 0 → items ≡ count → items ≡ cond there count 0
+items-there there items count is same = is ∙ ap (λ n. cond there n 0) same

@@ -145,3 +145,9 @@ all_there is_optional mask word full place from count same ones bits j l h =
     let within : j - place < count = omega (arith, l, h) in
     let one : bit_at word (j - place) ≡ 1 = ap (λ (w : ℕ). bit_at w (j - place)) same ∙ ones (j - place) within in
     ap (is_present is_optional mask) (sym e) ∙ (sym (bits (j - place) within) ∙ ap (λ (n : ℕ). n == 1) one)
+
+-- a list is there, and its items lie from a place to another; or it is not there
+pub size-between : (is_optional : Bool) (mask : Option (List Bool)) (offsets : List ℕ) (i pairs first last : ℕ) (there : Bool) → there ≡ is_present is_optional mask i → first ≡ slice_index offsets i → last ≡ slice_index offsets (i + 1) → slice_index offsets 0 ≤ slice_index offsets i → pairs ≡ cond there (max (last - first) 1) 1 → pairs ≡ list_size is_optional mask offsets i
+size-between is_optional mask offsets i pairs first last there is ef el low e =
+    let items : last - first ≡ item_count offsets i = omega (arith, ef, el, low) in
+    e ∙ (ap (λ b. cond b (max (last - first) 1) 1) is ∙ ap (λ n. cond (is_present is_optional mask i) (max n 1) 1) items)

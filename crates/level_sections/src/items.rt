@@ -1,5 +1,5 @@
 //! Definition levels of lists above a path without lists, up to 64 at once.
-ghost use Rattle.std.specs.Prelude.{◌≡◌, ℕ, ◌+◌, ◌-◌, ◌^◌, ◌<◌, ◌≤◌, ◌==◌, ◌++◌, List, Bool, Option, All, cond, length, max, OnOk, IfOk};
+ghost use Rattle.std.specs.Prelude.{◌≡◌, ℕ, ◌+◌, ◌-◌, ◌^◌, ◌<◌, ◌≤◌, ◌==◌, ◌++◌, List, Bool, Option, All, cond, length, max, OnOk, IfOk, IfSome};
 ghost use Rattle.std.specs.Int.{bit_at};
 ghost use Rattle.columns_core.specs.Rising.{IsRising};
 ghost use Rattle.shredding.specs.Parts.{IsPath, MaskFits, Part, is_present, item_count, item_span, item_start, path_way, slot_count};
@@ -70,6 +70,33 @@ fn items_of<O: Offset>(offsets: &OffsetsBuffer<O>, there: bool, i: usize) -> (us
     (first, item_place(offsets, i + 1))
 }
 
+// Where the items of list `i` end, which begin at a place.
+#[inline(always)]
+#[tactic(auto, using(levels::proofs::Rising::rising))]
+fn item_end<O: Offset>(offsets: &OffsetsBuffer<O>, i: usize, at: usize) -> usize
+    requires within { i + 1 < length offsets.now }
+    requires start { at ≡ item_start offsets.now i }
+    ensures end { result ≡ item_start offsets.now (i + 1) }
+    ensures ordered { at ≤ result }
+    ensures count { result - at ≡ item_count offsets.now i }
+{
+    offsets.know();
+    // the number of lists fits its type, so `i + 1` does
+    let _lists = offsets.len_proxy();
+    item_place(offsets, i + 1)
+}
+
+// Up to where items that begin at a place are known and have room behind so many levels that wait.
+#[inline(always)]
+fn edge_of(end: usize, at: usize, count: usize) -> usize
+    requires ordered { at ≤ end }
+    requires room { count ≤ 64 }
+    ensures known { result ≤ end }
+    ensures room { result + count ≤ at + 64 }
+{
+    at + (end - at).min(64 - count)
+}
+
 // What a list without items adds to the level of a null one: one where it is optional and there.
 #[inline(always)]
 fn step_at(is_optional: bool, there: bool) -> u64
@@ -117,6 +144,7 @@ fn with_list(pending: Pending, window: Window, empty: u64, first: usize, items: 
     requires followed { IsFollowed pending window first }
     requires after { window.first ≤ first }
     requires before { first + items ≤ window.end }
+    ensures count { result.count ≡ pending.count + max items 1 }
     ensures few { result.count ≤ 64 }
     ensures followed { IsFollowed result window (first + items) }
     ensures levels { (def : ℕ) → (level : ℕ → ℕ) → IsWindow def level window → pending_levels def result ≡ pending_levels def pending ++ levels_or (def + empty) level first items }
@@ -128,6 +156,50 @@ fn with_list(pending: Pending, window: Window, empty: u64, first: usize, items: 
         planes: pending.planes,
         count: pending.count + items,
     }
+}
+
+// Takes the levels of a list whose items lie from a place to another behind those that wait, and gives up to where others have room then. None where
+// it has no room, its items are not known or there are some and it is not there.
+#[inline(always)]
+fn with_next(
+    pending: Pending,
+    window: Window,
+    is_optional: bool,
+    there: bool,
+    at: usize,
+    next: usize,
+    edge: usize,
+) -> Option<(Pending, usize)>
+    requires few { pending.count ≤ 64 }
+    requires followed { IsFollowed pending window at }
+    requires after { window.first ≤ at }
+    requires ordered { at ≤ next }
+    requires known { at ≤ window.end }
+    requires edge { edge ≤ window.end }
+    requires room { edge + pending.count ≤ at + 64 }
+    ensures few { IfSome result (λ r. r.0.count ≤ 64) }
+    ensures known { IfSome result (λ r. next ≤ window.end) }
+    ensures edge { IfSome result (λ r. r.1 ≤ window.end) }
+    ensures room { IfSome result (λ r. r.1 + r.0.count ≤ next + 64) }
+    ensures there { IfSome result (λ r. next - at ≡ cond there (next - at) 0) }
+    ensures followed { IfSome result (λ r. IsFollowed r.0 window next) }
+    ensures levels { IfSome result (λ r. (def : ℕ) → (level : ℕ → ℕ) → IsWindow def level window → pending_levels def r.0 ≡ pending_levels def pending ++ levels_or (def + cond there (bit is_optional) 0) level at (next - at)) }
+{
+    let empty = step_at(is_optional, there);
+    if next == at {
+        if pending.count == 64 {
+            return None;
+        }
+        let after = with_list(pending, window, empty, at, 0);
+        return Some((after, edge_of(window.end, at, after.count)));
+    }
+    if !there {
+        return None;
+    }
+    if next > edge {
+        return None;
+    }
+    Some((with_list(pending, window, empty, at, next - at), edge))
 }
 
 // Takes some of up to 64 lists, as long as they have room behind the levels that wait and their items are known and lie side by side, and gives
@@ -153,24 +225,23 @@ fn take_lists<O: Offset>(
     // the number of lists fits its type, so `place + i` does
     let _lists = list.offsets.len_proxy();
     let mut after = with_others(pending, window.planes);
-    let mut at = window.first;
+    let mut at = item_place(&list.offsets, place);
+    if at != window.first {
+        return (after, 0);
+    }
+    let mut edge = edge_of(window.end, at, after.count);
     let mut i = 0;
     while i < count {
         let there = (word >> i) & 1 == 1;
-        let (first, last) = items_of(&list.offsets, there, place + i);
-        let items = last - first;
-        if items.max(1) > 64 - after.count {
-            break;
+        let next = item_end(&list.offsets, place + i, at);
+        match with_next(after, window, list.is_optional, there, at, next, edge) {
+            None => break,
+            Some((more, end)) => {
+                after = more;
+                edge = end;
+            }
         }
-        if first != at {
-            break;
-        }
-        if last > window.end {
-            break;
-        }
-        let empty = step_at(list.is_optional, there);
-        after = with_list(after, window, empty, first, items);
-        at = last;
+        at = next;
         i += 1;
     }
     (after, i)

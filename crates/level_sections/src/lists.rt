@@ -1,5 +1,5 @@
 //! Repetition levels of lists above a path without lists, in one loop over the offsets.
-ghost use Rattle.std.specs.Prelude.{◌≡◌, ℕ, ◌+◌, ◌-◌, ◌^◌, ◌<◌, ◌≤◌, ◌==◌, ◌++◌, [], List, Bool, Option, length, OnOk, IfOk, true};
+ghost use Rattle.std.specs.Prelude.{◌≡◌, ℕ, ◌+◌, ◌-◌, ◌^◌, ◌<◌, ◌≤◌, ◌==◌, ◌++◌, [], List, Bool, Option, cond, length, max, OnOk, IfOk, true};
 ghost use Rattle.std.specs.Int.{bit_at};
 ghost use Rattle.shredding.specs.Parts.{MaskFits, is_present};
 ghost use Rattle.levels.specs.Sizes.{list_size};
@@ -33,6 +33,19 @@ fn pairs_at<O: Offset>(offsets: &OffsetsBuffer<O>, there: bool, i: usize) -> usi
     ensures size { (is_optional : Bool) (mask : Option (List Bool)) → there ≡ is_present is_optional mask i → result ≡ list_size is_optional mask offsets.now i }
 {
     list_pairs(offsets, there, i).max(1)
+}
+
+// The number of level pairs of a list whose items lie from a place to another, and which is there or not.
+#[inline(always)]
+fn pairs_between(there: bool, first: usize, last: usize) -> usize
+    requires ordered { first ≤ last }
+    ensures some { 1 ≤ result }
+    ensures size { result ≡ cond there (max (last - first) 1) 1 }
+{
+    if !there {
+        return 1;
+    }
+    (last - first).max(1)
 }
 
 // The levels of a list that has room behind those that wait.
@@ -135,17 +148,21 @@ fn take_lists<O: Offset>(
     ensures before { result.1 ≤ count }
     ensures levels { (depth : ℕ) (is_optional : Bool) (mask : Option (List Bool)) → ((i : ℕ) → i < count → (bit_at word i == 1) ≡ is_present is_optional mask (place + i)) → pending depth starts ++ reps_from (list_size is_optional mask offsets.now) depth depth (place + from) (count - from) ≡ pending depth result.0 ++ reps_from (list_size is_optional mask offsets.now) depth depth (place + result.1) (count - result.1) }
 {
+    offsets.know();
     // the number of lists fits its type, so `place + i` does
     let _lists = offsets.len_proxy();
     let mut after = starts;
+    let mut at = offsets.place(place + from);
     let mut i = from;
     while i < count {
         let there = (word >> i) & 1 == 1;
-        let pairs = pairs_at(offsets, there, place + i);
+        let next = offsets.place(place + i + 1);
+        let pairs = pairs_between(there, at, next);
         if pairs > 64 - after.count {
             break;
         }
         after = with_list(after, pairs);
+        at = next;
         i += 1;
     }
     (after, i)

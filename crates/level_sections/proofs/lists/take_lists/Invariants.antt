@@ -1,4 +1,5 @@
 use Rattle.std.proofs.Common.{◌≡◌, ℕ, List, Bool, Option, ◌+◌, ◌-◌, ◌<◌, ◌≤◌, ◌==◌, ◌++◌}
+use Rattle.std.specs.Prelude.{slice_index}
 use Rattle.std.specs.Int.{bit_at}
 use Rattle.shredding.specs.Parts.{is_present}
 use Rattle.levels.specs.Sizes.{list_size}
@@ -10,6 +11,7 @@ invariant-loop-i g l = record {
   is_open : IsOpen l.after;
   before : l.from ≤ l.i;
   within : l.i ≤ l.count;
+  start : l.at ≡ slice_index l.offsets (l.place + l.i);
   levels : (depth : ℕ) (is_optional : Bool) (mask : Option (List Bool)) → ((i : ℕ) → i < l.count → (bit_at l.word i == 1) ≡ is_present is_optional mask (l.place + i)) → pending depth l.fn.starts ++ reps_from (list_size is_optional mask l.offsets) depth depth (l.place + l.from) (l.count - l.from) ≡ pending depth l.after ++ reps_from (list_size is_optional mask l.offsets) depth depth (l.place + l.i) (l.count - l.i);
 }
 
