@@ -13,6 +13,7 @@ use crate::cut::skip;
 use crate::room::want_room;
 use crate::set_bits::bits_behind;
 use columns_base::{Error, Result, S};
+use std::simd::prelude::*;
 
 // How many bytes a short string has at most.
 const SHORT: usize = 32;
@@ -83,29 +84,25 @@ fn take_short_length(text: &[u8]) -> Option<(usize, &[u8])>
     Some((count, skip(text, 4)))
 }
 
-// Writes bytes to a place on, and keeps what stands before it.
+// Writes the first bytes over others, all at once.
 #[inline(always)]
-fn put_bytes(places: &mut [u8], at: usize, text: &[u8])
-    requires { at + list_length text.now ≤ list_length places.old }
-    ensures { take (at + list_length text.now) places.new ≡ take at places.old ++ text.now }
+fn put_chunk(places: &mut [u8], bytes: &[u8])
+    requires size { list_length places.old ≡ 32 }
+    requires enough { 32 ≤ list_length bytes.now }
+    ensures { places.new ≡ take 32 bytes.now }
 {
-    places[at..at + text.len()].copy_from_slice(text);
+    Simd::<u8, 32>::from_slice(bytes).copy_to_slice(places);
 }
 
-// Writes the first bytes to a place on: as many as a short string may have, which costs less than to copy so many as it has.
+// Writes the first bytes to a place on, and keeps what stands before it: as many as a short string may have, which costs less than to copy so many as
+// it has.
 #[inline(always)]
 fn put_short(places: &mut [u8], at: usize, bytes: &[u8])
     requires within { at + 32 ≤ list_length places.old }
     requires enough { 32 ≤ list_length bytes.now }
     ensures { take (at + 32) places.new ≡ take at places.old ++ take 32 bytes.now }
 {
-    match bytes.first_chunk::<32>() {
-        Some(chunk) => {
-            let chunk = *chunk;
-            put_bytes(places, at, &chunk);
-        }
-        None => unreachable!(),
-    }
+    put_chunk(&mut places[at..at + 32], bytes);
 }
 
 // Writes the next string, where one is wanted, to a place on, if it is short. Gives its length, 0 where none is wanted, and the bytes behind it.
