@@ -6,4 +6,4 @@ use Rattle.read_columns.specs.declared.column.Reader.TheVariants as R
 
 abbrev pub reading_in : {I : Type 0} → Reader I → ColumnReading
 reading_in (R.Leaf r) = inl r
-reading_in (R.Dictionary r) = inr r
+reading_in (R.Dictionary r) = inr r.value

@@ -5,6 +5,8 @@ ghost use Rattle.columns_base.specs.declared.error.N.TheVariants.{N5};
 ghost use Rattle.columns_core.specs.Shapes.{base};
 ghost use Rattle.columns_core.specs.Tree.{TypeTree};
 ghost use Rattle.columns_core.specs.View.{type_view};
+ghost use Rattle.dictionary_leaves.specs.Dictionaries.{is_dictionary_read};
+ghost use Rattle.dictionary_leaves.specs.Stages.{IsReadingDictionary};
 ghost use Rattle.pq_headline.specs.Columns.{is_dictionary};
 ghost use Rattle.pq_tree.specs.Views.{physical_view};
 ghost use Rattle.read_pieces.specs.Columns.{ColumnOpening, GivesPiece, IsColumnOpening};
@@ -28,7 +30,8 @@ use std::marker::Model;
 #[derive(Drop)]
 pub enum Reader<I: Pages> {
     Leaf(LeafColumn<I>),
-    Dictionary(DictionaryColumn<I>),
+    /// On the heap, since it is large and there are few.
+    Dictionary(Box<DictionaryColumn<I>>),
 }
 
 /// Reads a column in pieces of whole rows, from any source of its pages: the level pairs of each in a nested state, and the values in an array of the
@@ -65,6 +68,36 @@ fn is_keyed(data_type: &DataType) -> bool
     }
 }
 
+// The reader of a column of a dictionary type, on the heap.
+#[inline(never)]
+fn open_dictionary<I: Pages>(
+    alloc: Global,
+    pages: I,
+    data_type: DataType,
+    physical_type: PhysicalType,
+    nested: Vec<InitNested>,
+    chunk_size: Option<usize>,
+    num_rows: usize,
+) -> Result<Box<DictionaryColumn<I>>>
+    ensures ok { (o : ColumnOpening) → IsColumnOpening o (type_view data_type) (physical_view physical_type) → o.outcomes ≡ I.outcomes pages → IsWay nested.items (thin o.column.way) → o.rows ≡ num_rows → o.chunk_size ≡ chunk_size → IfOk result (λ b. IsReadingDictionary o (type_view data_type) [] b.value) }
+    ensures unserved { IsErrOf result (NotYetImplemented N5) ↔ (is_dictionary_read nested.items (base (type_view data_type)) (physical_view physical_type) ≡ false) }
+    ensures err { IfErr result (λ e. (e ≡ Memory) ⊎ (e ≡ NotYetImplemented N5)) }
+{
+    let column = match DictionaryColumn::try_new(
+        alloc,
+        pages,
+        data_type,
+        physical_type,
+        nested,
+        chunk_size,
+        num_rows,
+    ) {
+        Ok(column) => column,
+        Err(error) => return Err(error),
+    };
+    Ok(Box::new(alloc, column)?)
+}
+
 impl<I: Pages> Reader<I> {
     // The next piece, of the reader that it is.
     fn next_piece(&mut self) -> Option<Result<ColumnPiece>>
@@ -99,7 +132,7 @@ impl<I: Pages> Column<I> {
         ensures err { IfErr result (λ e. (e ≡ Memory) ⊎ (e ≡ NotYetImplemented N5)) }
     {
         if is_keyed(&data_type) {
-            return match DictionaryColumn::try_new(
+            return match open_dictionary(
                 alloc,
                 pages,
                 data_type,
