@@ -9,6 +9,7 @@ pub mod EntryRows
 pub mod HiddenPaths
 pub mod KeyedArrays
 pub mod KeyedStored
+pub mod KnownRows
 pub mod Looked
 pub mod Moved
 pub mod PageRows

@@ -1,6 +1,6 @@
 -- Decimals past their physical type, in some rows of a column.
 use Rattle.std.proofs.Common.{◌≡◌, ◌⊎◌, ◌↔◌, inl, inr, ℕ, List, ◌++◌, take, drop, ap, sym, subst, ◌∙◌}
-use Rattle.std.specs.Prelude.{Contains}
+use Rattle.std.specs.Prelude.{Contains, IfErr, Result, Ok, Err}
 use Rattle.std.proofs.lemmas.Grind.{flat_map-append}
 use Rattle.std.proofs.lemmas.List.{take-append-drop}
 use Rattle.std.proofs.lemmas.List.Elements.{Contains-append_left, Contains-append_right, filter_map-append}
@@ -11,6 +11,7 @@ use Rattle.shredding.specs.Shape.{LeafType, Way}
 use Rattle.shredding.specs.Shred.{Triple, column, shred}
 use Rattle.shredding.specs.Slot.{Slot, Value, number}
 use Rattle.pq_tree.specs.Physical.{Physical, boolean}
+use Rattle.pq_tree.specs.Reads.{ComesWhere}
 use Rattle.pq_tree.specs.Tree.{Tree, leaf}
 use Rattle.pq_files.specs.Page.{values_in}
 use Rattle.write_values.specs.Decimals.{HasWide}
@@ -49,6 +50,16 @@ pub past_cause : (e : Error) (C D : Type 0) → (C → D) → (e ≡ Memory) ⊎
 past_cause e C D f (inl m) k = inl m
 past_cause e C D f (inr c) (inl m) = inl m
 past_cause e C D f (inr c) (inr v) = inr (v, f (c.0 v))
+
+pub past_result : {A : Type 0} (r : Result A Error) (C D : Type 0) → (C → D) → ComesWhere (Overflow V3) C r → IfErr r (λ e. (e ≡ Memory) ⊎ (e ≡ Overflow V3)) → IfErr r (λ e. (e ≡ Memory) ⊎ ((e ≡ Overflow V3) × D))
+past_result (Ok x) C D f h k = k
+past_result (Err e) C D f h k = past_cause e C D f h k
+
+-- an error's own cause, told otherwise
+pub past_told : {A : Type 0} (r : Result A Error) (C D : Type 0) → (C → D) → IfErr r (λ e. (e ≡ Memory) ⊎ ((e ≡ Overflow V3) × C)) → IfErr r (λ e. (e ≡ Memory) ⊎ ((e ≡ Overflow V3) × D))
+past_told (Ok x) C D f h = h
+past_told (Err e) C D f (inl m) = inl m
+past_told (Err e) C D f (inr h) = inr (h.0, f h.1)
 
 pub no_cause : (e reason : Error) (C : Type 0) → ¬ C → ¬ (Overflow V3 ≡ reason) → (e ≡ Memory) ⊎ (e ≡ Overflow V3) → (e ≡ Memory) ⊎ ((e ≡ reason) ↔ C)
 no_cause e reason C n d (inl m) = inl m

@@ -3,6 +3,7 @@ pub mod Fits
 pub mod Given
 pub mod Holds
 pub mod Keyed
+pub mod KnownColumns
 pub mod Nulls
 pub mod Refused
 pub mod Rule

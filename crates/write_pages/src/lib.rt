@@ -9,6 +9,7 @@ mod keyed_column;
 mod keyed_fit;
 mod keyed_pages;
 mod keys;
+mod known_column;
 mod leaf_pages;
 mod nulls;
 mod options;

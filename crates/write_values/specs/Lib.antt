@@ -3,6 +3,7 @@ pub mod Deltas
 pub mod Feeding
 pub mod Fixed
 pub mod FirstBytes
+pub mod Known
 pub mod Leaf
 pub mod Lengths
 pub mod Nulls

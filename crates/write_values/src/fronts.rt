@@ -165,7 +165,41 @@ fn greater<O: Offset>(offsets: &OffsetsBuffer<O>, all: &[u8], greatest: Front, n
     }
 }
 
-// The extremes with one string more.
+// The extremes with one string that may be one of them.
+#[inline(always)]
+fn with_front<O: Offset>(
+    offsets: &OffsetsBuffer<O>,
+    all: &[u8],
+    fronts: Fronts,
+    new: Front,
+) -> Fronts
+    requires places { IsPlaces offsets.now (length all.now) }
+    requires before { AreFronts offsets.now all.now fronts }
+    requires new { IsFrontAt offsets.now all.now new }
+    ensures fronts { AreFronts offsets.now all.now result }
+    ensures are { (places : List ℕ) → AreExtremes (at_place (pieces_values offsets.now all.now)) places (Some (places_of fronts)) → AreExtremes (at_place (pieces_values offsets.now all.now)) (places ++ new.place ∷ []) (Some (places_of result)) }
+{
+    Fronts {
+        least: lesser(offsets, all, fronts.least, new),
+        greatest: greater(offsets, all, fronts.greatest, new),
+    }
+}
+
+// Whether the first bytes of a string lie between those of the extremes.
+#[inline(always)]
+fn lies_between(fronts: Fronts, front: u128) -> bool
+    ensures { IsTrue result → (fronts.least.front < front) × (front < fronts.greatest.front) }
+{
+    if front <= fronts.least.front {
+        return false;
+    }
+    if fronts.greatest.front <= front {
+        return false;
+    }
+    true
+}
+
+// The extremes with one string more. Where its first bytes lie between theirs, they stay.
 #[inline(always)]
 fn with_string<O: Offset>(
     offsets: &OffsetsBuffer<O>,
@@ -180,11 +214,10 @@ fn with_string<O: Offset>(
     ensures are { (places : List ℕ) → AreExtremes (at_place (pieces_values offsets.now all.now)) places (Some (places_of fronts)) → AreExtremes (at_place (pieces_values offsets.now all.now)) (places ++ place ∷ []) (Some (places_of result)) }
 {
     let front = front_at(offsets, all, place);
-    let new = Front { place, front };
-    Fronts {
-        least: lesser(offsets, all, fronts.least, new),
-        greatest: greater(offsets, all, fronts.greatest, new),
+    if lies_between(fronts, front) {
+        return fronts;
     }
+    with_front(offsets, all, fronts, Front { place, front })
 }
 
 // The first bytes of the extremes.

@@ -8,6 +8,7 @@ mod feeding;
 mod fixed;
 mod fronts;
 mod intervals;
+mod known;
 mod leaf;
 mod measure;
 mod measured;
@@ -26,9 +27,12 @@ mod truths;
 mod values;
 mod wide;
 
+pub use known::{Known, known_values};
 pub use leaf::{Leaf, is_decimal, is_served, leaf_of};
 pub use measured::Measured;
-pub use page::{Body, Counts, PageForm, data_page, descriptor_of, has_room, page_header};
+pub use page::{
+    Body, Counts, PageForm, data_page, data_page_with, descriptor_of, has_room, page_header,
+};
 pub use spelling::page_encoding;
 pub use statistics::column_statistics;
 pub use stretch::{push_stretch, stretch_size};

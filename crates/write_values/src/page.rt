@@ -19,6 +19,7 @@ ghost use Rattle.pq_files.specs.Stored.{AreStored};
 ghost use Rattle.pq_pages.specs.DataPages.{number_in, stated_values, stated_encoding};
 ghost use Rattle.write_places.specs.Places.{path_places};
 ghost use Rattle.write_values.specs.Decimals.{HasWide};
+ghost use Rattle.write_values.specs.Known.{AreKnown};
 ghost use Rattle.write_values.specs.Leaf.{leaf_tree, leaf_physical};
 ghost use Rattle.write_values.specs.Deltas.{AreDeltasOf, IsSpelling, encoding_in, encoding_name};
 ghost use Rattle.write_values.specs.Nulls.{TellsNulls};
@@ -26,6 +27,7 @@ ghost use Rattle.write_values.specs.Pages.{column_room, stored_column, value_col
 ghost use Rattle.write_values.specs.Served.{is_served};
 ghost use Rattle.write_values.specs.Stored.{stored_at};
 
+use crate::known::Known;
 use crate::leaf::{Leaf, leaf_of};
 use crate::measured::Measured;
 use crate::spelled::push_spelled;
@@ -88,12 +90,24 @@ pub fn has_room(pairs: usize, plain: u128) -> bool
     2048 + 14 * pairs + plain as usize <= MAX_SIZE
 }
 
-// The body of a page, whose values are so many and have so many plain bytes.
+// The bytes of values that a body has room for from the start: all that are plain.
+fn plain_room(plain: u128, deltas: Option<Deltas>) -> usize
+    requires { plain ≤ max_size }
+    ensures { result ≤ max_size }
+{
+    match deltas {
+        None => plain as usize,
+        Some(_) => 0,
+    }
+}
+
+// The body of a page of so many pairs, whose values are so many and have so many plain bytes.
 fn page_body(
     alloc: Global,
     leaf: Leaf<'_>,
     nested: &[Nested],
     version: Version,
+    pairs: usize,
     measured: Measured,
     deltas: Option<Deltas>,
 ) -> Result<Body>
@@ -104,13 +118,15 @@ fn page_body(
     requires nulls { TellsNulls (leaf_tree leaf) (parts_of nested.now) }
     requires deltas { IfSome deltas (AreDeltasOf (leaf_physical leaf)) }
     requires count { measured.values ≡ length (path_places (parts_of nested.now)) }
+    requires pairs { pairs ≤ max_size }
     requires size { measured.plain ≤ max_size }
     requires small { plain_length (leaf_physical leaf) (map (stored_at (leaf_tree leaf) (leaf_physical leaf)) (path_places (parts_of nested.now))) ≤ max_size }
     requires room { column_room (leaf_physical leaf) (stored_column (leaf_tree leaf) (leaf_physical leaf) nested.now) ≤ max_size }
     ensures ok { IfOk result (IsBody version (encoding_in deltas) (leaf_physical leaf.entry) nested.now (stored_at (leaf_tree leaf.entry) (leaf_physical leaf.entry))) }
     ensures err { IfErr result (λ e. e ≡ Memory) }
 {
-    let mut buffer = Vec::new(alloc);
+    let room = plain_room(measured.plain, deltas);
+    let mut buffer = Vec::with_capacity(alloc, room + pairs / 4 + 64)?;
     let (repetition, definition) = write_rep_and_def(version, nested, &mut buffer)?;
     let buffer = push_spelled(alloc, leaf, nested, measured, deltas, buffer)?;
     Ok(Body {
@@ -182,6 +198,44 @@ pub fn descriptor_of(type_: PrimitiveType, nested: &[Nested]) -> Descriptor
     }
 }
 
+// A page of a leaf array whose values are written, spelled so, of which this is known.
+fn page_with(
+    alloc: Global,
+    leaf: Leaf<'_>,
+    type_: PrimitiveType,
+    nested: &[Nested],
+    form: PageForm,
+    deltas: Option<Deltas>,
+    known: Known,
+) -> Result<DataPage>
+    requires well { IsPath (parts_of nested.now) }
+    requires parts { length nested.now ≤ 128 }
+    requires leaf { leaf_count_or 0 (parts_of nested.now) ≤ tree_len (leaf_tree leaf) }
+    requires served { is_served (base (type_of (leaf_tree leaf))) (leaf_physical leaf) ≡ true }
+    requires nulls { TellsNulls (leaf_tree leaf) (parts_of nested.now) }
+    requires known { AreKnown form.with_statistics (leaf_tree leaf) (leaf_physical leaf) nested.now known }
+    requires spelling { IsSpelling form.with_deltas (leaf_type (type_of (leaf_tree leaf))) (leaf_physical leaf) deltas }
+    ensures ok { IfOk result (IsColumnPage form (leaf_tree leaf.entry) (leaf_physical leaf.entry) type_ nested.now) }
+    ensures err { IfErr result (λ e. (e ≡ Memory) ⊎ ((e ≡ Overflow V3) × (max_size < column_room (leaf_physical leaf.entry) (stored_column (leaf_tree leaf.entry) (leaf_physical leaf.entry) nested.now)))) }
+{
+    let measured = known.measured;
+    let pairs = num_values(nested);
+    if !has_room(pairs, measured.plain) {
+        return Err(Error::Overflow(V::V3));
+    }
+    let body = page_body(alloc, leaf, nested, form.version, pairs, measured, deltas)?;
+    let rows = slot_count(nested);
+    let counts = Counts {
+        pairs: pairs as u32,
+        nulls: (pairs - measured.values) as u32,
+        rows: rows as u32,
+    };
+    let encoding = encoding_in(deltas);
+    let header = page_header(form.version, encoding, counts, known.statistics, &body);
+    let descriptor = descriptor_of(type_, nested);
+    Ok(DataPage::new(header, body.buffer, descriptor, Some(rows)))
+}
+
 // A page of a leaf array whose values are written, spelled so.
 fn leaf_page(
     alloc: Global,
@@ -203,22 +257,12 @@ fn leaf_page(
     ensures err { IfErr result (λ e. (e ≡ Memory) ⊎ ((e ≡ Overflow V3) × (max_size < column_room (leaf_physical leaf.entry) (stored_column (leaf_tree leaf.entry) (leaf_physical leaf.entry) nested.now)))) }
 {
     let measured = measure(leaf, nested);
-    let pairs = num_values(nested);
-    if !has_room(pairs, measured.plain) {
-        return Err(Error::Overflow(V::V3));
-    }
-    let body = page_body(alloc, leaf, nested, form.version, measured, deltas)?;
     let statistics = leaf_statistics(alloc, leaf, nested, form.with_statistics)?;
-    let rows = slot_count(nested);
-    let counts = Counts {
-        pairs: pairs as u32,
-        nulls: (pairs - measured.values) as u32,
-        rows: rows as u32,
+    let known = Known {
+        measured,
+        statistics,
     };
-    let encoding = encoding_in(deltas);
-    let header = page_header(form.version, encoding, counts, statistics, &body);
-    let descriptor = descriptor_of(type_, nested);
-    Ok(DataPage::new(header, body.buffer, descriptor, Some(rows)))
+    page_with(alloc, leaf, type_, nested, form, deltas, known)
 }
 
 /// One data page of the values that a path reaches in its leaf array, in the form that is asked for (Parquet format, "Data Pages",
@@ -257,5 +301,40 @@ pub fn data_page(
     match leaf_of(array, type_.physical_type) {
         Some(leaf) => leaf_page(alloc, leaf, type_, nested, form, deltas),
         None => Err(Error::NotYetImplemented(N::N5)),
+    }
+}
+
+/// One data page, as `data_page` makes it, of values of which it is known how many there are, how many bytes they take and what their
+/// statistics are (`known_values`): none of this is looked for again. Values of the array's type are written under the physical type.
+///
+/// # Errors
+///
+/// - `Overflow(V3)` exactly where the room of the page passes 2^31 - 1, whatever its encoding.
+/// - `Memory`.
+pub fn data_page_with(
+    alloc: Global,
+    array: &ArrayBox,
+    type_: PrimitiveType,
+    nested: &[Nested],
+    form: PageForm,
+    known: Known,
+) -> Result<DataPage>
+    requires well { IsPath (parts_of nested.now) }
+    requires parts { length nested.now ≤ 128 }
+    requires leaf { tree_len (boxed array.now) ≡ leaf_count_or 0 (parts_of nested.now) }
+    requires nulls { TellsNulls (boxed array.now) (parts_of nested.now) }
+    requires served { is_served (base (type_of (boxed array.now))) (physical_view type_.physical_type) ≡ true }
+    requires held { ¬ HasWide (leaf_type (type_of (boxed array.now))) (physical_view type_.physical_type) (value_column (boxed array.now) nested.now) }
+    requires known { AreKnown form.with_statistics (boxed array.now) (physical_view type_.physical_type) nested.now known }
+    ensures ok { IfOk result (IsColumnPage form (boxed array.now) (physical_view type_.physical_type) type_ nested.now) }
+    ensures stored { AreStored (leaf_type (type_of (boxed array.now))) (physical_view type_.physical_type) (value_column (boxed array.now) nested.now) (stored_column (boxed array.now) (physical_view type_.physical_type) nested.now) }
+    ensures too_large { ComesWhere (Overflow V3) (max_size < column_room (physical_view type_.physical_type) (stored_column (boxed array.now) (physical_view type_.physical_type) nested.now)) result }
+    ensures err { IfErr result (λ e. (e ≡ Memory) ⊎ (e ≡ Overflow V3)) }
+{
+    array.know();
+    let deltas = spelling_of(array.data_type(), type_.physical_type, form.with_deltas);
+    match leaf_of(array, type_.physical_type) {
+        Some(leaf) => page_with(alloc, leaf, type_, nested, form, deltas, known),
+        None => unreachable!(),
     }
 }

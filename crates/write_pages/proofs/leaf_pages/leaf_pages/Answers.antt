@@ -26,6 +26,7 @@ returns-clause-ok c =
     let same : boxed c.in_ok-clone.field-0 ≡ a = search rules in
     let rows : rows_of (parts_of c.in_ok-copy_path.field-0.items) (boxed c.in_ok-clone.field-0) ≡ rows_of parts a = ap (rows_of (parts_of c.in_ok-copy_path.field-0.items)) same ∙ ap (λ (xs : List Nested). rows_of (parts_of xs) a) c.in_ok-copy_path.ensures.ok in
     let none : leaf_entries a ≡ None = no_entries a c.know.ensures c.requires.plain in
+    let rule = c.page_rows-per_page.ensures.rule (leaf_type (type_of a)) p a c.in_ok-whole.ensures.measured in
     let written = deltas_written (type_of a) p parts c.args.encoding c.in_ok-check_written.ensures.ok.0 c.in_ok-check_fit.ensures.served in
     record {
       options = search rules;
@@ -42,8 +43,8 @@ returns-clause-ok c =
       entries = sym none;
       stored_entries = value_entries (leaf_entries a) none (leaf_type (type_of a)) p;
       owes = value_owes (leaf_entries a) none (rows_of parts a);
-      statistics = value_stated (leaf_entries a) none c.args.options.write_statistics (leaf_type (type_of a)) p _ _ c.in_ok-statistics.ensures.ok;
-      pieces = value_pieces (leaf_entries a) none c.args.options.data_pagesize_limit (leaf_type (type_of a)) p _ c.in_ok-per_page.ensures.rule.stored (rows_of parts a) _ c.in_ok-per_page.ensures.rule.are_stored c.in_ok-per_page.ensures.rule.have_bytes (ap (λ (xs : List Slot). cut xs (Some c.in_ok-per_page.per_page)) rows ∙ c.in_ok-per_page.ensures.rule.pieces);
+      statistics = value_stated (leaf_entries a) none c.args.options.write_statistics (leaf_type (type_of a)) p _ _ c.in_ok-whole.ensures.stated;
+      pieces = value_pieces (leaf_entries a) none c.args.options.data_pagesize_limit (leaf_type (type_of a)) p _ rule.stored (rows_of parts a) _ rule.are_stored rule.have_bytes (ap (λ (xs : List Slot). cut xs (Some c.page_rows-per_page.result)) rows ∙ rule.pieces);
     }
 
 pub returns-clause-fits : goal.returns-clause-fits
@@ -62,8 +63,8 @@ returns-in_err-check_fit-clause-err c =
     rw (r.1, r.2)
     (fit_refused c.args.options c.args.type_ (parts_of c.args.nested.now) (boxed c.args.primitive_array.now) c.args.encoding c.requires.plain c.in_err-check_fit.field-0.0 c.in_ok-check_written.ensures.ok.0 c.in_ok-check_written.ensures.ok.1 c.in_err-check_fit.ensures.err)
 
-pub returns-in_err-check_all_held-clause-err : goal.returns-in_err-check_all_held-clause-err
-returns-in_err-check_all_held-clause-err c =
-    let r = err_from_is_err_and c.from_residual-in_err-check_all_held.result c.from_residual-in_err-check_all_held.ensures.1 in
+pub returns-in_err-whole-clause-err : goal.returns-in_err-whole-clause-err
+returns-in_err-whole-clause-err c =
+    let r = err_from_is_err_and c.from_residual-in_err-whole.result c.from_residual-in_err-whole.ensures.1 in
     rw (r.1, r.2)
-    (wide_refused c.args.options c.args.type_ (parts_of c.args.nested.now) (boxed c.args.primitive_array.now) c.args.encoding c.requires.plain c.in_err-check_all_held.field-0.0 c.in_ok-check_written.ensures.ok.0 c.in_ok-check_written.ensures.ok.1 c.in_ok-check_fit.ensures.in_bounds c.in_ok-check_fit.ensures.fits c.in_err-check_all_held.ensures.err)
+    (wide_refused c.args.options c.args.type_ (parts_of c.args.nested.now) (boxed c.args.primitive_array.now) c.args.encoding c.requires.plain c.in_err-whole.field-0.0 c.in_ok-check_written.ensures.ok.0 c.in_ok-check_written.ensures.ok.1 c.in_ok-check_fit.ensures.in_bounds c.in_ok-check_fit.ensures.fits c.in_err-whole.ensures.err)

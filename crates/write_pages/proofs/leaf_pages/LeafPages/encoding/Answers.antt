@@ -9,4 +9,4 @@ use Rattle.write_pages.proofs.leaf_pages.LeafPages.encoding.Goals as goal
 pub page_encoding-requires : goal.page_encoding-requires
 page_encoding-requires c =
     let s = c.self.inside in
-    subst IsLeafType (sym c.data_type.ensures) (leaf_types (type_of (boxed s.array)) (physical_view s.type_.physical_type) c.self.invariant.served)
+    subst IsLeafType (sym c.data_type.ensures) (leaf_types (type_of (boxed s.array)) (physical_view s.type_.physical_type) c.self.invariant.0.served)

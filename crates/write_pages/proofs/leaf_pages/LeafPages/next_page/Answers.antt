@@ -13,6 +13,7 @@ use Rattle.pq_tree.specs.TreeViews.{leaf_view}
 use Rattle.pq_tree.specs.Views.{physical_view, statistics_view}
 use Rattle.write_values.specs.Deltas.{page_encoding}
 use Rattle.pq_pages.specs.declared.page.Page.TheVariants.{Data}
+use Rattle.write_pages.specs.KnownColumns.{IsKnown}
 use Rattle.write_pages.specs.Holds.{HoldsRows, LeafState, pieces_left, rows_of, leaf_to_give}
 use Rattle.write_pages.specs.Refused.{Gives, IsPastRoom}
 use Rattle.write_pages.proofs.Moved.{rows_counted}
@@ -35,10 +36,10 @@ returns-in-Ok c =
     let rows = rows_of parts (boxed s.array) in
     let n = c.min-count.result in
     let count : c.slot_count-rows.result ≡ length rows = c.slot_count-rows.ensures ∙ (ap (λ (xs : List Nested). slot_count (parts_of xs)) c.deref.ensures.value ∙ sym (rows_counted parts (boxed s.array))) in
-    let new : LeafState = record { options = s.options; with_deltas = s.with_deltas; type_ = s.type_; array = boxed s.array; parts = parts; next = s.next + n; per_page = s.per_page; has_failed = s.has_failed; statistics = option_map statistics_view s.statistics } in
+    let new : LeafState = record { options = s.options; with_deltas = s.with_deltas; type_ = s.type_; array = boxed s.array; parts = parts; next = s.next + n; per_page = s.per_page; has_failed = s.has_failed; statistics = option_map statistics_view s.whole.known.statistics } in
     let page =
     subst (λ (xs : List Nested). HoldsRows s.options (page_encoding s.with_deltas (leaf_type (type_of (boxed s.array))) (physical_view s.type_.physical_type)) (leaf_type (type_of (boxed s.array))) (leaf_view s.type_) (physical_view s.type_.physical_type) (path_way (parts_of xs)) None (take n (drop s.next (rows_of (parts_of xs) (boxed s.array)))) c.in-Ok.page) c.deref-2.ensures.value c.in-Ok.ensures.ok in
-    let left = some_left s.has_failed s.per_page s.next n rows c.if-self.false c.self.invariant.some (omega (arith, c.if-self-rows.false, count)) (omega (arith, c.min-count.ensures, count)) in
+    let left = some_left s.has_failed s.per_page s.next n rows c.if-self.false c.self.invariant.0.some (omega (arith, c.if-self-rows.false, count)) (omega (arith, c.min-count.ensures, count)) in
     subst (λ (old : LeafState). Gives (leaf_to_give old) (leaf_to_give new) (Some (Ok (Data c.in-Ok.page)))) c.self.view_is
     (take n (drop s.next rows), pieces_left s.has_failed s.per_page (s.next + n) rows, refl, left, refl, page)
 
@@ -50,9 +51,14 @@ returns-in-Err c =
     let n = c.min-count.result in
     let e = c.in-Err.error in
     let count : c.slot_count-rows.result ≡ length rows = c.slot_count-rows.ensures ∙ (ap (λ (xs : List Nested). slot_count (parts_of xs)) c.deref.ensures.value ∙ sym (rows_counted parts (boxed s.array))) in
-    let new : LeafState = record { options = s.options; with_deltas = s.with_deltas; type_ = s.type_; array = boxed s.array; parts = parts; next = s.next; per_page = s.per_page; has_failed = true; statistics = option_map statistics_view s.statistics } in
+    let new : LeafState = record { options = s.options; with_deltas = s.with_deltas; type_ = s.type_; array = boxed s.array; parts = parts; next = s.next; per_page = s.per_page; has_failed = true; statistics = option_map statistics_view s.whole.known.statistics } in
     let cause : (e ≡ Memory) ⊎ ((e ≡ Overflow V3) × IsPastRoom (leaf_type (type_of (boxed s.array))) (physical_view s.type_.physical_type) (column (path_way parts) (take n (drop s.next rows)))) =
     subst (λ (xs : List Nested). (e ≡ Memory) ⊎ ((e ≡ Overflow V3) × IsPastRoom (leaf_type (type_of (boxed s.array))) (physical_view s.type_.physical_type) (column (path_way (parts_of xs)) (take n (drop s.next (rows_of (parts_of xs) (boxed s.array))))))) c.deref-2.ensures.value c.in-Err.ensures.err in
-    let left = some_left s.has_failed s.per_page s.next n rows c.if-self.false c.self.invariant.some (omega (arith, c.if-self-rows.false, count)) (omega (arith, c.min-count.ensures, count)) in
+    let left = some_left s.has_failed s.per_page s.next n rows c.if-self.false c.self.invariant.0.some (omega (arith, c.if-self-rows.false, count)) (omega (arith, c.min-count.ensures, count)) in
     subst (λ (old : LeafState). Gives (leaf_to_give old) (leaf_to_give new) (Some (Err e))) c.self.view_is
     (refl, elim cause [ inl m ↦ inl m | inr h ↦ inr (h.0, inr (take n (drop s.next rows), pieces_left s.has_failed s.per_page (s.next + n) rows, left, h.1)) ], omega (arith, ap length left))
+
+pub piece_page-requires-clause-known : goal.piece_page-requires-clause-known
+piece_page-requires-clause-known c =
+    let s = c.self.inside in
+    subst (λ (xs : List Nested). IsKnown s.options.write_statistics (boxed s.array) (parts_of xs) (physical_view s.type_.physical_type) s.whole) (sym c.deref-2.ensures.value) c.self.invariant.1
