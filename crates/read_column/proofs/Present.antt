@@ -1,5 +1,6 @@
 -- How many of a page's pairs have a value.
-use Rattle.std.proofs.Common.{◌≡◌, ℕ, zero, suc, ◌+◌, ◌≤◌, Bool, true, false, cond, is_some, nat_eq, Option, Some, None, Ok, Err, List, [], ◌∷◌, ◌++◌, map, length, All, refl, arith, ap, subst, sym, ◌∙◌}
+use Rattle.std.proofs.Common.{◌≡◌, ℕ, zero, suc, ◌+◌, ◌<◌, ◌≤◌, Bool, true, false, cond, is_some, nat_eq, Option, Some, None, Ok, Err, List, [], ◌∷◌, ◌++◌, map, length, drop, get_or, replicate, All, refl, arith, ap, subst, sym, ◌∙◌}
+use Rattle.std.proofs.lemmas.List.{drop_all, drop_more}
 use Rattle.std.proofs.lemmas.Bool.{eq-eqb, ne_eqb}
 use Rattle.std.specs.List.{cons_option}
 use Rattle.std.proofs.lemmas.List.Elements.{All-head, All-tail}
@@ -9,9 +10,9 @@ use Rattle.shredding.specs.Slot.{Value}
 use Rattle.pq_files.specs.Page.{values_in}
 use Rattle.pq_files.specs.Stored.{AreStored}
 use Rattle.pq_tree.specs.Physical.{Physical}
-use Rattle.read_walk.specs.Pairs.{Item, Pair, TakesRun, equal_pairs}
+use Rattle.read_walk.specs.Pairs.{Item, Pair, pair_items}
 use Rattle.read_walk.specs.Walk.{pair_of}
-use Rattle.read_column.specs.Deltas.{HasFault, present_in}
+use Rattle.read_column.specs.Deltas.{HasFault, levels_at, present_in}
 
 -- ---- of triples
 one-present : (o : Option Value) (vs : List Value) (b : Bool) (n : ℕ) → is_some o ≡ b → n ≡ length vs → cond b 1 0 + n ≡ length (cons_option o vs)
@@ -48,31 +49,47 @@ readable-pairs top (Ok p ∷ is) =
     few true n m h = omega (arith, h)
     few false n m h = omega (arith, h)
 
--- equal ones at once
-pub equal-present : (top r d n : ℕ) (is : List Item) → nat_eq d top ≡ true → present_in top (equal_pairs r d n ++ is) ≡ n + present_in top is
-equal-present top r d n is e = by n
-  where
-    by : (n : ℕ) → present_in top (equal_pairs r d n ++ is) ≡ n + present_in top is
-    by zero = omega arith
-    by (suc n) = rw e (omega (arith, by n))
+-- ---- levels at once
+pub level_past : (top i : ℕ) (ds : List ℕ) → length ds ≤ i → levels_at top (drop i ds) ≡ 0
+level_past top i ds le = ap (levels_at top) (drop_all i ds le)
 
-pub equal-absent : (top r d n : ℕ) (is : List Item) → nat_eq d top ≡ false → present_in top (equal_pairs r d n ++ is) ≡ present_in top is
-equal-absent top r d n is e = by n
-  where
-    by : (n : ℕ) → present_in top (equal_pairs r d n ++ is) ≡ present_in top is
-    by zero = refl
-    by (suc n) = rw e (omega (arith, by n))
+pub level_more : (top i count one all : ℕ) (ds : List ℕ) → i < length ds → one ≡ cond (nat_eq (get_or ds i 0) top) 1 0 → count + levels_at top (drop i ds) ≡ all → (count + one) + levels_at top (drop (i + 1) ds) ≡ all
+level_more top i count one all ds lt is e = omega (arith, is, ap (levels_at top) (drop_more ds i 0 lt), e)
 
-pub equal-fault : (r d n : ℕ) (is : List Item) → HasFault is → HasFault (equal_pairs r d n ++ is)
-equal-fault r d zero is h = h
-equal-fault r d (suc n) is h = equal-fault r d n is h
+-- a level above all of them
+pub too_high : (top most : ℕ) (ds : List ℕ) → ((k : ℕ) → get_or ds k 0 < most) → most ≤ top → levels_at top ds ≡ 0
+too_high top most [] below le = refl
+too_high top most (d ∷ ds) below le = rw (ne_eqb d top (λ e. omega (arith, e, le, below 0))) (omega (arith, too_high top most ds (λ k. below (suc k)) le))
 
--- ---- run by run
-pub run-faults : (limit r d n : ℕ) (old new : List Item) → TakesRun limit old (Some (Ok (r, d, n))) new → HasFault new → HasFault old
-run-faults limit r d n old new t h = subst HasFault (sym t.2) (equal-fault r d n new h)
+pub equal_levels : (top d n : ℕ) → d ≡ top → levels_at top (replicate n d) ≡ n
+equal_levels top d zero e = refl
+equal_levels top d (suc n) e = rw (eq-eqb d top e) (omega (arith, equal_levels top d n e))
 
-pub run-present : (limit top r d n count : ℕ) (old new all : List Item) → TakesRun limit old (Some (Ok (r, d, n))) new → d ≡ top → count + present_in top old ≡ present_in top all → (count + n) + present_in top new ≡ present_in top all
-run-present limit top r d n count old new all t same e = omega (arith, e, ap (present_in top) t.2, equal-present top r d n new (eq-eqb d top same))
+pub other_levels : (top d n : ℕ) → (d ≡ top → ⊥) → levels_at top (replicate n d) ≡ 0
+other_levels top d zero other = refl
+other_levels top d (suc n) other = rw (ne_eqb d top other) (omega (arith, other_levels top d n other))
 
-pub run-absent : (limit top r d n count : ℕ) (old new all : List Item) → TakesRun limit old (Some (Ok (r, d, n))) new → (d ≡ top → ⊥) → count + present_in top old ≡ present_in top all → count + present_in top new ≡ present_in top all
-run-absent limit top r d n count old new all t other e = omega (arith, e, ap (present_in top) t.2, equal-absent top r d n new (ne_eqb d top other))
+-- ---- pairs at once
+pairs_present : (top : ℕ) (rs ds : List ℕ) (is : List Item) → length ds ≡ length rs → present_in top (pair_items rs ds ++ is) ≡ levels_at top ds + present_in top is
+pairs_present top [] [] is e = omega arith
+pairs_present top [] (d ∷ ds) is e = absurd (omega (arith, e))
+pairs_present top (r ∷ rs) [] is e = absurd (omega (arith, e))
+pairs_present top (r ∷ rs) (d ∷ ds) is e = omega (arith, pairs_present top rs ds is (omega (arith, e)))
+
+pairs_fault : (rs ds : List ℕ) (is : List Item) → HasFault is → HasFault (pair_items rs ds ++ is)
+pairs_fault [] ds is h = h
+pairs_fault (r ∷ rs) [] is h = h
+pairs_fault (r ∷ rs) (d ∷ ds) is h = pairs_fault rs ds is h
+
+pairs_length : (rs ds : List ℕ) (is : List Item) → length ds ≡ length rs → length (pair_items rs ds ++ is) ≡ length rs + length is
+pairs_length [] [] is e = omega arith
+pairs_length [] (d ∷ ds) is e = absurd (omega (arith, e))
+pairs_length (r ∷ rs) [] is e = absurd (omega (arith, e))
+pairs_length (r ∷ rs) (d ∷ ds) is e = omega (arith, pairs_length rs ds is (omega (arith, e)))
+
+pub block_present : (top n : ℕ) (rs ds : List ℕ) (old new : List Item) → old ≡ pair_items rs ds ++ new → length ds ≡ length rs → 1 ≤ length rs → n ≡ levels_at top ds → (n + present_in top new ≡ present_in top old) × (HasFault new → HasFault old) × (length new < length old)
+block_present top n rs ds old new is same some counted = (
+  omega (arith, counted, pairs_present top rs ds new same, ap (present_in top) is),
+  λ h. subst HasFault (sym is) (pairs_fault rs ds new h),
+  omega (arith, ap length is, pairs_length rs ds new same, some),
+)

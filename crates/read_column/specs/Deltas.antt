@@ -50,3 +50,8 @@ SpellNone D.Unread n section = Unit {0}
 SpellNone D.Int32 n section = SpellsNone (AreDeltas w32) n section
 SpellNone D.Int64 n section = SpellsNone (AreDeltas w64) n section
 SpellNone D.Strings n section = SpellsNone AreDeltaLengths n section
+
+-- how many of the definition levels are this one
+abbrev pub levels_at : ℕ → List ℕ → ℕ
+levels_at top [] = 0
+levels_at top (d ∷ ds) = cond (nat_eq d top) 1 0 + levels_at top ds
