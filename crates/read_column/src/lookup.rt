@@ -7,7 +7,7 @@ ghost use Rattle.read_column.specs.Lookups.{AreLaidAs, Lays};
 
 use crate::entries::{Entries, Place};
 use columns_base::Result;
-use pq_delta_reads::unpack_block;
+use pq_delta_reads::unpack_into;
 
 // The bytes from a place on.
 #[inline(always)]
@@ -171,9 +171,11 @@ pub fn push_packed(
 {
     let mut rest = body;
     let mut left = count;
+    let mut indices = [0; 32];
     while left > 0 {
         let some = left.min(32);
-        let all = push_entries(values, entries, &unpack_block(rest, width), some)?;
+        unpack_into(rest, width, &mut indices);
+        let all = push_entries(values, entries, &indices, some)?;
         if !all {
             return Ok(false);
         }
