@@ -58,6 +58,19 @@ impl Entries {
         Some(text_of(&self.body, &self.places[index]))
     }
 
+    /// Makes room for so many entries of middling size, if there is memory, but for no more than 256 bytes for each byte of their indices.
+    pub fn expect_room(&self, values: &mut Vec<u8>, count: usize, there: usize)
+        ensures { values.new.items ≡ values.old.items }
+    {
+        let size = self.body.len() / self.places.len().max(1);
+        let wanted = count.saturating_mul(size);
+        let _room = values.reserve(
+            wanted
+                .saturating_add(wanted / 16)
+                .min(there.saturating_mul(256)),
+        );
+    }
+
     /// Puts the entries at the first indices one behind the other, as `put_short` does.
     pub fn put_short(
         &self,

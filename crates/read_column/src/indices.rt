@@ -134,6 +134,7 @@ fn laid_runs(
     ensures err { IfErr result (λ e. e ≡ Memory) }
 {
     let mut values = Vec::new(alloc);
+    entries.expect_room(&mut values, count, bytes.len());
     let mut runs = Runs { bytes, left: count };
     'runs: while runs.left > 0 {
         let all = take_run(&mut values, entries, &mut runs, width)?;
