@@ -18,10 +18,17 @@ pub fn take_byte(bytes: &[u8]) -> Result<(u8, &[u8]), Refusal>
     }
 }
 
+#[tactic(auto, unfolding(pq_numbers::specs::Varint::varint_up_to))]
 pub fn take_number(bytes: &[u8]) -> Result<(u64, &[u8]), Refusal>
     ensures gives { Gives (λ x. (x.0, x.1.now)) result (varint_at bytes.now) }
     ensures shorter { IfOk result (λ x. length x.1.now < length bytes.now) }
 {
+    // Most numbers are one byte.
+    if let [byte, rest @ ..] = bytes {
+        if *byte < 128 {
+            return Ok((u64::from(*byte), rest));
+        }
+    }
     match take_varint(bytes) {
         None => Err(Refusal::Fault(Fault::Outside)),
         Some((number, rest)) => Ok((number, rest)),

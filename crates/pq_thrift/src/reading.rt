@@ -4,7 +4,7 @@ ghost use Rattle.std.specs.Prelude.{◌≡◌, ◌≤◌, ◌++◌, ℕ, List, l
 ghost use Rattle.columns_base.specs.declared.error.S.TheVariants.{S1};
 ghost use Rattle.columns_base.specs.declared.error.N.TheVariants.{N7};
 ghost use Rattle.pq_thrift.specs.declared.fault.Fault.TheVariants.{Outside, Deep};
-ghost use Rattle.pq_thrift.specs.declared.kind.Kind.TheVariants.{Struct as struct_kind, True as true_kind, False as false_kind};
+ghost use Rattle.pq_thrift.specs.declared.kind.Kind.TheVariants.{Struct as struct_kind, True as true_kind, False as false_kind, I32 as short_kind, I64 as long_kind};
 ghost use Rattle.pq_thrift.specs.Grammar.{Spells, depth};
 ghost use Rattle.pq_thrift.specs.Nesting.{NestsPast, IsOutside};
 ghost use Rattle.pq_thrift.specs.Outcome.{told, ReadsAs};
@@ -211,7 +211,31 @@ fn take_truth(truth: bool, bytes: &[u8], depth: u8) -> Result<(Thrift, &[u8]), R
     Ok((Thrift::Bool(truth), bytes))
 }
 
-/// A value as it stands in a field.
+/// A number of 32 bits in a field.
+fn take_short(bytes: &[u8], depth: u8) -> Result<(Thrift, &[u8]), Refusal>
+    ensures gives { Gives (λ x. (view x.0, x.1.now)) result (field_with (value_at depth) short_kind bytes.now) }
+    ensures no_longer { IfOk result (λ x. length x.1.now ≤ length bytes.now) }
+{
+    if depth == 0 {
+        return Err(Refusal::Fault(Fault::Deep));
+    }
+    let (number, rest) = take_i32(bytes)?;
+    Ok((Thrift::I32(number), rest))
+}
+
+/// A number of 64 bits in a field.
+fn take_long(bytes: &[u8], depth: u8) -> Result<(Thrift, &[u8]), Refusal>
+    ensures gives { Gives (λ x. (view x.0, x.1.now)) result (field_with (value_at depth) long_kind bytes.now) }
+    ensures no_longer { IfOk result (λ x. length x.1.now ≤ length bytes.now) }
+{
+    if depth == 0 {
+        return Err(Refusal::Fault(Fault::Deep));
+    }
+    let (number, rest) = take_i64(bytes)?;
+    Ok((Thrift::I64(number), rest))
+}
+
+/// A value as it stands in a field. Most are numbers, which need no call of the cycle.
 #[cycle(read)]
 fn take_field(
     alloc: Global,
@@ -225,6 +249,8 @@ fn take_field(
     match kind {
         Kind::True => take_truth(true, bytes, depth),
         Kind::False => take_truth(false, bytes, depth),
+        Kind::I32 => take_short(bytes, depth),
+        Kind::I64 => take_long(bytes, depth),
         _ => take_value(alloc, kind, bytes, depth),
     }
 }

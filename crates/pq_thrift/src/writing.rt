@@ -208,6 +208,9 @@ fn push_fields(out: &mut Vec<u8>, fields: &Vec<(i16, Thrift)>) -> Result<(), All
     Ok(())
 }
 
+/// How many bytes most structs take.
+const MOST_BYTES: usize = 64;
+
 /// Appends the struct in the Thrift compact protocol. A list's size below 15 stands in its head,
 /// varints have no padding, and a field's id is a step where that is 1 to 15.
 ///
@@ -229,7 +232,7 @@ pub fn write_thrift(value: &Thrift, out: &mut Vec<u8>) -> Outcome<()>
     ensures err { OnErr result (out.new.items ≡ out.old.items) }
     ensures memory { IfErr result (λ e. e ≡ Memory) }
 {
-    let mut text = Vec::new(*out.allocator());
+    let mut text = Vec::with_capacity(*out.allocator(), MOST_BYTES)?;
     push_value(&mut text, value)?;
     out.extend_from_slice(&text)?;
     Ok(())
