@@ -3,9 +3,9 @@ ghost use Rattle.std.specs.Prelude.{◌≡◌, None, IfOk, IfErr, option_map};
 ghost use Rattle.columns_base.specs.declared.error.Error.TheVariants.{Memory};
 ghost use Rattle.pq_tree.specs.Described.{column_view};
 ghost use Rattle.pq_tree.specs.TreeViews.{info_view, leaf_view, tree_view, trees_view};
-ghost use Rattle.pq_tree.specs.Views.{key_view};
+ghost use Rattle.pq_tree.specs.Views.{key_view, statistics_view};
 
-use crate::types::{Descriptor, FieldInfo, KeyValue, ParquetType, PrimitiveType};
+use crate::types::{Descriptor, FieldInfo, KeyValue, ParquetType, PrimitiveType, Statistics};
 use columns_base::Error;
 use std::alloc::Global;
 
@@ -76,6 +76,30 @@ impl KeyValue {
             key: String::from_str(alloc, self.key.as_str())?,
             value,
         })
+    }
+}
+
+impl Statistics {
+    /// What is stated of the same values.
+    pub fn clone(&self, alloc: Global) -> Result<Statistics, Error>
+        ensures same { IfOk result (λ copy. statistics_view copy ≡ statistics_view self.now) }
+        ensures refused { IfErr result (λ e. e ≡ Memory) }
+    {
+        Ok(Statistics {
+            null_count: self.null_count,
+            max_value: copy_bytes(alloc, &self.max_value)?,
+            min_value: copy_bytes(alloc, &self.min_value)?,
+        })
+    }
+}
+
+fn copy_bytes(alloc: Global, bytes: &Option<Vec<u8>>) -> Result<Option<Vec<u8>>, Error>
+    ensures same { IfOk result (λ copy. option_map (λ v. v.items) copy ≡ option_map (λ v. v.items) bytes.now) }
+    ensures refused { IfErr result (λ e. e ≡ Memory) }
+{
+    match bytes {
+        None => Ok(None),
+        Some(bytes) => Ok(Some(Vec::from_slice(alloc, bytes)?)),
     }
 }
 
