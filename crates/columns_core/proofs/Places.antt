@@ -80,6 +80,10 @@ pushed_at f xs x ys e k is at h l =
     let p = pushed f xs x h (subst IsWhole (sym at) tt) (omega (arith, v, l)) in
     rw is (p.0, sym v ∙ p.1)
 
+pub seen_push : {A : Type 0} (f : A → ℤ) (xs : List A) (x : A) (ys : List A) (p : ℕ) → ys ≡ xs ++ x ∷ [] → f x ≡ pos p
+    → map (λ y. whole (f y)) ys ≡ map (λ y. whole (f y)) xs ++ p ∷ []
+seen_push f xs x ys p is at = rw (is, map-append (λ y. whole (f y)) xs (x ∷ [])) (ap (λ q. map (λ y. whole (f y)) xs ++ whole q ∷ []) at)
+
 -- ---- copies of the last place
 from_copies : {A : Type 0} (f : A → ℤ) (xs : List A) (x : A) (n b : ℕ) → AreFrom b (map f xs) → IsWhole (f x) → last_place (b ∷ map (λ y. whole (f y)) xs) ≡ whole (f x) → AreFrom b (map f (xs ++ replicate n x))
 from_copies f [] x zero b h w l = tt

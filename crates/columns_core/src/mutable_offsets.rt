@@ -1,6 +1,6 @@
 //! Offsets that grow.
-ghost use Rattle.std.specs.Prelude.{◌≡◌, ◌↔◌, ◌⊎◌, ℕ, List, pos, MatchOption, ◌+◌, ◌<◌, ◌≤◌, [], ◌∷◌, ◌++◌, IfOk, OnOk, IfErr, IsOk, IsErrOf, replicate, sum, take, length as list_length};
-ghost use Rattle.columns_core.specs.Rising.{IsWhole, whole, last_place, places_from, GrewBy, Passes};
+ghost use Rattle.std.specs.Prelude.{◌≡◌, ◌↔◌, ◌⊎◌, ℕ, List, pos, MatchOption, ◌+◌, ◌-◌, ◌<◌, ◌≤◌, [], ◌∷◌, ◌++◌, IfOk, OnOk, IfErr, IsOk, IsErrOf, replicate, sum, take, map, vec_len, vec_capacity, length as list_length};
+ghost use Rattle.columns_core.specs.Rising.{IsWhole, whole, AreFrom, last_place, places_from, GrewBy, Passes};
 ghost use Rattle.std.specs.Iterator.{IsFinite, Drains};
 
 use crate::offsets::{Offset, OffsetsBuffer};
@@ -124,6 +124,15 @@ impl<O: Offset> Offsets<O> {
         Ok(())
     }
 
+    /// A range of each length more, for which there is room and whose ends fit.
+    pub fn extend_lengths(&mut self, lengths: &[usize])
+        requires room { list_length lengths.now ≤ self.old.1 }
+        requires fits { last_place self.old.0 + sum lengths.now < O.limit }
+        ensures { self.new.0 ≡ self.old.0 ++ places_from (last_place self.old.0) lengths.now }
+    {
+        self.end = push_ends(&mut self.values, self.end, lengths);
+    }
+
     /// As many empty ranges more. They are not refused while there is room for them.
     ///
     /// # Errors
@@ -202,6 +211,26 @@ impl<O: Offset> Offsets<O> {
         self.values.truncate(ranges + 1);
         self.end = self.values[ranges].to_usize();
     }
+}
+
+// The ends of ranges of these lengths more, which lie one after another from the last place on, for which there is room: the last one.
+fn push_ends<O: Offset>(values: &mut Vec<O>, from: usize, lengths: &[usize]) -> usize
+    requires room { list_length lengths.now ≤ vec_capacity values.old - vec_len values.old }
+    requires fits { from + sum lengths.now < O.limit }
+    requires places { AreFrom 0 (map O.number values.old.items) }
+    requires last { from ≡ last_place (map (λ o. whole (O.number o)) values.old.items) }
+    ensures places { AreFrom 0 (map O.number values.new.items) }
+    ensures last { result ≡ last_place (map (λ o. whole (O.number o)) values.new.items) }
+    ensures some { vec_len values.old ≤ vec_len values.new }
+    ensures grown { map (λ o. whole (O.number o)) values.new.items ≡ map (λ o. whole (O.number o)) values.old.items ++ places_from from lengths.now }
+{
+    let mut end = from;
+    for length in lengths {
+        end += *length;
+        let place = O::from_usize(end).unwrap();
+        values.push(place).unwrap();
+    }
+    end
 }
 
 // The offset at the end of a range of this length.

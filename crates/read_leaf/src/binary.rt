@@ -11,7 +11,7 @@ ghost use Rattle.read_walk.specs.Values.{ones};
 ghost use Rattle.read_leaf.specs.Strings.{IsLaid, cut_off, is_each, total_bytes, stored_strings, TookStrings, CannotTake, CannotLay};
 
 use crate::cut::front;
-use crate::lengths::{collect_lengths, push_lengths, sum_within};
+use crate::lengths::{collect_lengths, sum_within};
 use crate::plain::take_plain;
 use crate::strings::StringKind;
 use columns_base::{Error, Result, S, V};
@@ -78,7 +78,7 @@ fn lay_out<O: Offset, K: StringKind>(
         return Err(Error::Overflow(V::V1));
     }
     offsets.reserve(lengths.len())?;
-    push_lengths(offsets, lengths);
+    offsets.extend_lengths(lengths);
     Ok(())
 }
 
@@ -220,7 +220,7 @@ impl<O: Offset> Binary<O> {
         }
         self.offsets.reserve(lengths.len())?;
         self.values.reserve(total)?;
-        push_lengths(&mut self.offsets, &lengths);
+        self.offsets.extend_lengths(&lengths);
         let (strings, rest) = values.split_at(total);
         self.values.extend_from_slice(strings).unwrap();
         *values = rest;

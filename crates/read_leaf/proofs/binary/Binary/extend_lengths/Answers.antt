@@ -14,8 +14,8 @@ invariant_of-self-2 g c =
     let total : c.in-Some.total ≡ sum ns = c.in-Some.ensures.0 ∙ ap sum c.deref.ensures.value in
     let items : c.extend_from_slice.new.self.items ≡ content ++ take (sum ns) text =
     (rw (c.unwrap.ensures, c.reserve-2.ensures.items, c.split_at.ensures.front) at c.extend_from_slice.ensures.items) ∙ ap (λ (n : ℕ). content ++ take n text) total in
-    let offsets : c.push_lengths.new.offsets.0 ≡ os ++ places_from (length content) ns =
-    (rw (c.reserve.ensures.same, c.deref-2.ensures.value) at c.push_lengths.ensures) ∙ ap (λ (n : ℕ). os ++ places_from n ns) l.last in
+    let offsets : c.extend_lengths.new.self.0 ≡ os ++ places_from (length content) ns =
+    (rw (c.reserve.ensures.same, c.deref-2.ensures.value) at c.extend_lengths.ensures) ∙ ap (λ (n : ℕ). os ++ places_from n ns) l.last in
     rw (offsets, items) (grown ns os content text (length content) refl l (omega (arith, total, c.in-Some.ensures.1))).laid
 
 pub returns-clause-ok : goal.returns-clause-ok
@@ -29,7 +29,7 @@ returns-clause-ok g c =
     let most : sum ns ≤ length text = omega (arith, total, c.in-Some.ensures.1) in
     let items : c.extend_from_slice.new.self.items ≡ content ++ take (sum ns) text =
     (rw (c.unwrap.ensures, c.reserve-2.ensures.items, c.split_at.ensures.front) at c.extend_from_slice.ensures.items) ∙ ap (λ (n : ℕ). content ++ take n text) total in
-    let offsets : c.push_lengths.new.offsets.0 ≡ os ++ places_from (length content) ns =
-    (rw (c.reserve.ensures.same, c.deref-2.ensures.value) at c.push_lengths.ensures) ∙ ap (λ (n : ℕ). os ++ places_from n ns) l.last in
+    let offsets : c.extend_lengths.new.self.0 ≡ os ++ places_from (length content) ns =
+    (rw (c.reserve.ensures.same, c.deref-2.ensures.value) at c.extend_lengths.ensures) ∙ ap (λ (n : ℕ). os ++ places_from n ns) l.last in
     let strings = (grown ns os content text (length content) refl l most).strings in
     (ns, c.in_ok-lengths.ensures.ok, most, rw (← c.self.view_is) (ap (λ (o : List ℕ). pieces o c.extend_from_slice.new.self.items) offsets ∙ (ap (pieces (os ++ places_from (length content) ns)) items ∙ strings)), c.split_at.ensures.back ∙ ap (λ (n : ℕ). drop n text) total)
