@@ -78,27 +78,13 @@ fn number_from(physical: PhysicalType) -> i32
     }
 }
 
-fn copy_bytes(alloc: Global, bytes: &Option<Vec<u8>>) -> Result<Option<Vec<u8>>>
-    ensures ok { IfOk result (λ b. option_map (λ v. v.items) b ≡ option_map (λ v. v.items) bytes.now) }
-    ensures err { IfErr result (λ e. e ≡ Memory) }
-{
-    match bytes {
-        None => Ok(None),
-        Some(bytes) => Ok(Some(Vec::from_slice(alloc, bytes)?)),
-    }
-}
-
 fn copy_statistics(alloc: Global, statistics: &Option<Statistics>) -> Result<Option<Statistics>>
     ensures ok { IfOk result (λ s. option_map statistics_view s ≡ option_map statistics_view statistics.now) }
     ensures err { IfErr result (λ e. e ≡ Memory) }
 {
     match statistics {
         None => Ok(None),
-        Some(s) => Ok(Some(Statistics {
-            null_count: s.null_count,
-            max_value: copy_bytes(alloc, &s.max_value)?,
-            min_value: copy_bytes(alloc, &s.min_value)?,
-        })),
+        Some(statistics) => Ok(Some(statistics.clone(alloc)?)),
     }
 }
 
