@@ -107,13 +107,16 @@ def reached(path, name, seen, order):
 
 def clauses(text, function):
     """Returns the lines of the contracts of a function, or of all."""
-    kept, is_own = [], function is None
+    kept, is_own, is_open = [], function is None, False
     for line in text.split("\n"):
         found = re.match(r"\s*(?:pub(?:\([^)]*\))? )?fn (\w+)", line)
         if found:
             is_own = function is None or found[1] == function
-        if is_own and re.match(r"\s*(requires|ensures|ghost)\b", line):
+        begins = is_own and re.match(r"\s*(requires|ensures|ghost)\b", line)
+        if begins or is_open:
             kept.append(line)
+            # A long clause goes on in the lines behind.
+            is_open = "\n".join(kept).count("{") > "\n".join(kept).count("}")
     return kept
 
 

@@ -17,8 +17,11 @@ use read_nested::create_array;
 impl<I: Pages + Drop> ArrayIter<I> {
     // The array of the next rows, where some are left.
     fn next_array(&mut self) -> Result<ArrayBox>
-        ensures ok { (o : Opening) (arrays : List ArrayTree) → IsGiving o arrays self.old → 0 < self.old.left → IfOk result (λ a. IsItem o (length (flat_map slots arrays)) (boxed a) × IsGiving o (arrays ++ boxed a ∷ []) self.new) }
-        ensures err { (o : Opening) (arrays : List ArrayTree) → IsGiving o arrays self.old → 0 < self.old.left → IfErr result (Refuses o) }
+        ensures ok { (o : Opening) (arrays : List ArrayTree) → IsGiving o arrays self.old → 0 < self.old.left
+            → IfOk result (λ a. IsItem o (length (flat_map slots arrays)) (boxed a)
+            × IsGiving o (arrays ++ boxed a ∷ []) self.new) }
+        ensures err { (o : Opening) (arrays : List ArrayTree) → IsGiving o arrays self.old → 0 < self.old.left
+            → IfErr result (Refuses o) }
     {
         let pieces = match next_pieces(self.alloc, &mut self.columns) {
             Ok(pieces) => pieces,

@@ -29,8 +29,10 @@ fn open_column<I: Pages + Drop>(
     chunk_size: Option<usize>,
     num_rows: usize,
 ) -> Result<Column<I>>
-    ensures ok { (x : Lane) → IsOpen chunk_size num_rows x (path_view path.now) (I.outcomes pages) (physical_view physical_type) → IfOk result (IsReadingColumn x.opening x.type []) }
-    ensures err { IfErr result (λ e. (e ≡ Error.Memory) ⊎ IsNotRead (path_view path.now) (physical_view physical_type) e) }
+    ensures ok { (x : Lane) → IsOpen chunk_size num_rows x (path_view path.now) (I.outcomes pages)
+        (physical_view physical_type) → IfOk result (IsReadingColumn x.opening x.type []) }
+    ensures err { IfErr result (λ e. (e ≡ Error.Memory) ⊎ IsNotRead (path_view path.now)
+        (physical_view physical_type) e) }
 {
     let data_type = path.data_type.clone(alloc)?;
     let nested = Vec::from_slice(alloc, &path.nested)?;
@@ -64,8 +66,11 @@ pub fn open_columns<I: Pages + Drop>(
 ) -> Result<Vec<Column<I>>>
     requires columns { length paths.now ≡ length columns.items }
     requires types { length types.now ≡ length columns.items }
-    ensures ok { (xs : List Lane) → AreOpen chunk_size num_rows xs (map path_view paths.now) (map I.outcomes columns.items) (map physical_in types.now) → IfOk result (λ readers. AreReading 0 xs readers.items []) }
-    ensures err { IfErr result (λ e. (e ≡ Error.Memory) ⊎ SomeIsNotRead (map path_view paths.now) (map physical_in types.now) e) }
+    ensures ok { (xs : List Lane) → AreOpen chunk_size num_rows xs (map path_view paths.now)
+        (map I.outcomes columns.items) (map physical_in types.now)
+        → IfOk result (λ readers. AreReading 0 xs readers.items []) }
+    ensures err { IfErr result (λ e. (e ≡ Error.Memory) ⊎ SomeIsNotRead (map path_view paths.now)
+        (map physical_in types.now) e) }
 {
     let mut readers = Vec::with_capacity(alloc, columns.len())?;
     'columns: while let Some(pages) = columns.pop() {
@@ -99,8 +104,10 @@ pub fn column_iter_to_arrays<I: Pages + Drop>(
     num_rows: usize,
 ) -> Result<ArrayIter<I>>
     requires { field_nesting (field_view field) ≤ 128 }
-    ensures ok { (o : Opening) → Opens o (field_view field) (map I.outcomes columns.items) (map (λ t. physical_view t.physical_type) types.items) chunk_size num_rows → IfOk result (IsGiving o []) }
-    ensures refused { IfErr result (RefusesOpening (field_view field) (map I.outcomes columns.items) (map (λ t. physical_view t.physical_type) types.items) chunk_size num_rows) }
+    ensures ok { (o : Opening) → Opens o (field_view field) (map I.outcomes columns.items)
+        (map (λ t. physical_view t.physical_type) types.items) chunk_size num_rows → IfOk result (IsGiving o []) }
+    ensures refused { IfErr result (RefusesOpening (field_view field) (map I.outcomes columns.items)
+        (map (λ t. physical_view t.physical_type) types.items) chunk_size num_rows) }
 {
     if chunk_size == Some(0) {
         return Err(Error::InvalidArgumentError(A::A1));

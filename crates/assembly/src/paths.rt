@@ -37,7 +37,8 @@ fn push_leaf(
     data_type: &DataType,
     paths: &mut Vec<LeafPath>,
 ) -> Result<()>
-    ensures ok { OnOk result (map path_view paths.new.items ≡ map path_view paths.old.items ++ (front.now ++ InitNested.Primitive is_nullable ∷ [], type_view data_type.now) ∷ []) }
+    ensures ok { OnOk result (map path_view paths.new.items ≡ map path_view paths.old.items
+        ++ (front.now ++ InitNested.Primitive is_nullable ∷ [], type_view data_type.now) ∷ []) }
     ensures err { IfErr result (λ e. e ≡ Error.Memory) }
 {
     let nested = with_part(alloc, front, InitNested::Primitive(is_nullable))?;
@@ -70,7 +71,9 @@ fn push_dictionary(
     data_type: &DataType,
     paths: &mut Vec<LeafPath>,
 ) -> Result<()>
-    ensures { Pushes (map path_view paths.old.items) (map path_view paths.new.items) ((front.now ++ InitNested.Primitive is_nullable ∷ [], type_view data_type.now) ∷ []) (entries_fault (has_no_parts (base (type_view entries.now)))) result }
+    ensures { Pushes (map path_view paths.old.items) (map path_view paths.new.items)
+        ((front.now ++ InitNested.Primitive is_nullable ∷ [], type_view data_type.now) ∷ [])
+        (entries_fault (has_no_parts (base (type_view entries.now)))) result }
 {
     if !is_without_parts(entries) {
         return Err(Error::NotYetImplemented(N::N5));
@@ -88,7 +91,9 @@ fn push_paths(
     paths: &mut Vec<LeafPath>,
 ) -> Result<()>
     requires { nesting (type_view kind.now) ≤ 128 }
-    ensures { Pushes (map path_view paths.old.items) (map path_view paths.new.items) (type_paths front.now is_nullable (type_view own.now) (type_view kind.now)) (type_fault (type_view kind.now)) result }
+    ensures { Pushes (map path_view paths.old.items) (map path_view paths.new.items)
+        (type_paths front.now is_nullable (type_view own.now) (type_view kind.now))
+        (type_fault (type_view kind.now)) result }
 {
     match kind {
         DataType::List(item) => push_item(alloc, front, is_nullable, item, paths),
@@ -118,7 +123,9 @@ fn push_item(
     paths: &mut Vec<LeafPath>,
 ) -> Result<()>
     requires { field_nesting (field_view item.now) ≤ 127 }
-    ensures { Pushes (map path_view paths.old.items) (map path_view paths.new.items) (field_paths (front.now ++ InitNested.List is_nullable ∷ []) (field_view item.now)) (field_fault (field_view item.now)) result }
+    ensures { Pushes (map path_view paths.old.items) (map path_view paths.new.items)
+        (field_paths (front.now ++ InitNested.List is_nullable ∷ []) (field_view item.now))
+        (field_fault (field_view item.now)) result }
 {
     match with_part(alloc, front, InitNested::List(is_nullable)) {
         Ok(front) => push_field(alloc, &front, item, paths),
@@ -136,7 +143,9 @@ fn push_children(
     paths: &mut Vec<LeafPath>,
 ) -> Result<()>
     requires { fields_nesting (fields_view fields.now.items) ≤ 127 }
-    ensures { Pushes (map path_view paths.old.items) (map path_view paths.new.items) (fields_paths (front.now ++ InitNested.Struct is_nullable ∷ []) (fields_view fields.now.items)) (struct_fault (fields_view fields.now.items)) result }
+    ensures { Pushes (map path_view paths.old.items) (map path_view paths.new.items)
+        (fields_paths (front.now ++ InitNested.Struct is_nullable ∷ []) (fields_view fields.now.items))
+        (struct_fault (fields_view fields.now.items)) result }
 {
     if fields.len() == 0 {
         return Err(Error::InvalidArgumentError(A::A8));
@@ -155,7 +164,8 @@ fn push_field(
     paths: &mut Vec<LeafPath>,
 ) -> Result<()>
     requires { field_nesting (field_view field.now) ≤ 128 }
-    ensures { Pushes (map path_view paths.old.items) (map path_view paths.new.items) (field_paths front.now (field_view field.now)) (field_fault (field_view field.now)) result }
+    ensures { Pushes (map path_view paths.old.items) (map path_view paths.new.items)
+        (field_paths front.now (field_view field.now)) (field_fault (field_view field.now)) result }
 {
     push_paths(
         alloc,
@@ -175,7 +185,8 @@ fn push_fields(
     paths: &mut Vec<LeafPath>,
 ) -> Result<()>
     requires { fields_nesting (fields_view fields.now.items) ≤ 128 }
-    ensures { Pushes (map path_view paths.old.items) (map path_view paths.new.items) (fields_paths front.now (fields_view fields.now.items)) (fields_fault (fields_view fields.now.items)) result }
+    ensures { Pushes (map path_view paths.old.items) (map path_view paths.new.items)
+        (fields_paths front.now (fields_view fields.now.items)) (fields_fault (fields_view fields.now.items)) result }
 {
     for field in fields {
         push_field(alloc, front, field, paths)?;
@@ -192,7 +203,8 @@ fn push_fields(
 /// - `Memory`.
 pub fn paths_beneath(alloc: Global, front: &[InitNested], field: &Field) -> Result<Vec<LeafPath>>
     requires { field_nesting (field_view field.now) ≤ 128 }
-    ensures ok { IfOk result (λ v. (map path_view v.items ≡ field_paths front.now (field_view field.now)) × (field_fault (field_view field.now) ≡ None)) }
+    ensures ok { IfOk result (λ v. (map path_view v.items ≡ field_paths front.now (field_view field.now))
+        × (field_fault (field_view field.now) ≡ None)) }
     ensures err { IfErr result (λ e. (e ≡ Error.Memory) ⊎ (field_fault (field_view field.now) ≡ Some e)) }
 {
     let mut paths = Vec::new(alloc);
@@ -207,7 +219,8 @@ pub fn paths_beneath(alloc: Global, front: &[InitNested], field: &Field) -> Resu
 /// Those of `paths_beneath`.
 pub fn leaf_paths(alloc: Global, field: &Field) -> Result<Vec<LeafPath>>
     requires { field_nesting (field_view field.now) ≤ 128 }
-    ensures ok { IfOk result (λ v. (map path_view v.items ≡ field_paths [] (field_view field.now)) × (field_fault (field_view field.now) ≡ None)) }
+    ensures ok { IfOk result (λ v. (map path_view v.items ≡ field_paths [] (field_view field.now))
+        × (field_fault (field_view field.now) ≡ None)) }
     ensures err { IfErr result (λ e. (e ≡ Error.Memory) ⊎ (field_fault (field_view field.now) ≡ Some e)) }
 {
     paths_beneath(alloc, &[], field)

@@ -15,8 +15,11 @@ pub fn next_pieces<I: Pages + Drop>(
     alloc: Global,
     columns: &mut Vec<Column<I>>,
 ) -> Result<Vec<ColumnPiece>>
-    ensures ok { (before rows : ℕ) (xs : List Lane) (tables : Tables) → AreReading 0 xs columns.old.items tables → AreBehind 0 before rows xs tables → before < rows → IfOk result (λ pieces. TakesPieces before xs tables pieces.items columns.new.items) }
-    ensures err { (before rows : ℕ) (xs : List Lane) (tables : Tables) → AreReading 0 xs columns.old.items tables → AreBehind 0 before rows xs tables → before < rows → IfErr result (AnyRefused xs) }
+    ensures ok { (before rows : ℕ) (xs : List Lane) (tables : Tables) → AreReading 0 xs columns.old.items tables
+        → AreBehind 0 before rows xs tables → before < rows
+        → IfOk result (λ pieces. TakesPieces before xs tables pieces.items columns.new.items) }
+    ensures err { (before rows : ℕ) (xs : List Lane) (tables : Tables) → AreReading 0 xs columns.old.items tables
+        → AreBehind 0 before rows xs tables → before < rows → IfErr result (AnyRefused xs) }
 {
     let mut pieces = Vec::new(alloc);
     for column in columns.iter_mut() {
@@ -42,8 +45,10 @@ fn reason_of(item: Result<ColumnPiece>) -> Error
 
 /// Finds that no column has anything left, once all rows were taken.
 pub fn expect_ends<I: Pages + Drop>(columns: &mut Vec<Column<I>>) -> Result<()>
-    ensures ok { (rows : ℕ) (xs : List Lane) (tables : Tables) → AreReading 0 xs columns.old.items tables → AreBehind 0 rows rows xs tables → OnOk result (AreWhole 0 xs tables) }
-    ensures err { (rows : ℕ) (xs : List Lane) (tables : Tables) → AreReading 0 xs columns.old.items tables → AreBehind 0 rows rows xs tables → IfErr result (AnyRefused xs) }
+    ensures ok { (rows : ℕ) (xs : List Lane) (tables : Tables) → AreReading 0 xs columns.old.items tables
+        → AreBehind 0 rows rows xs tables → OnOk result (AreWhole 0 xs tables) }
+    ensures err { (rows : ℕ) (xs : List Lane) (tables : Tables) → AreReading 0 xs columns.old.items tables
+        → AreBehind 0 rows rows xs tables → IfErr result (AnyRefused xs) }
 {
     for column in columns.iter_mut() {
         if let Some(item) = column.next_piece() {

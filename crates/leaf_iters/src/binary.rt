@@ -61,8 +61,10 @@ impl<O: OffsetArray, I: Pages> NestedIter<O, I> {
         num_rows: usize,
         chunk_size: Option<usize>,
     ) -> Result<Self>
-        requires arrays { (is_text O.large (base (type_view data_type)) || is_binary O.large (base (type_view data_type))) ≡ true }
-        ensures ok { (o : ColumnOpening) → Opens o init.items (type_view data_type) byte_array (I.outcomes iter) num_rows chunk_size → IfOk result (IsGivingPieces o (type_view data_type) []) }
+        requires arrays { (is_text O.large (base (type_view data_type)) || is_binary O.large
+            (base (type_view data_type))) ≡ true }
+        ensures ok { (o : ColumnOpening) → Opens o init.items (type_view data_type) byte_array
+            (I.outcomes iter) num_rows chunk_size → IfOk result (IsGivingPieces o (type_view data_type) []) }
         ensures size { IsErrOf result (InvalidArgumentError A1) ↔ (chunk_size ≡ Some 0) }
         ensures err { IfErr result (λ e. (e ≡ Memory) ⊎ (e ≡ InvalidArgumentError A1)) }
     {
@@ -90,7 +92,8 @@ impl<O: OffsetArray, I: Pages> NestedIter<O, I> {
     /// Those of `LeafColumn` of `read_leaves`: S3 or N4 of the source; S3 to S7, S9 and S10 where the pages hold no rows of the column; N4 and N8 where
     /// a page is not read yet; V1 where a piece has more bytes than offsets count; `Memory`.
     pub fn next(&mut self) -> Option<Result<(NestedState, ArrayBox)>>
-        ensures gives { (o : ColumnOpening) (t : TypeTree) (pieces : List (List Triple)) → IsGivingPieces o t pieces self.old → GivesItem o t pieces result self.new }
+        ensures gives { (o : ColumnOpening) (t : TypeTree) (pieces : List (List Triple))
+            → IsGivingPieces o t pieces self.old → GivesItem o t pieces result self.new }
         ensures ends { IsAtEnd result self.new }
         ensures ended { self.old ≡ None → (result ≡ None) × (self.new ≡ None) }
     {

@@ -52,7 +52,8 @@ impl<I: Pages> NestedIter<I> {
         num_rows: usize,
         chunk_size: Option<usize>,
     ) -> Result<Self>
-        ensures ok { (o : ColumnOpening) → Opens o init.items t_boolean truth_values (I.outcomes iter) num_rows chunk_size → IfOk result (IsGivingPieces o t_boolean []) }
+        ensures ok { (o : ColumnOpening) → Opens o init.items t_boolean truth_values
+            (I.outcomes iter) num_rows chunk_size → IfOk result (IsGivingPieces o t_boolean []) }
         ensures size { IsErrOf result (InvalidArgumentError A1) ↔ (chunk_size ≡ Some 0) }
         ensures err { IfErr result (λ e. (e ≡ Memory) ⊎ (e ≡ InvalidArgumentError A1)) }
     {
@@ -77,7 +78,8 @@ impl<I: Pages> NestedIter<I> {
     /// Those of `LeafColumn` of `read_leaves`: S3 or N4 of the source; S3 to S7, S9 and S10 where the pages hold no rows of the column; N4 and N8 where
     /// a page is not read yet; `Memory`.
     pub fn next(&mut self) -> Option<Result<(NestedState, ArrayBox)>>
-        ensures gives { (o : ColumnOpening) (t : TypeTree) (pieces : List (List Triple)) → IsGivingPieces o t pieces self.old → GivesItem o t pieces result self.new }
+        ensures gives { (o : ColumnOpening) (t : TypeTree) (pieces : List (List Triple))
+            → IsGivingPieces o t pieces self.old → GivesItem o t pieces result self.new }
         ensures ends { IsAtEnd result self.new }
         ensures ended { self.old ≡ None → (result ≡ None) × (self.new ≡ None) }
     {

@@ -15,7 +15,8 @@ use pq_runs::HybridRleDecoder;
 
 // So many indices of a section.
 fn indices_of(section: &[u8], count: usize) -> Result<HybridRleDecoder<'_>>
-    ensures { MatchResult result (λ indices. (is_too_wide section.now ≡ false) × (indices ≡ indices_in count section.now)) (λ e. (e ≡ OutOfSpec S6) × (is_too_wide section.now ≡ true)) }
+    ensures { MatchResult result (λ indices. (is_too_wide section.now ≡ false)
+        × (indices ≡ indices_in count section.now)) (λ e. (e ≡ OutOfSpec S6) × (is_too_wide section.now ≡ true)) }
 {
     match section.split_first() {
         None => HybridRleDecoder::try_new(section, 0, 0),
@@ -32,8 +33,13 @@ fn indices_of(section: &[u8], count: usize) -> Result<HybridRleDecoder<'_>>
 /// - `OutOfSpec(S4)`: exactly where a section of levels does not lie in the page's body.
 /// - `OutOfSpec(S6)`: otherwise exactly for a width above 32.
 pub fn dict_indices_decoder(page: &DataPage) -> Result<HybridRleDecoder<'_>>
-    ensures ok { IfOk result (λ indices. (n : ℕ) × (s : Sections) × (pos n ≡ stated_values page.now.header) × Splits page.now.header (levels_in page.now.descriptor) page.now.buffer s × (is_too_wide s.values ≡ false) × (indices ≡ indices_in n s.values)) }
-    ensures refused { IfErr result (λ e. ((e ≡ OutOfSpec S4) × ((s : Sections) → Splits page.now.header (levels_in page.now.descriptor) page.now.buffer s → ⊥)) ⊎ ((e ≡ OutOfSpec S6) × (s : Sections) × Splits page.now.header (levels_in page.now.descriptor) page.now.buffer s × (is_too_wide s.values ≡ true))) }
+    ensures ok { IfOk result (λ indices. (n : ℕ) × (s : Sections) × (pos n ≡ stated_values page.now.header)
+        × Splits page.now.header (levels_in page.now.descriptor) page.now.buffer s × (is_too_wide s.values ≡ false)
+        × (indices ≡ indices_in n s.values)) }
+    ensures refused { IfErr result (λ e. ((e ≡ OutOfSpec S4)
+        × ((s : Sections) → Splits page.now.header (levels_in page.now.descriptor) page.now.buffer s → ⊥))
+        ⊎ ((e ≡ OutOfSpec S6) × (s : Sections) × Splits page.now.header
+        (levels_in page.now.descriptor) page.now.buffer s × (is_too_wide s.values ≡ true))) }
 {
     match split_buffer(page) {
         Ok((_, _, section)) => indices_of(section, page.num_values()),

@@ -59,9 +59,11 @@ impl<I: Pages> LeafIter<I> {
         num_rows: usize,
         chunk_size: Option<usize>,
     ) -> Result<Self>
-        ensures ok { (o : ColumnOpening) → Opens o init.items (type_view data_type) (physical_view physical_type) (I.outcomes iter) num_rows chunk_size → IfOk result (IsGivingPieces o (type_view data_type) []) }
+        ensures ok { (o : ColumnOpening) → Opens o init.items (type_view data_type) (physical_view physical_type)
+            (I.outcomes iter) num_rows chunk_size → IfOk result (IsGivingPieces o (type_view data_type) []) }
         ensures size { IsErrOf result (InvalidArgumentError A1) ↔ (chunk_size ≡ Some 0) }
-        ensures unserved { IsErrOf result (NotYetImplemented N5) ↔ ((chunk_size ≢ Some 0) × (is_read_along init.items (base (type_view data_type)) (physical_view physical_type) ≡ false)) }
+        ensures unserved { IsErrOf result (NotYetImplemented N5) ↔ ((chunk_size ≢ Some 0)
+            × (is_read_along init.items (base (type_view data_type)) (physical_view physical_type) ≡ false)) }
         ensures err { IfErr result (λ e. (e ≡ Memory) ⊎ (e ≡ InvalidArgumentError A1) ⊎ (e ≡ NotYetImplemented N5)) }
     {
         if chunk_size == Some(0) {
@@ -99,7 +101,8 @@ impl<I: Pages> LeafIter<I> {
         chunk_size: Option<usize>,
     ) -> Result<Self>
         requires { is_read_along init.items (base (type_view data_type)) (physical_view physical_type) ≡ true }
-        ensures ok { (o : ColumnOpening) → Opens o init.items (type_view data_type) (physical_view physical_type) (I.outcomes iter) num_rows chunk_size → IfOk result (IsGivingPieces o (type_view data_type) []) }
+        ensures ok { (o : ColumnOpening) → Opens o init.items (type_view data_type) (physical_view physical_type)
+            (I.outcomes iter) num_rows chunk_size → IfOk result (IsGivingPieces o (type_view data_type) []) }
         ensures size { IsErrOf result (InvalidArgumentError A1) ↔ (chunk_size ≡ Some 0) }
         ensures err { IfErr result (λ e. (e ≡ Memory) ⊎ (e ≡ InvalidArgumentError A1)) }
     {
@@ -120,7 +123,8 @@ impl<I: Pages> LeafIter<I> {
     ///
     /// Those of `LeafColumn`.
     pub fn next(&mut self) -> Option<Result<(NestedState, ArrayBox)>>
-        ensures gives { (o : ColumnOpening) (t : TypeTree) (pieces : List (List Triple)) → IsGivingPieces o t pieces self.old → GivesItem o t pieces result self.new }
+        ensures gives { (o : ColumnOpening) (t : TypeTree) (pieces : List (List Triple))
+            → IsGivingPieces o t pieces self.old → GivesItem o t pieces result self.new }
         ensures ends { IsAtEnd result self.new }
         ensures ended { self.old ≡ None → (result ≡ None) × (self.new ≡ None) }
     {

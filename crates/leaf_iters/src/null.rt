@@ -62,7 +62,8 @@ impl<I: Pages> NestedIter<I> {
     ) -> Result<Self>
         requires arrays { is_null_type (base (type_view data_type)) ≡ true }
         requires optional { ends_optional init.items ≡ true }
-        ensures ok { (o : ColumnOpening) → Opens o init.items (type_view data_type) int32 (I.outcomes iter) num_rows chunk_size → IfOk result (IsGivingPieces o (type_view data_type) []) }
+        ensures ok { (o : ColumnOpening) → Opens o init.items (type_view data_type) int32
+            (I.outcomes iter) num_rows chunk_size → IfOk result (IsGivingPieces o (type_view data_type) []) }
         ensures size { IsErrOf result (InvalidArgumentError A1) ↔ (chunk_size ≡ Some 0) }
         ensures err { IfErr result (λ e. (e ≡ Memory) ⊎ (e ≡ InvalidArgumentError A1)) }
     {
@@ -87,7 +88,8 @@ impl<I: Pages> NestedIter<I> {
     /// Those of `LeafColumn` of `read_leaves`: S3 or N4 of the source; S3 to S7, S9 and S10 where the pages hold no rows of the column; N4 and N8 where
     /// a page is not read yet; `Memory`.
     pub fn next(&mut self) -> Option<Result<(NestedState, ArrayBox)>>
-        ensures gives { (o : ColumnOpening) (t : TypeTree) (pieces : List (List Triple)) → IsGivingPieces o t pieces self.old → GivesItem o t pieces result self.new }
+        ensures gives { (o : ColumnOpening) (t : TypeTree) (pieces : List (List Triple))
+            → IsGivingPieces o t pieces self.old → GivesItem o t pieces result self.new }
         ensures ends { IsAtEnd result self.new }
         ensures ended { self.old ≡ None → (result ≡ None) × (self.new ≡ None) }
     {

@@ -54,8 +54,11 @@ impl<I: Pages> Model for NullIter<I> {
 
 // Takes the next page. Answers how many values it has, a dictionary page none; None at the end.
 fn take_values<I: Pages>(pages: &mut I) -> Result<Option<usize>>
-    ensures ok { IfOk result (λ values. MatchOption values ((I.outcomes pages.old ≡ []) × (I.outcomes pages.new ≡ [])) (TakesValues (I.outcomes pages.old) (I.outcomes pages.new))) }
-    ensures err { IfErr result (λ e. ((e ≡ Memory) × (I.outcomes pages.new ≡ I.outcomes pages.old)) ⊎ ((values_in (I.outcomes pages.old) ≡ 0) × (first_error (I.outcomes pages.old) ≡ Some e) × (I.outcomes pages.old ≡ fails e ∷ I.outcomes pages.new))) }
+    ensures ok { IfOk result (λ values. MatchOption values ((I.outcomes pages.old ≡ []) × (I.outcomes pages.new ≡ []))
+        (TakesValues (I.outcomes pages.old) (I.outcomes pages.new))) }
+    ensures err { IfErr result (λ e. ((e ≡ Memory) × (I.outcomes pages.new ≡ I.outcomes pages.old))
+        ⊎ ((values_in (I.outcomes pages.old) ≡ 0) × (first_error (I.outcomes pages.old) ≡ Some e)
+        × (I.outcomes pages.old ≡ fails e ∷ I.outcomes pages.new))) }
 {
     match pages.advance() {
         Ok(()) => {}
@@ -72,8 +75,10 @@ fn take_values<I: Pages>(pages: &mut I) -> Result<Option<usize>>
 fn see_values<I: Pages>(pages: &mut I, left: usize, unseen: usize, wanted: usize) -> Result<usize>
     requires few { unseen ≤ left }
     requires within { wanted ≤ left }
-    ensures ok { IfOk result (λ now. IsSeen left unseen (I.outcomes pages.old) (I.outcomes pages.new) now × ((wanted ≤ left - now) ⊎ (I.outcomes pages.new ≡ []))) }
-    ensures err { IfErr result (λ e. (e ≡ Memory) ⊎ ((first_error (I.outcomes pages.old) ≡ Some e) × ((left - unseen) + min unseen (values_in (I.outcomes pages.old)) < wanted))) }
+    ensures ok { IfOk result (λ now. IsSeen left unseen (I.outcomes pages.old) (I.outcomes pages.new) now
+        × ((wanted ≤ left - now) ⊎ (I.outcomes pages.new ≡ []))) }
+    ensures err { IfErr result (λ e. (e ≡ Memory) ⊎ ((first_error (I.outcomes pages.old) ≡ Some e)
+        × ((left - unseen) + min unseen (values_in (I.outcomes pages.old)) < wanted))) }
     ensures some { IfErr result (λ e. 0 < wanted) }
     ensures taken { (now : ℕ) × TakenWhile wanted (left - unseen) (I.outcomes pages.old) now (I.outcomes pages.new) }
 {
@@ -101,7 +106,9 @@ fn rows_wanted(chunk_size: Option<usize>, left: usize) -> usize
 // The array of so many nulls; none of no null.
 fn array_of(alloc: Global, data_type: &DataType, count: usize) -> Option<Result<ArrayBox>>
     requires { is_null_type (base (type_view data_type.now)) ≡ true }
-    ensures { MatchOption result (count ≡ 0) (λ made. (0 < count) × IfOk made (λ a. IsLeafArray (type_view data_type.now) (replicate count null_slot) (boxed a)) × IfErr made (λ e. e ≡ Memory)) }
+    ensures { MatchOption result (count ≡ 0) (λ made. (0 < count)
+        × IfOk made (λ a. IsLeafArray (type_view data_type.now) (replicate count null_slot) (boxed a))
+        × IfErr made (λ e. e ≡ Memory)) }
 {
     if count == 0 {
         return None;
@@ -127,7 +134,8 @@ pub fn iter_to_arrays<I: Pages>(
     num_rows: usize,
 ) -> Result<NullIter<I>>
     requires { is_null_type (base (type_view data_type)) ≡ true }
-    ensures ok { IfOk result (IsGivingNulls (null_opening (type_view data_type) (I.outcomes iter) num_rows chunk_size) 0) }
+    ensures ok { IfOk result (IsGivingNulls
+        (null_opening (type_view data_type) (I.outcomes iter) num_rows chunk_size) 0) }
     ensures size { IsErrOf result (InvalidArgumentError A1) ↔ (chunk_size ≡ Some 0) }
     ensures err { IfErr result (λ e. e ≡ InvalidArgumentError A1) }
 {
@@ -152,7 +160,8 @@ impl<I: Pages> NullIter<I> {
     /// - An error of the source, where the pages in front of it have too few values for the array.
     /// - `Memory`.
     pub fn next(&mut self) -> Option<Result<ArrayBox>>
-        ensures gives { (o : NullOpening) (before : ℕ) → IsGivingNulls o before self.old → GivesNulls o before result self.new }
+        ensures gives { (o : NullOpening) (before : ℕ) → IsGivingNulls o before self.old
+            → GivesNulls o before result self.new }
         ensures ends { HasNoneLeft result self.new }
         ensures taken { TakesFew self.old self.new }
         ensures ended { self.old.left ≡ 0 → (result ≡ None) × (self.new.left ≡ 0) }

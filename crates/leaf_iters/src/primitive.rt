@@ -65,7 +65,8 @@ impl<T: FromStored<P>, I: Pages, P: StoredNumber> NestedIter<T, I, P> {
     ) -> Result<Self>
         requires arrays { makes_numbers T.stores (base (type_view data_type)) ≡ true }
         requires read { is_read_along init.items (base (type_view data_type)) (physical_view P.physical) ≡ true }
-        ensures ok { (o : ColumnOpening) → Opens o init.items (type_view data_type) (physical_view P.physical) (I.outcomes iter) num_rows chunk_size → IfOk result (IsGivingPieces o (type_view data_type) []) }
+        ensures ok { (o : ColumnOpening) → Opens o init.items (type_view data_type) (physical_view P.physical)
+            (I.outcomes iter) num_rows chunk_size → IfOk result (IsGivingPieces o (type_view data_type) []) }
         ensures size { IsErrOf result (InvalidArgumentError A1) ↔ (chunk_size ≡ Some 0) }
         ensures err { IfErr result (λ e. (e ≡ Memory) ⊎ (e ≡ InvalidArgumentError A1)) }
     {
@@ -94,7 +95,8 @@ impl<T: FromStored<P>, I: Pages, P: StoredNumber> NestedIter<T, I, P> {
     /// Those of `LeafColumn` of `read_leaves`: S3 or N4 of the source; S3 to S7, S9 and S10 where the pages hold no rows of the column; N4 and N8 where
     /// a page is not read yet; `Memory`.
     pub fn next(&mut self) -> Option<Result<(NestedState, ArrayBox)>>
-        ensures gives { (o : ColumnOpening) (t : TypeTree) (pieces : List (List Triple)) → IsGivingPieces o t pieces self.old → GivesItem o t pieces result self.new }
+        ensures gives { (o : ColumnOpening) (t : TypeTree) (pieces : List (List Triple))
+            → IsGivingPieces o t pieces self.old → GivesItem o t pieces result self.new }
         ensures ends { IsAtEnd result self.new }
         ensures ended { self.old ≡ None → (result ≡ None) × (self.new ≡ None) }
     {

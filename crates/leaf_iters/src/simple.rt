@@ -59,10 +59,15 @@ pub fn page_iter_to_arrays<I: Pages>(
     chunk_size: Option<usize>,
     num_rows: usize,
 ) -> Result<FlatIter<I>>
-    ensures ok { (o : ColumnOpening) → Opens o (flat_way type_.field_info.repetition) (type_view data_type) (physical_view type_.physical_type) (I.outcomes pages) num_rows chunk_size → IfOk result (IsGivingPieces o (type_view data_type) []) }
+    ensures ok { (o : ColumnOpening) → Opens o (flat_way type_.field_info.repetition) (type_view data_type)
+        (physical_view type_.physical_type) (I.outcomes pages) num_rows chunk_size
+        → IfOk result (IsGivingPieces o (type_view data_type) []) }
     ensures size { IsErrOf result (InvalidArgumentError A1) ↔ (chunk_size ≡ Some 0) }
-    ensures unserved { IfErr result (λ e. e ≡ NotYetImplemented N5 → is_read_along (flat_way type_.field_info.repetition) (base (type_view data_type)) (physical_view type_.physical_type) ≡ false) }
-    ensures served { IfOk result (λ it. is_read_along (flat_way type_.field_info.repetition) (base (type_view data_type)) (physical_view type_.physical_type) ≡ true) }
+    ensures unserved { IfErr result (λ e. e ≡ NotYetImplemented N5 → is_read_along
+        (flat_way type_.field_info.repetition) (base (type_view data_type)) (physical_view type_.physical_type)
+        ≡ false) }
+    ensures served { IfOk result (λ it. is_read_along (flat_way type_.field_info.repetition)
+        (base (type_view data_type)) (physical_view type_.physical_type) ≡ true) }
     ensures err { IfErr result (λ e. (e ≡ Memory) ⊎ (e ≡ InvalidArgumentError A1) ⊎ (e ≡ NotYetImplemented N5)) }
 {
     if chunk_size == Some(0) {
@@ -121,7 +126,8 @@ impl<I: Pages> FlatIter<I> {
     /// Those of `LeafColumn` of `read_leaves`: S3 or N4 of the source; S3 to S7 and S9 where the pages hold no rows of the column; N4 where a page is not
     /// read yet; V1 where an array has more bytes than its offsets count; `Memory`.
     pub fn next(&mut self) -> Option<Result<ArrayBox>>
-        ensures gives { (o : ColumnOpening) (t : TypeTree) (pieces : List (List Triple)) → is_alone o.column.way ≡ true → IsGivingPieces o t pieces self.old → GivesArray o t pieces result self.new }
+        ensures gives { (o : ColumnOpening) (t : TypeTree) (pieces : List (List Triple)) → is_alone o.column.way ≡ true
+            → IsGivingPieces o t pieces self.old → GivesArray o t pieces result self.new }
         ensures ends { IsAtEnd result self.new }
         ensures ended { self.old ≡ None → (result ≡ None) × (self.new ≡ None) }
     {

@@ -61,7 +61,8 @@ pub fn nested_array_to_page(
     requires parts { length nested.now ≤ 128 }
     requires fits { FitsArray (column_along type_ nested.now (boxed (Boolean array.now))) }
     ensures ok { IfOk result (IsPageAlong options plain (column_along type_ nested.now (boxed (Boolean array.now)))) }
-    ensures too_large { ComesWhere (Overflow V3) (IsTooLarge (column_along type_ nested.now (boxed (Boolean array.now)))) result }
+    ensures too_large { ComesWhere (Overflow V3) (IsTooLarge
+        (column_along type_ nested.now (boxed (Boolean array.now)))) result }
     ensures err { IfErr result (λ e. (e ≡ Memory) ⊎ (e ≡ Overflow V3)) }
 {
     array.know();

@@ -43,7 +43,8 @@ pub fn checked_page(
     requires held { ¬ IsTooWide (column_along type_ nested.now (boxed array.now)) }
     ensures ok { IfOk result (IsPageAlong options plain (column_along type_ nested.now (boxed array.now))) }
     ensures unserved { ComesWhere (NotYetImplemented N5) (is_in_pages (boxed array.now) ≡ false) result }
-    ensures too_large { ComesWhere (Overflow V3) ((is_in_pages (boxed array.now) ≡ true) × IsTooLarge (column_along type_ nested.now (boxed array.now))) result }
+    ensures too_large { ComesWhere (Overflow V3) ((is_in_pages (boxed array.now) ≡ true)
+        × IsTooLarge (column_along type_ nested.now (boxed array.now))) result }
     ensures err { IfErr result (λ e. (e ≡ Memory) ⊎ (e ≡ NotYetImplemented N5) ⊎ (e ≡ Overflow V3)) }
 {
     if !is_in_pages(array) {
@@ -64,7 +65,8 @@ pub fn checked_flat_page(
     requires held { ¬ IsTooWide (leaf_column type_ (boxed array.now)) }
     ensures ok { IfOk result (IsPageAlong options plain (leaf_column type_ (boxed array.now))) }
     ensures unserved { ComesWhere (NotYetImplemented N5) (is_in_pages (boxed array.now) ≡ false) result }
-    ensures too_large { ComesWhere (Overflow V3) ((is_in_pages (boxed array.now) ≡ true) × IsTooLarge (leaf_column type_ (boxed array.now))) result }
+    ensures too_large { ComesWhere (Overflow V3) ((is_in_pages (boxed array.now) ≡ true)
+        × IsTooLarge (leaf_column type_ (boxed array.now))) result }
     ensures err { IfErr result (λ e. (e ≡ Memory) ⊎ (e ≡ NotYetImplemented N5) ⊎ (e ≡ Overflow V3)) }
 {
     if !is_in_pages(array) {
@@ -86,9 +88,13 @@ pub fn checked_page_in(
     requires held { ¬ IsTooWide (leaf_column type_ (boxed array.now)) }
     ensures ok { IfOk result (IsPageNamed options encoding (leaf_column type_ (boxed array.now))) }
     ensures unserved { ComesWhere (NotYetImplemented N5) (is_in_pages (boxed array.now) ≡ false) result }
-    ensures form { ComesWhere (NotYetImplemented N4) ((is_in_pages (boxed array.now) ≡ true) × (has_form encoding (physical_view type_.physical_type) ≡ false)) result }
-    ensures too_large { ComesWhere (Overflow V3) ((is_in_pages (boxed array.now) ≡ true) × (has_form encoding (physical_view type_.physical_type) ≡ true) × IsTooLarge (leaf_column type_ (boxed array.now))) result }
-    ensures err { IfErr result (λ e. (e ≡ Memory) ⊎ (e ≡ NotYetImplemented N5) ⊎ (e ≡ NotYetImplemented N4) ⊎ (e ≡ Overflow V3)) }
+    ensures form { ComesWhere (NotYetImplemented N4) ((is_in_pages (boxed array.now) ≡ true)
+        × (has_form encoding (physical_view type_.physical_type) ≡ false)) result }
+    ensures too_large { ComesWhere (Overflow V3) ((is_in_pages (boxed array.now) ≡ true)
+        × (has_form encoding (physical_view type_.physical_type) ≡ true)
+        × IsTooLarge (leaf_column type_ (boxed array.now))) result }
+    ensures err { IfErr result (λ e. (e ≡ Memory) ⊎ (e ≡ NotYetImplemented N5) ⊎ (e ≡ NotYetImplemented N4)
+        ⊎ (e ≡ Overflow V3)) }
 {
     if !is_in_pages(array) {
         return Err(Error::NotYetImplemented(N::N5));

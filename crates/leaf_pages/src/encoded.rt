@@ -53,7 +53,8 @@ fn measured(array: &ArrayBox, physical_type: PhysicalType, nested: &[Nested]) ->
     requires leaf { tree_len (boxed array.now) ≡ leaf_count_or 0 (parts_of nested.now) }
     requires nulls { TellsNulls (boxed array.now) (parts_of nested.now) }
     requires served { is_served (base (type_of (boxed array.now))) (physical_view physical_type) ≡ true }
-    ensures { Measures (physical_view physical_type) (tree_len (boxed array.now)) (stored_at (boxed array.now) (physical_view physical_type)) (path_places (parts_of nested.now)) result }
+    ensures { Measures (physical_view physical_type) (tree_len (boxed array.now))
+        (stored_at (boxed array.now) (physical_view physical_type)) (path_places (parts_of nested.now)) result }
 {
     match measure_values(array, physical_type, nested) {
         Some(measured) => measured,
@@ -69,11 +70,16 @@ pub fn count_values(array: &ArrayBox, type_: &PrimitiveType, nested: &[Nested]) 
     requires held { ¬ IsTooWide (column_along type_.now nested.now (boxed array.now)) }
     ensures ok { IfOk result (λ n. n ≡ length (path_places (parts_of nested.now))) }
     ensures written { IfOk result (λ n. is_in_pages (boxed array.now) ≡ true) }
-    ensures stored { IfOk result (λ n. AreStored (leaf_type (type_of (boxed array.now))) (physical_view type_.now.physical_type) (column_pairs (column_along type_.now nested.now (boxed array.now))) (stored_pairs (column_along type_.now nested.now (boxed array.now)))) }
-    ensures room { IfOk result (λ n. column_room (physical_view type_.now.physical_type) (stored_pairs (column_along type_.now nested.now (boxed array.now))) ≤ max_size) }
-    ensures few { (values : ℕ → Value) → IfOk result (λ n. level_room (length (nested_column values nested.now)) ≤ max_size) }
+    ensures stored { IfOk result (λ n. AreStored (leaf_type (type_of (boxed array.now)))
+        (physical_view type_.now.physical_type) (column_pairs (column_along type_.now nested.now (boxed array.now)))
+        (stored_pairs (column_along type_.now nested.now (boxed array.now)))) }
+    ensures room { IfOk result (λ n. column_room (physical_view type_.now.physical_type)
+        (stored_pairs (column_along type_.now nested.now (boxed array.now))) ≤ max_size) }
+    ensures few { (values : ℕ → Value) → IfOk result (λ n. level_room (length (nested_column values nested.now))
+        ≤ max_size) }
     ensures unserved { ComesWhere (NotYetImplemented N5) (is_in_pages (boxed array.now) ≡ false) result }
-    ensures too_large { ComesWhere (Overflow V3) ((is_in_pages (boxed array.now) ≡ true) × IsTooLarge (column_along type_.now nested.now (boxed array.now))) result }
+    ensures too_large { ComesWhere (Overflow V3) ((is_in_pages (boxed array.now) ≡ true)
+        × IsTooLarge (column_along type_.now nested.now (boxed array.now))) result }
     ensures err { IfErr result (λ e. (e ≡ NotYetImplemented N5) ⊎ (e ≡ Overflow V3)) }
 {
     array.know();
@@ -92,7 +98,9 @@ pub fn level_body(alloc: Global, version: Version, nested: &[Nested]) -> Result<
     requires well { IsPath (parts_of nested.now) }
     requires parts { length nested.now ≤ 128 }
     requires few { (values : ℕ → Value) → level_room (length (nested_column values nested.now)) ≤ max_size }
-    ensures ok { (values : ℕ → Value) → IfOk result (λ body. AppendsSections version (path_way (parts_of nested.now)) (nested_column values nested.now) [] body.buffer.items (body.repetition, body.definition)) }
+    ensures ok { (values : ℕ → Value) → IfOk result
+        (λ body. AppendsSections version (path_way (parts_of nested.now))
+        (nested_column values nested.now) [] body.buffer.items (body.repetition, body.definition)) }
     ensures err { IfErr result (λ e. e ≡ Memory) }
 {
     let mut buffer = Vec::new(alloc);
@@ -122,10 +130,15 @@ pub fn encoded_page(
     requires fits { FitsArray (column_along type_ nested.now (boxed array.now)) }
     requires held { ¬ IsTooWide (column_along type_ nested.now (boxed array.now)) }
     requires written { is_in_pages (boxed array.now) ≡ true }
-    requires stored { AreStored (leaf_type (type_of (boxed array.now))) (physical_view type_.physical_type) (column_pairs (column_along type_ nested.now (boxed array.now))) (stored_pairs (column_along type_ nested.now (boxed array.now))) }
-    requires room { column_room (physical_view type_.physical_type) (stored_pairs (column_along type_ nested.now (boxed array.now))) ≤ max_size }
+    requires stored { AreStored (leaf_type (type_of (boxed array.now))) (physical_view type_.physical_type)
+        (column_pairs (column_along type_ nested.now (boxed array.now)))
+        (stored_pairs (column_along type_ nested.now (boxed array.now))) }
+    requires room { column_room (physical_view type_.physical_type)
+        (stored_pairs (column_along type_ nested.now (boxed array.now))) ≤ max_size }
     requires count { encoded.values ≡ length (path_places (parts_of nested.now)) }
-    requires holds { (e : PageEncoding) × (encoding ≡ encoding_name e) × HoldsValues options.version e (column_along type_ nested.now (boxed array.now)) encoded.body.buffer.items (encoded.body.repetition, encoded.body.definition) }
+    requires holds { (e : PageEncoding) × (encoding ≡ encoding_name e)
+        × HoldsValues options.version e (column_along type_ nested.now (boxed array.now)) encoded.body.buffer.items
+        (encoded.body.repetition, encoded.body.definition) }
     ensures ok { IfOk result (IsPageNamed options encoding (column_along type_ nested.now (boxed array.now))) }
     ensures err { IfErr result (λ e. e ≡ Memory) }
 {

@@ -89,9 +89,12 @@ pub fn array_to_page(
     statistics: Option<FixedLenStatistics>,
 ) -> Result<DataPage>
     requires fits { FitsArray (leaf_column type_ (boxed (FixedSizeBinary array.now))) }
-    ensures ok { IfOk result (IsRestated options (option_map stated_fixed statistics) (leaf_column type_ (boxed (FixedSizeBinary array.now)))) }
-    ensures unserved { ComesWhere (NotYetImplemented N5) (is_in_pages (boxed (FixedSizeBinary array.now)) ≡ false) result }
-    ensures too_large { ComesWhere (Overflow V3) ((is_in_pages (boxed (FixedSizeBinary array.now)) ≡ true) × IsTooLarge (leaf_column type_ (boxed (FixedSizeBinary array.now)))) result }
+    ensures ok { IfOk result (IsRestated options (option_map stated_fixed statistics)
+        (leaf_column type_ (boxed (FixedSizeBinary array.now)))) }
+    ensures unserved { ComesWhere (NotYetImplemented N5) (is_in_pages (boxed (FixedSizeBinary array.now))
+        ≡ false) result }
+    ensures too_large { ComesWhere (Overflow V3) ((is_in_pages (boxed (FixedSizeBinary array.now)) ≡ true)
+        × IsTooLarge (leaf_column type_ (boxed (FixedSizeBinary array.now)))) result }
     ensures err { IfErr result (λ e. (e ≡ Memory) ⊎ (e ≡ NotYetImplemented N5) ⊎ (e ≡ Overflow V3)) }
 {
     array.know();

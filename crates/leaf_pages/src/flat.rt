@@ -36,7 +36,8 @@ fn shared_mask(array: &ArrayBox) -> Result<Option<Bitmap>>
 
 // The path of a column that is no more than its leaf.
 pub fn flat_path(alloc: Global, array: &ArrayBox, type_: &PrimitiveType) -> Result<Vec<Nested>>
-    ensures ok { IfOk result (λ path. column_along type_.now path.items (boxed array.now) ≡ leaf_column type_.now (boxed array.now)) }
+    ensures ok { IfOk result (λ path. column_along type_.now path.items (boxed array.now)
+        ≡ leaf_column type_.now (boxed array.now)) }
     ensures well { IfOk result (λ path. IsPath (parts_of path.items)) }
     ensures one { IfOk result (λ path. length path.items ≤ 128) }
     ensures err { IfErr result (λ e. e ≡ Memory) }

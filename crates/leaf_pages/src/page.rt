@@ -66,7 +66,9 @@ fn spelled_page(
     requires fits { FitsArray (column_along type_ nested.now (boxed array.now)) }
     requires served { is_served (base (type_of (boxed array.now))) (physical_view type_.physical_type) ≡ true }
     requires held { ¬ IsTooWide (column_along type_ nested.now (boxed array.now)) }
-    ensures ok { IfOk result (IsPageAlong options (page_encoding with_deltas (leaf_type (type_of (boxed array.now))) (physical_view type_.physical_type)) (column_along type_ nested.now (boxed array.now))) }
+    ensures ok { IfOk result (IsPageAlong options
+        (page_encoding with_deltas (leaf_type (type_of (boxed array.now))) (physical_view type_.physical_type))
+        (column_along type_ nested.now (boxed array.now))) }
     ensures too_large { ComesWhere (Overflow V3) (IsTooLarge (column_along type_ nested.now (boxed array.now))) result }
     ensures err { IfErr result (λ e. (e ≡ Memory) ⊎ (e ≡ Overflow V3)) }
 {
@@ -135,8 +137,10 @@ fn page_in(
     requires written { is_in_pages (boxed array.now) ≡ true }
     requires held { ¬ IsTooWide (column_along type_ nested.now (boxed array.now)) }
     ensures ok { IfOk result (IsPageNamed options encoding (column_along type_ nested.now (boxed array.now))) }
-    ensures form { ComesWhere (NotYetImplemented N4) (has_form encoding (physical_view type_.physical_type) ≡ false) result }
-    ensures too_large { ComesWhere (Overflow V3) ((has_form encoding (physical_view type_.physical_type) ≡ true) × IsTooLarge (column_along type_ nested.now (boxed array.now))) result }
+    ensures form { ComesWhere (NotYetImplemented N4) (has_form encoding (physical_view type_.physical_type)
+        ≡ false) result }
+    ensures too_large { ComesWhere (Overflow V3) ((has_form encoding (physical_view type_.physical_type) ≡ true)
+        × IsTooLarge (column_along type_ nested.now (boxed array.now))) result }
     ensures err { IfErr result (λ e. (e ≡ Memory) ⊎ (e ≡ NotYetImplemented N4) ⊎ (e ≡ Overflow V3)) }
 {
     array.know();
@@ -160,8 +164,10 @@ pub fn flat_page_in(
     requires written { is_in_pages (boxed array.now) ≡ true }
     requires held { ¬ IsTooWide (leaf_column type_ (boxed array.now)) }
     ensures ok { IfOk result (IsPageNamed options encoding (leaf_column type_ (boxed array.now))) }
-    ensures form { ComesWhere (NotYetImplemented N4) (has_form encoding (physical_view type_.physical_type) ≡ false) result }
-    ensures too_large { ComesWhere (Overflow V3) ((has_form encoding (physical_view type_.physical_type) ≡ true) × IsTooLarge (leaf_column type_ (boxed array.now))) result }
+    ensures form { ComesWhere (NotYetImplemented N4) (has_form encoding (physical_view type_.physical_type)
+        ≡ false) result }
+    ensures too_large { ComesWhere (Overflow V3) ((has_form encoding (physical_view type_.physical_type) ≡ true)
+        × IsTooLarge (leaf_column type_ (boxed array.now))) result }
     ensures err { IfErr result (λ e. (e ≡ Memory) ⊎ (e ≡ NotYetImplemented N4) ⊎ (e ≡ Overflow V3)) }
 {
     let nested = flat_path(alloc, array, &type_)?;

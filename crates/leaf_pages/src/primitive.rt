@@ -45,7 +45,8 @@ pub fn array_to_page_plain<T: NativeArray + AsPrimitive<P>, P: ParquetNativeType
     requires held { ¬ IsTooWide (leaf_column type_ (T.tree array.now)) }
     ensures ok { IfOk result (IsPageAlong options plain (leaf_column type_ (T.tree array.now))) }
     ensures unserved { ComesWhere (NotYetImplemented N5) (is_in_pages (T.tree array.now) ≡ false) result }
-    ensures too_large { ComesWhere (Overflow V3) ((is_in_pages (T.tree array.now) ≡ true) × IsTooLarge (leaf_column type_ (T.tree array.now))) result }
+    ensures too_large { ComesWhere (Overflow V3) ((is_in_pages (T.tree array.now) ≡ true)
+        × IsTooLarge (leaf_column type_ (T.tree array.now))) result }
     ensures err { IfErr result (λ e. (e ≡ Memory) ⊎ (e ≡ NotYetImplemented N5) ⊎ (e ≡ Overflow V3)) }
 {
     let array = T::into_box(array.clone(alloc)?);
@@ -73,9 +74,13 @@ pub fn array_to_page_integer<T: NativeArray + AsPrimitive<P>, P: ParquetNativeTy
     requires held { ¬ IsTooWide (leaf_column type_ (T.tree array.now)) }
     ensures ok { IfOk result (IsPageNamed options encoding (leaf_column type_ (T.tree array.now))) }
     ensures unserved { ComesWhere (NotYetImplemented N5) (is_in_pages (T.tree array.now) ≡ false) result }
-    ensures form { ComesWhere (NotYetImplemented N4) ((is_in_pages (T.tree array.now) ≡ true) × (has_form encoding (physical_view type_.physical_type) ≡ false)) result }
-    ensures too_large { ComesWhere (Overflow V3) ((is_in_pages (T.tree array.now) ≡ true) × (has_form encoding (physical_view type_.physical_type) ≡ true) × IsTooLarge (leaf_column type_ (T.tree array.now))) result }
-    ensures err { IfErr result (λ e. (e ≡ Memory) ⊎ (e ≡ NotYetImplemented N5) ⊎ (e ≡ NotYetImplemented N4) ⊎ (e ≡ Overflow V3)) }
+    ensures form { ComesWhere (NotYetImplemented N4) ((is_in_pages (T.tree array.now) ≡ true)
+        × (has_form encoding (physical_view type_.physical_type) ≡ false)) result }
+    ensures too_large { ComesWhere (Overflow V3) ((is_in_pages (T.tree array.now) ≡ true)
+        × (has_form encoding (physical_view type_.physical_type) ≡ true)
+        × IsTooLarge (leaf_column type_ (T.tree array.now))) result }
+    ensures err { IfErr result (λ e. (e ≡ Memory) ⊎ (e ≡ NotYetImplemented N5) ⊎ (e ≡ NotYetImplemented N4)
+        ⊎ (e ≡ Overflow V3)) }
 {
     let array = T::into_box(array.clone(alloc)?);
     checked_page_in(alloc, &array, type_, options, encoding)
@@ -103,7 +108,8 @@ pub fn nested_array_to_page<T: NativeArray + AsPrimitive<P>, P: ParquetNativeTyp
     requires held { ¬ IsTooWide (column_along type_ nested.now (T.tree array.now)) }
     ensures ok { IfOk result (IsPageAlong options plain (column_along type_ nested.now (T.tree array.now))) }
     ensures unserved { ComesWhere (NotYetImplemented N5) (is_in_pages (T.tree array.now) ≡ false) result }
-    ensures too_large { ComesWhere (Overflow V3) ((is_in_pages (T.tree array.now) ≡ true) × IsTooLarge (column_along type_ nested.now (T.tree array.now))) result }
+    ensures too_large { ComesWhere (Overflow V3) ((is_in_pages (T.tree array.now) ≡ true)
+        × IsTooLarge (column_along type_ nested.now (T.tree array.now))) result }
     ensures err { IfErr result (λ e. (e ≡ Memory) ⊎ (e ≡ NotYetImplemented N5) ⊎ (e ≡ Overflow V3)) }
 {
     let array = T::into_box(array.clone(alloc)?);
@@ -131,7 +137,8 @@ pub trait Encode<T: NativeType> {
         is_optional: bool,
         levels: Vec<u8>,
     ) -> Result<Vec<u8>>
-        ensures ok { IfOk result (λ body. (text : List ℕ) × (body.items ≡ levels.items ++ text) × spells self.now array.now is_optional text) }
+        ensures ok { IfOk result (λ body. (text : List ℕ) × (body.items ≡ levels.items ++ text)
+            × spells self.now array.now is_optional text) }
         ensures err { IfErr result (λ e. e ≡ Memory) };
 }
 
@@ -155,10 +162,12 @@ pub fn array_to_page<T: NativeArray + AsPrimitive<P>, P: ParquetNativeType, E: E
     requires fits { FitsArray (leaf_column type_ (T.tree array.now)) }
     requires physical { physical_view type_.physical_type ≡ physical_view P.physical }
     requires held { ¬ IsTooWide (leaf_column type_ (T.tree array.now)) }
-    requires encodes { Encodes (E.spells encode array.now) options.version encoding (leaf_column type_ (T.tree array.now)) }
+    requires encodes { Encodes (E.spells encode array.now) options.version encoding
+        (leaf_column type_ (T.tree array.now)) }
     ensures ok { IfOk result (IsPageNamed options encoding (leaf_column type_ (T.tree array.now))) }
     ensures unserved { ComesWhere (NotYetImplemented N5) (is_in_pages (T.tree array.now) ≡ false) result }
-    ensures too_large { ComesWhere (Overflow V3) ((is_in_pages (T.tree array.now) ≡ true) × IsTooLarge (leaf_column type_ (T.tree array.now))) result }
+    ensures too_large { ComesWhere (Overflow V3) ((is_in_pages (T.tree array.now) ≡ true)
+        × IsTooLarge (leaf_column type_ (T.tree array.now))) result }
     ensures err { IfErr result (λ e. (e ≡ Memory) ⊎ (e ≡ NotYetImplemented N5) ⊎ (e ≡ Overflow V3)) }
 {
     let values = T::into_box(array.clone(alloc)?);

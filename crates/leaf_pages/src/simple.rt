@@ -37,11 +37,19 @@ pub fn array_to_page_simple(
 ) -> Result<Page>
     requires fits { FitsArray (leaf_column type_ (boxed array.now)) }
     ensures ok { IfOk result (IsFlatPage options encoding (leaf_column type_ (boxed array.now))) }
-    ensures form { ComesWhere (NotYetImplemented N4) (is_flat_form encoding (leaf_column type_ (boxed array.now)) ≡ false) result }
-    ensures unserved { ComesWhere (NotYetImplemented N5) ((is_flat_form encoding (leaf_column type_ (boxed array.now)) ≡ true) × (is_in_pages (boxed array.now) ≡ false)) result }
-    ensures too_wide { ComesWhere (InvalidArgumentError A7) ((is_flat_form encoding (leaf_column type_ (boxed array.now)) ≡ true) × (is_in_pages (boxed array.now) ≡ true) × IsTooWide (leaf_column type_ (boxed array.now))) result }
-    ensures too_large { ComesWhere (Overflow V3) ((is_flat_form encoding (leaf_column type_ (boxed array.now)) ≡ true) × (is_in_pages (boxed array.now) ≡ true) × (¬ IsTooWide (leaf_column type_ (boxed array.now))) × IsTooLarge (leaf_column type_ (boxed array.now))) result }
-    ensures err { IfErr result (λ e. (e ≡ Memory) ⊎ (e ≡ NotYetImplemented N4) ⊎ (e ≡ NotYetImplemented N5) ⊎ (e ≡ InvalidArgumentError A7) ⊎ (e ≡ Overflow V3)) }
+    ensures form { ComesWhere (NotYetImplemented N4) (is_flat_form encoding (leaf_column type_ (boxed array.now))
+        ≡ false) result }
+    ensures unserved { ComesWhere (NotYetImplemented N5)
+        ((is_flat_form encoding (leaf_column type_ (boxed array.now)) ≡ true)
+        × (is_in_pages (boxed array.now) ≡ false)) result }
+    ensures too_wide { ComesWhere (InvalidArgumentError A7)
+        ((is_flat_form encoding (leaf_column type_ (boxed array.now)) ≡ true)
+        × (is_in_pages (boxed array.now) ≡ true) × IsTooWide (leaf_column type_ (boxed array.now))) result }
+    ensures too_large { ComesWhere (Overflow V3) ((is_flat_form encoding (leaf_column type_ (boxed array.now)) ≡ true)
+        × (is_in_pages (boxed array.now) ≡ true) × (¬ IsTooWide (leaf_column type_ (boxed array.now)))
+        × IsTooLarge (leaf_column type_ (boxed array.now))) result }
+    ensures err { IfErr result (λ e. (e ≡ Memory) ⊎ (e ≡ NotYetImplemented N4) ⊎ (e ≡ NotYetImplemented N5)
+        ⊎ (e ≡ InvalidArgumentError A7) ⊎ (e ≡ Overflow V3)) }
 {
     let nested = flat_path(alloc, array, &type_)?;
     array_to_page(alloc, array, type_, &nested, options, encoding)

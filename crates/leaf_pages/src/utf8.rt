@@ -38,8 +38,10 @@ pub fn array_to_page<O: OffsetArray>(
 ) -> Result<DataPage>
     requires fits { FitsArray (leaf_column type_ (O.text_tree array.now)) }
     ensures ok { IfOk result (IsPageNamed options encoding (leaf_column type_ (O.text_tree array.now))) }
-    ensures form { ComesWhere (NotYetImplemented N4) (has_form encoding (physical_view type_.physical_type) ≡ false) result }
-    ensures too_large { ComesWhere (Overflow V3) ((has_form encoding (physical_view type_.physical_type) ≡ true) × IsTooLarge (leaf_column type_ (O.text_tree array.now))) result }
+    ensures form { ComesWhere (NotYetImplemented N4) (has_form encoding (physical_view type_.physical_type)
+        ≡ false) result }
+    ensures too_large { ComesWhere (Overflow V3) ((has_form encoding (physical_view type_.physical_type) ≡ true)
+        × IsTooLarge (leaf_column type_ (O.text_tree array.now))) result }
     ensures err { IfErr result (λ e. (e ≡ Memory) ⊎ (e ≡ NotYetImplemented N4) ⊎ (e ≡ Overflow V3)) }
 {
     array.know();
@@ -65,7 +67,8 @@ pub fn nested_array_to_page<O: OffsetArray>(
     requires parts { length nested.now ≤ 128 }
     requires fits { FitsArray (column_along type_ nested.now (O.text_tree array.now)) }
     ensures ok { IfOk result (IsPageAlong options plain (column_along type_ nested.now (O.text_tree array.now))) }
-    ensures too_large { ComesWhere (Overflow V3) (IsTooLarge (column_along type_ nested.now (O.text_tree array.now))) result }
+    ensures too_large { ComesWhere (Overflow V3) (IsTooLarge
+        (column_along type_ nested.now (O.text_tree array.now))) result }
     ensures err { IfErr result (λ e. (e ≡ Memory) ⊎ (e ≡ Overflow V3)) }
 {
     array.know();

@@ -21,7 +21,8 @@ use std::alloc::Global;
 pub fn to_leaves(alloc: Global, array: &ArrayBox) -> Result<Vec<&ArrayBox>>
     ensures ok { IfOk result (λ leaves. shown leaves.items ≡ array_leaves (boxed array.now)) }
     ensures written { IfOk result (λ leaves. has_fixed_list (boxed array.now) ≡ false) }
-    ensures err { IfErr result (λ e. (e ≡ Memory) ⊎ ((e ≡ NotYetImplemented N5) × (has_fixed_list (boxed array.now) ≡ true))) }
+    ensures err { IfErr result (λ e. (e ≡ Memory) ⊎ ((e ≡ NotYetImplemented N5)
+        × (has_fixed_list (boxed array.now) ≡ true))) }
 {
     let mut leaves = Vec::new(alloc);
     push_leaves(array, &mut leaves)?;
@@ -30,7 +31,8 @@ pub fn to_leaves(alloc: Global, array: &ArrayBox) -> Result<Vec<&ArrayBox>>
 
 #[cycle(leaves)]
 fn push_leaves<'a>(array: &'a ArrayBox, leaves: &mut Vec<&'a ArrayBox>) -> Result<()>
-    ensures { TakesLeaves (shown leaves.old.items) (shown leaves.new.items) (array_leaves (boxed array.now)) (has_fixed_list (boxed array.now)) result }
+    ensures { TakesLeaves (shown leaves.old.items) (shown leaves.new.items) (array_leaves (boxed array.now))
+        (has_fixed_list (boxed array.now)) result }
 {
     match inner_of(array) {
         Inner::Leaf => {
@@ -45,7 +47,8 @@ fn push_leaves<'a>(array: &'a ArrayBox, leaves: &mut Vec<&'a ArrayBox>) -> Resul
 
 #[cycle(leaves)]
 fn push_all_leaves<'a>(arrays: &'a [ArrayBox], leaves: &mut Vec<&'a ArrayBox>) -> Result<()>
-    ensures { TakesLeaves (shown leaves.old.items) (shown leaves.new.items) (leaves_in (all_boxed arrays.now)) (have_fixed_list (all_boxed arrays.now)) result }
+    ensures { TakesLeaves (shown leaves.old.items) (shown leaves.new.items) (leaves_in (all_boxed arrays.now))
+        (have_fixed_list (all_boxed arrays.now)) result }
 {
     for array in arrays {
         push_leaves(array, leaves)?;

@@ -40,8 +40,11 @@ pub fn to_nested(alloc: Global, array: &ArrayBox, type_: &ParquetType) -> Result
     ensures ok { IfOk result (λ found. all_parts found.items ≡ paths (boxed array.now) (tree_view type_.now)) }
     ensures kinds { IfOk result (λ found. all_kinds found.items ≡ kinds (boxed array.now)) }
     ensures fits { IfOk result (λ found. misfit (boxed array.now) (tree_view type_.now) ≡ None) }
-    ensures seen { IfOk result (λ found. AreSeen (slots (read_by (boxed array.now) (tree_view type_.now))) (ways (shape_by (boxed array.now) (tree_view type_.now))) (all_parts found.items) (array_leaves (boxed array.now))) }
-    ensures levels { IfOk result (λ found. map path_levels (all_parts found.items) ≡ map leaf_levels (leaves (tree_view type_.now))) }
+    ensures seen { IfOk result (λ found. AreSeen (slots (read_by (boxed array.now) (tree_view type_.now)))
+        (ways (shape_by (boxed array.now) (tree_view type_.now))) (all_parts found.items)
+        (array_leaves (boxed array.now))) }
+    ensures levels { IfOk result (λ found. map path_levels (all_parts found.items)
+        ≡ map leaf_levels (leaves (tree_view type_.now))) }
     ensures err { IfErr result (λ e. (e ≡ Memory) ⊎ (misfit (boxed array.now) (tree_view type_.now) ≡ Some e)) }
 {
     array.know();
@@ -58,8 +61,10 @@ fn push_paths(
     parents: &[Nested],
     found: &mut Vec<Vec<Nested>>,
 ) -> Result<()>
-    ensures taken { TakesPaths (parts_of parents.now) (all_parts found.old.items) (all_parts found.new.items) (paths (boxed array.now) (tree_view node.now)) (misfit (boxed array.now) (tree_view node.now)) result }
-    ensures kinds { IfOk result (λ u. all_kinds found.new.items ≡ all_kinds found.old.items ++ kinds_below (kinds_of parents.now) (kinds (boxed array.now))) }
+    ensures taken { TakesPaths (parts_of parents.now) (all_parts found.old.items) (all_parts found.new.items)
+        (paths (boxed array.now) (tree_view node.now)) (misfit (boxed array.now) (tree_view node.now)) result }
+    ensures kinds { IfOk result (λ u. all_kinds found.new.items ≡ all_kinds found.old.items
+        ++ kinds_below (kinds_of parents.now) (kinds (boxed array.now))) }
 {
     match inner_of(array) {
         Inner::Leaf => {
@@ -100,8 +105,11 @@ fn push_all_paths(
     found: &mut Vec<Vec<Nested>>,
 ) -> Result<()>
     requires { length arrays.now ≡ length nodes.now }
-    ensures taken { TakesPaths (parts_of parents.now) (all_parts found.old.items) (all_parts found.new.items) (paths_in (all_boxed arrays.now) (trees_view nodes.now)) (misfits (all_boxed arrays.now) (trees_view nodes.now)) result }
-    ensures kinds { IfOk result (λ u. all_kinds found.new.items ≡ all_kinds found.old.items ++ kinds_below (kinds_of parents.now) (kinds_in (all_boxed arrays.now))) }
+    ensures taken { TakesPaths (parts_of parents.now) (all_parts found.old.items) (all_parts found.new.items)
+        (paths_in (all_boxed arrays.now) (trees_view nodes.now))
+        (misfits (all_boxed arrays.now) (trees_view nodes.now)) result }
+    ensures kinds { IfOk result (λ u. all_kinds found.new.items ≡ all_kinds found.old.items
+        ++ kinds_below (kinds_of parents.now) (kinds_in (all_boxed arrays.now))) }
 {
     for i in 0..arrays.len() {
         push_paths(alloc, &arrays[i], &nodes[i], parents, found)?;
@@ -116,8 +124,10 @@ fn path_to(
     array: &ArrayBox,
     node: &ParquetType,
 ) -> Result<Vec<Nested>>
-    ensures ok { IfOk result (λ path. parts_of path.items ≡ parts_of parents.now ++ part_at (is_optional (tree_view node.now)) (boxed array.now) ∷ []) }
-    ensures kinds { IfOk result (λ path. kinds_of path.items ≡ kinds_of parents.now ++ is_large_array (boxed array.now) ∷ []) }
+    ensures ok { IfOk result (λ path. parts_of path.items ≡ parts_of parents.now
+        ++ part_at (is_optional (tree_view node.now)) (boxed array.now) ∷ []) }
+    ensures kinds { IfOk result (λ path. kinds_of path.items ≡ kinds_of parents.now ++ is_large_array (boxed array.now)
+        ∷ []) }
     ensures err { IfErr result (λ e. e ≡ Memory) }
 {
     let mut path = copy_of(alloc, parents)?;

@@ -25,7 +25,8 @@ pub fn to_parquet_leaves(alloc: Global, type_: ParquetType) -> Result<Vec<Primit
 
 #[cycle(leaves)]
 fn push_leaves(node: ParquetType, found: &mut Vec<PrimitiveType>) -> Result<()>
-    ensures ok { OnOk result (map leaf_node found.new.items ≡ map leaf_node found.old.items ++ map node_of (leaves (tree_view node))) }
+    ensures ok { OnOk result (map leaf_node found.new.items ≡ map leaf_node found.old.items
+        ++ map node_of (leaves (tree_view node))) }
     ensures err { IfErr result (λ e. e ≡ Memory) }
 {
     match node {
@@ -39,7 +40,8 @@ fn push_leaves(node: ParquetType, found: &mut Vec<PrimitiveType>) -> Result<()>
 
 #[cycle(leaves)]
 fn push_all_leaves(nodes: Vec<ParquetType>, found: &mut Vec<PrimitiveType>) -> Result<()>
-    ensures ok { OnOk result (map leaf_node found.new.items ≡ map leaf_node found.old.items ++ map node_of (leaves_of (trees_view nodes.items))) }
+    ensures ok { OnOk result (map leaf_node found.new.items ≡ map leaf_node found.old.items
+        ++ map node_of (leaves_of (trees_view nodes.items))) }
     ensures err { IfErr result (λ e. e ≡ Memory) }
 {
     for node in nodes {

@@ -26,9 +26,12 @@ struct Rows {
 fn slice_list<O: Offset>(list: &mut ListNested<O>, rows: Rows) -> Rows
     requires mask { MaskFits list.old.validity (length list.old.offsets - 1) }
     requires within { rows.first + rows.count ≤ length list.old.offsets - 1 }
-    ensures cut { list_part list.new.is_optional list.new.validity list.new.offsets ≡ cut_part (list_part list.old.is_optional list.old.validity list.old.offsets) rows.first rows.count }
-    ensures first { result.first ≡ first_beneath (list_part list.old.is_optional list.old.validity list.old.offsets) rows.first }
-    ensures count { result.count ≡ count_beneath (list_part list.old.is_optional list.old.validity list.old.offsets) rows.first rows.count }
+    ensures cut { list_part list.new.is_optional list.new.validity list.new.offsets
+        ≡ cut_part (list_part list.old.is_optional list.old.validity list.old.offsets) rows.first rows.count }
+    ensures first { result.first ≡ first_beneath
+        (list_part list.old.is_optional list.old.validity list.old.offsets) rows.first }
+    ensures count { result.count ≡ count_beneath
+        (list_part list.old.is_optional list.old.validity list.old.offsets) rows.first rows.count }
     ensures rises { IsRising list.old.offsets }
 {
     list.offsets.know();
@@ -107,12 +110,16 @@ pub fn slice_parquet_array(
     ensures path { IsPath (parts_of nested.new) }
     ensures length { slot_count (parts_of nested.new) ≡ current_length }
     ensures leaf { tree_len (boxed primitive_array.new) ≡ leaf_count_or 0 (parts_of nested.new) }
-    ensures slots { path_slots (slot_at (boxed primitive_array.new)) (parts_of nested.new) ≡ take current_length (drop current_offset (bounded_slots (slot_at (boxed primitive_array.old)) (parts_of nested.old))) }
+    ensures slots { path_slots (slot_at (boxed primitive_array.new)) (parts_of nested.new)
+        ≡ take current_length (drop current_offset
+        (bounded_slots (slot_at (boxed primitive_array.old)) (parts_of nested.old))) }
     ensures read { IsReadAsCut (parts_of nested.old) (parts_of nested.new) current_offset current_length }
     ensures parts { parts_of nested.new ≡ cut_parts (parts_of nested.old) current_offset current_length }
     ensures kinds { map is_large nested.new ≡ map is_large nested.old }
     ensures way { path_way (parts_of nested.new) ≡ path_way (parts_of nested.old) }
-    ensures array { boxed primitive_array.new ≡ cut (boxed primitive_array.old) (leaf_rows (parts_of nested.old) current_offset current_length).0 (leaf_rows (parts_of nested.old) current_offset current_length).1 }
+    ensures array { boxed primitive_array.new ≡ cut (boxed primitive_array.old)
+        (leaf_rows (parts_of nested.old) current_offset current_length).0
+        (leaf_rows (parts_of nested.old) current_offset current_length).1 }
 {
     let rows = Rows {
         first: current_offset,

@@ -35,7 +35,8 @@ pub fn get_page_iterator<'a, F: PageFilter>(
     max_header_size: usize,
 ) -> Result<PageReader<'a, F>>
     requires { IfSome column_metadata.now.descriptor HasLevels }
-    ensures ok { IfOk result (OpensKept file.entry.now column_metadata.now max_header_size (keeping F.keeps pages_filter)) }
+    ensures ok { IfOk result (OpensKept file.entry.now column_metadata.now max_header_size
+        (keeping F.keeps pages_filter)) }
     ensures refused { IfErr result (RefusesChunk (length file.entry.now) column_metadata.now) }
 {
     let Some(column) = &column_metadata.descriptor else {

@@ -33,7 +33,12 @@ impl<P: Pages, F: PageFilter> Model for FilteredPages<P, F> {
 impl<P: Pages, F: PageFilter> FilteredPages<P, F> {
     /// The pages of this column that the filter keeps, of those that the source gives. It lends what the source lends.
     pub fn new(pages: P, column: Descriptor, filter: Option<F>) -> Self
-        ensures { result ≡ record { outcomes = kept (keeping F.keeps filter (column_view column)) (P.outcomes pages); lent = P.lent pages; shown = P.lent pages } }
+        ensures { result ≡ record {
+          outcomes = kept (keeping F.keeps filter (column_view column))
+              (P.outcomes pages);
+          lent = P.lent pages;
+          shown = P.lent pages;
+        } }
     {
         FilteredPages {
             pages,
@@ -75,7 +80,8 @@ fn take_kept<P: Pages, F: PageFilter>(
     column: &Descriptor,
     filter: &Option<F>,
 ) -> Result<()>
-    ensures { Advances result (kept (keeping F.keeps filter.now (column_view column.now)) (P.outcomes pages.old)) (kept (keeping F.keeps filter.now (column_view column.now)) (P.outcomes pages.new)) (P.lent pages.new) }
+    ensures { Advances result (kept (keeping F.keeps filter.now (column_view column.now)) (P.outcomes pages.old))
+        (kept (keeping F.keeps filter.now (column_view column.now)) (P.outcomes pages.new)) (P.lent pages.new) }
 {
     match pages.advance() {
         Ok(()) => {}

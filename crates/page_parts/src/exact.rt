@@ -36,7 +36,8 @@ impl<T: Drop, I: Iterator<Item = T> + Clone + Drop> ExactSizedIter<T, I> {
     ///
     /// `Memory`: memory ran out.
     pub fn clone(&self, _alloc: Global) -> Result<Self>
-        requires same { (copy : I) → I.is_clone self.now.iter copy → GivesSoMany I.can_next I.next_gives self.now.remaining copy }
+        requires same { (copy : I) → I.is_clone self.now.iter copy
+            → GivesSoMany I.can_next I.next_gives self.now.remaining copy }
         ensures ok { IfOk result (λ copy. I.is_clone self.now.iter copy.iter × (copy.remaining ≡ self.now.remaining)) }
         ensures err { IfErr result (λ e. e ≡ Memory) }
     {

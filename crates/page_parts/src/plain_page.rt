@@ -31,7 +31,16 @@ struct Counts {
 impl Counts {
     // The greatest of these and of the body's size.
     fn greatest(self, size: usize) -> usize
-        ensures { result ≡ greatest (record { values = self.values; rows = self.rows; nulls = self.nulls; repetition = self.repetition; definition = self.definition }) size }
+        ensures { result
+            ≡ greatest
+            (record {
+              values = self.values;
+              rows = self.rows;
+              nulls = self.nulls;
+              repetition = self.repetition;
+              definition =
+                  self.definition;
+            }) size }
     {
         let rows = self.values.max(self.rows);
         let levels = self.nulls.max(self.repetition);
@@ -62,8 +71,22 @@ fn header_of(
     encoding: Encoding,
     statistics: Option<Statistics>,
 ) -> DataPageHeader
-    requires few { greatest (record { values = counts.values; rows = counts.rows; nulls = counts.nulls; repetition = counts.repetition; definition = counts.definition }) 0 ≤ max_number }
-    ensures { HasHeader version (record { values = counts.values; rows = counts.rows; nulls = counts.nulls; repetition = counts.repetition; definition = counts.definition }) encoding (option_map statistics_view statistics) result }
+    requires few { greatest
+        (record {
+          values = counts.values;
+          rows = counts.rows;
+          nulls = counts.nulls;
+          repetition = counts.repetition;
+          definition = counts.definition;
+        }) 0 ≤ max_number }
+    ensures { HasHeader version
+        (record {
+          values = counts.values;
+          rows = counts.rows;
+          nulls = counts.nulls;
+          repetition = counts.repetition;
+          definition = counts.definition;
+        }) encoding (option_map statistics_view statistics) result }
 {
     match version {
         Version::V1 => DataPageHeader::V1(DataPageHeaderV1 {
@@ -116,8 +139,22 @@ pub fn build_plain_page(
     options: WriteOptions,
     encoding: Encoding,
 ) -> Result<DataPage>
-    ensures ok { IfOk result (IsPlainPage options.version (record { values = num_values; rows = num_rows; nulls = null_count; repetition = repetition_levels_byte_length; definition = definition_levels_byte_length }) encoding (option_map stated statistics) buffer.items type_) }
-    ensures passes { IsErrOf result (Overflow V3) ↔ max_number < greatest (record { values = num_values; rows = num_rows; nulls = null_count; repetition = repetition_levels_byte_length; definition = definition_levels_byte_length }) (length buffer.items) }
+    ensures ok { IfOk result (IsPlainPage options.version
+        (record {
+          values = num_values;
+          rows = num_rows;
+          nulls = null_count;
+          repetition = repetition_levels_byte_length;
+          definition = definition_levels_byte_length;
+        }) encoding (option_map stated statistics) buffer.items type_) }
+    ensures passes { IsErrOf result (Overflow V3) ↔ max_number < greatest
+        (record {
+          values = num_values;
+          rows = num_rows;
+          nulls = null_count;
+          repetition = repetition_levels_byte_length;
+          definition = definition_levels_byte_length;
+        }) (length buffer.items) }
     ensures err { IfErr result (λ e. (e ≡ Memory) ⊎ (e ≡ Overflow V3)) }
 {
     let counts = Counts {

@@ -27,7 +27,12 @@ fn of_numbers<P: ParquetNativeType>(
     alloc: Global,
     statistics: &PrimitiveStatistics<P>,
 ) -> Result<Statistics>
-    ensures ok { IfOk result (λ s. statistics_view s ≡ record { null_count = statistics.now.null_count; max_value = option_map P.stored statistics.now.max_value; min_value = option_map P.stored statistics.now.min_value }) }
+    ensures ok { IfOk result (λ s. statistics_view s
+        ≡ record {
+          null_count = statistics.now.null_count;
+          max_value = option_map P.stored statistics.now.max_value;
+          min_value = option_map P.stored statistics.now.min_value;
+        }) }
     ensures err { IfErr result (λ e. e ≡ Memory) }
 {
     Ok(Statistics {
@@ -49,7 +54,13 @@ fn byte_of(alloc: Global, truth: Option<bool>) -> Result<Option<Vec<u8>>>
 }
 
 fn of_truths(alloc: Global, statistics: &BooleanStatistics) -> Result<Statistics>
-    ensures ok { IfOk result (λ s. statistics_view s ≡ record { null_count = statistics.now.null_count; max_value = option_map truth_text statistics.now.max_value; min_value = option_map truth_text statistics.now.min_value }) }
+    ensures ok { IfOk result (λ s. statistics_view s
+        ≡ record {
+          null_count = statistics.now.null_count;
+          max_value = option_map truth_text
+              statistics.now.max_value;
+          min_value = option_map truth_text statistics.now.min_value;
+        }) }
     ensures err { IfErr result (λ e. e ≡ Memory) }
 {
     Ok(Statistics {

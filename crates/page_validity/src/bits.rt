@@ -18,7 +18,10 @@ pub struct Bits<'a> {
 pub fn find_run<'a>(bits: &mut Bits<'a>) -> Option<Result<()>>
     requires { IsBits bits.old }
     ensures is { IsBits bits.new }
-    ensures found { MatchOption result ((steps_in bits.old ≡ []) × (steps_in bits.new ≡ []) × (left_in bits.old ≡ 0)) (λ r. MatchResult r (λ _. (steps_in bits.new ≡ steps_in bits.old) × (left_in bits.new ≡ left_in bits.old) × (0 < size_of bits.new.rest)) (λ e. (steps_in bits.old ≡ fails e ∷ []) × (steps_in bits.new ≡ []) × (left_in bits.new ≡ 0))) }
+    ensures found { MatchOption result ((steps_in bits.old ≡ []) × (steps_in bits.new ≡ [])
+        × (left_in bits.old ≡ 0)) (λ r. MatchResult r (λ _. (steps_in bits.new ≡ steps_in bits.old)
+        × (left_in bits.new ≡ left_in bits.old) × (0 < size_of bits.new.rest))
+        (λ e. (steps_in bits.old ≡ fails e ∷ []) × (steps_in bits.new ≡ []) × (left_in bits.new ≡ 0))) }
 {
     if bits.rest.len() > 0 {
         return Some(Ok(()));

@@ -47,8 +47,15 @@ impl<'a> FilteredOptionalPageValidity<'a> {
     /// - `OutOfSpec(S4)`: exactly where a section of levels does not lie in the page's body.
     /// - `Memory`: memory ran out.
     pub fn try_new(alloc: Global, page: &'a DataPage) -> Result<Self>
-        ensures ok { IfOk result (λ v. (n : ℕ) × (s : Sections) × IsSplitInto page.now n s × (v ≡ record { left = selected (rows_among n page.now.selected_rows); steps = map as_level (steps_of (rows_among n page.now.selected_rows) (bits_called n s.definition)) })) }
-        ensures refused { IfErr result (λ e. (e ≡ Memory) ⊎ ((e ≡ level_fault) × ((s : Sections) → Splits page.now.header (levels_in page.now.descriptor) page.now.buffer s → ⊥))) }
+        ensures ok { IfOk result (λ v. (n : ℕ) × (s : Sections) × IsSplitInto page.now n s
+            ×
+            (v ≡ record {
+              left = selected (rows_among n page.now.selected_rows);
+              steps = map as_level
+                  (steps_of (rows_among n page.now.selected_rows) (bits_called n s.definition));
+            })) }
+        ensures refused { IfErr result (λ e. (e ≡ Memory) ⊎ ((e ≡ level_fault)
+            × ((s : Sections) → Splits page.now.header (levels_in page.now.descriptor) page.now.buffer s → ⊥))) }
     {
         let count = page.num_values();
         let (_, definitions, _) = match split_buffer(page) {

@@ -41,8 +41,10 @@ impl<'a> OptionalPageValidity<'a> {
     ///
     /// `OutOfSpec(S4)`: exactly where a section of levels does not lie in the page's body.
     pub fn try_new(page: &'a DataPage) -> Result<Self>
-        ensures ok { IfOk result (λ v. (n : ℕ) × (s : Sections) × IsSplitInto page.now n s × (v ≡ record { left = n; steps = level_steps (bits_called n s.definition) })) }
-        ensures refused { IfErr result (λ e. (e ≡ level_fault) × ((s : Sections) → Splits page.now.header (levels_in page.now.descriptor) page.now.buffer s → ⊥)) }
+        ensures ok { IfOk result (λ v. (n : ℕ) × (s : Sections) × IsSplitInto page.now n s
+            × (v ≡ record { left = n; steps = level_steps (bits_called n s.definition) })) }
+        ensures refused { IfErr result (λ e. (e ≡ level_fault) × ((s : Sections)
+            → Splits page.now.header (levels_in page.now.descriptor) page.now.buffer s → ⊥)) }
     {
         let count = page.num_values();
         match split_buffer(page) {

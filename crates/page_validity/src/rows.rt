@@ -18,7 +18,8 @@ use std::collections::VecDeque;
 ///
 /// `Memory`: memory ran out.
 pub fn get_selected_rows(alloc: Global, page: &DataPage) -> Result<VecDeque<Interval>>
-    ensures ok { IfOk result (λ rows. (n : ℕ) × (pos n ≡ stated_values page.now.header) × (rows.items ≡ rows_among n page.now.selected_rows) × AreAscending 0 n rows.items) }
+    ensures ok { IfOk result (λ rows. (n : ℕ) × (pos n ≡ stated_values page.now.header)
+        × (rows.items ≡ rows_among n page.now.selected_rows) × AreAscending 0 n rows.items) }
     ensures err { IfErr result (λ e. e ≡ Memory) }
 {
     let all = [Interval {

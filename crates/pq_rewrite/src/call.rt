@@ -33,7 +33,13 @@ fn run_with<S: Source, K: Sink, M: Sink, C: SchemaCodec, V: View>(
     codec: &C,
     view: &mut V,
 ) -> u8
-    ensures ended { Ended options (meaning (Gives (codec_of (C.bytes_of codec.now) (C.reads codec.now)) (asked_by options) (V.seen view.old) (V.seen view.new)) (Causes (codec_of (C.bytes_of codec.now) (C.reads codec.now)) (asked_by options))) (ends S.left S.faults K.taken K.faults source.old source.new sink.old sink.new) (Told M.taken M.faults M.wants notes.old notes.new) ((source.new ≡ source.old) × (sink.new ≡ sink.old) × (view.new ≡ view.old)) (sink.new ≡ sink.old) result }
+    ensures ended { Ended options
+        (meaning
+        (Gives (codec_of (C.bytes_of codec.now) (C.reads codec.now)) (asked_by options) (V.seen view.old)
+        (V.seen view.new)) (Causes (codec_of (C.bytes_of codec.now) (C.reads codec.now)) (asked_by options)))
+        (ends S.left S.faults K.taken K.faults source.old source.new sink.old sink.new)
+        (Told M.taken M.faults M.wants notes.old notes.new)
+        ((source.new ≡ source.old) × (sink.new ≡ sink.old) × (view.new ≡ view.old)) (sink.new ≡ sink.old) result }
     ensures read_some { GaveSome options.byte_limit (S.left source.old) (S.left source.new) }
     ensures reads_later { S.faults source.old ≤ S.faults source.new }
     ensures writes_later { K.faults sink.old ≤ K.faults sink.new }
@@ -62,29 +68,52 @@ pub fn run<S: Source, K: Sink, M: Sink, C: SchemaCodec, V: View>(
     view: &mut V,
 ) -> u8
     // The source held an input, the sink gained the file that it is rewritten to, as the words ask, and nothing else, and the notes say how much.
-    ensures ok { sample_in words.now ≡ None → result ≡ 0 → (o : RewriteOptions) × (asked_in words.now ≡ Some o) × Converts (Gives (codec_of (C.bytes_of codec.now) (C.reads codec.now)) (asked_by o) (V.seen view.old) (V.seen view.new)) o.byte_limit (S.left source.old) (S.left source.new) (K.taken sink.old) (K.taken sink.new) (Told M.taken M.faults M.wants notes.old notes.new) }
+    ensures ok { sample_in words.now ≡ None → result ≡ 0 → (o : RewriteOptions) × (asked_in words.now ≡ Some o)
+        × Converts (Gives (codec_of (C.bytes_of codec.now) (C.reads codec.now)) (asked_by o) (V.seen view.old)
+        (V.seen view.new)) o.byte_limit (S.left source.old) (S.left source.new) (K.taken sink.old) (K.taken sink.new)
+        (Told M.taken M.faults M.wants notes.old notes.new) }
     // A sample was made, or memory ran out.
-    ensures sampled { (n : ℕ) → sample_in words.now ≡ Some n → Sampled n (V.seen view.old) (V.seen view.new) (Told M.taken M.faults M.wants notes.old notes.new) ((source.new ≡ source.old) × (sink.new ≡ sink.old)) result }
+    ensures sampled { (n : ℕ) → sample_in words.now ≡ Some n → Sampled n (V.seen view.old) (V.seen view.new)
+        (Told M.taken M.faults M.wants notes.old notes.new)
+        ((source.new ≡ source.old) × (sink.new ≡ sink.old)) result }
     // Why it ended otherwise.
     ensures bad_words { (result ≡ 2) ↔ ((asked_in words.now ≡ None) × (sample_in words.now ≡ None)) }
     ensures read_fault { result ≡ 3 → Rose (S.faults source.old) (S.faults source.new) }
     ensures write_fault { result ≡ 4 → Rose (K.faults sink.old) (K.faults sink.new) }
-    ensures refused { (5 ≤ result) × (result ≤ 9) → (o : RewriteOptions) × (asked_in words.now ≡ Some o) × (AreDeclined o (Told M.taken M.faults M.wants notes.old notes.new) ((source.new ≡ source.old) × (sink.new ≡ sink.old) × (view.new ≡ view.old)) result ⊎ ((e : Error) × IsRefusedFor (Causes (codec_of (C.bytes_of codec.now) (C.reads codec.now)) (asked_by o)) o.byte_limit (S.left source.old) (S.left source.new) (Told M.taken M.faults M.wants notes.old notes.new) result e)) }
+    ensures refused { (5 ≤ result) × (result ≤ 9) → (o : RewriteOptions) × (asked_in words.now ≡ Some o)
+        × (AreDeclined o (Told M.taken M.faults M.wants notes.old notes.new)
+        ((source.new ≡ source.old) × (sink.new ≡ sink.old) × (view.new ≡ view.old)) result
+        ⊎ ((e : Error) × IsRefusedFor
+        (Causes (codec_of (C.bytes_of codec.now) (C.reads codec.now)) (asked_by o)) o.byte_limit (S.left source.old)
+        (S.left source.new) (Told M.taken M.faults M.wants notes.old notes.new) result e)) }
     ensures no_other { (result ≡ 0) ⊎ ((2 ≤ result) × (result ≤ 10)) }
     // When it has to come.
-    ensures declined { (o : RewriteOptions) → asked_in words.now ≡ Some o → (¬ AreTaken o) → AreDeclined o (Told M.taken M.faults M.wants notes.old notes.new) ((source.new ≡ source.old) × (sink.new ≡ sink.old) × (view.new ≡ view.old)) result }
-    ensures complete { (o : RewriteOptions) → asked_in words.now ≡ Some o → AreTaken o → Rose (S.faults source.old) (S.faults source.new) ⊎ Rose (K.faults sink.old) (K.faults sink.new) ⊎ (result ≡ 0) ⊎ (result ≡ 10) ⊎ Held (S.left source.old) (λ bytes. ¬ Valid (codec_of (C.bytes_of codec.now) (C.reads codec.now)) (asked_by o) bytes) }
+    ensures declined { (o : RewriteOptions) → asked_in words.now ≡ Some o → (¬ AreTaken o)
+        → AreDeclined o (Told M.taken M.faults M.wants notes.old notes.new)
+        ((source.new ≡ source.old) × (sink.new ≡ sink.old) × (view.new ≡ view.old)) result }
+    ensures complete { (o : RewriteOptions) → asked_in words.now ≡ Some o → AreTaken o
+        → Rose (S.faults source.old) (S.faults source.new) ⊎ Rose (K.faults sink.old) (K.faults sink.new)
+        ⊎ (result ≡ 0) ⊎ (result ≡ 10) ⊎ Held (S.left source.old)
+        (λ bytes. ¬ Valid (codec_of (C.bytes_of codec.now) (C.reads codec.now)) (asked_by o) bytes) }
     // What stands after it.
     ensures after_words { result ≡ 2 → (source.new ≡ source.old) × (sink.new ≡ sink.old) × (view.new ≡ view.old) }
     ensures after_refusal { (result ≡ 3) ⊎ ((5 ≤ result) × (result ≤ 9)) → sink.new ≡ sink.old }
-    ensures after_write_fault { result ≡ 4 → (o : RewriteOptions) × (asked_in words.now ≡ Some o) × ConvertsInPart (Gives (codec_of (C.bytes_of codec.now) (C.reads codec.now)) (asked_by o) (V.seen view.old) (V.seen view.new)) o.byte_limit (S.left source.old) (S.left source.new) (K.taken sink.old) (K.taken sink.new) }
-    ensures after_memory { sample_in words.now ≡ None → result ≡ 10 → (o : RewriteOptions) × (asked_in words.now ≡ Some o) × (Keeps (K.taken sink.old) (K.taken sink.new) ⊎ ConvertsInPart (Gives (codec_of (C.bytes_of codec.now) (C.reads codec.now)) (asked_by o) (V.seen view.old) (V.seen view.new)) o.byte_limit (S.left source.old) (S.left source.new) (K.taken sink.old) (K.taken sink.new)) }
+    ensures after_write_fault { result ≡ 4 → (o : RewriteOptions) × (asked_in words.now ≡ Some o)
+        × ConvertsInPart (Gives (codec_of (C.bytes_of codec.now) (C.reads codec.now)) (asked_by o) (V.seen view.old)
+        (V.seen view.new)) o.byte_limit (S.left source.old) (S.left source.new) (K.taken sink.old) (K.taken sink.new) }
+    ensures after_memory { sample_in words.now ≡ None → result ≡ 10 → (o : RewriteOptions)
+        × (asked_in words.now ≡ Some o) × (Keeps (K.taken sink.old) (K.taken sink.new)
+        ⊎ ConvertsInPart (Gives (codec_of (C.bytes_of codec.now) (C.reads codec.now)) (asked_by o) (V.seen view.old)
+        (V.seen view.new)) o.byte_limit (S.left source.old) (S.left source.new) (K.taken sink.old)
+        (K.taken sink.new)) }
     ensures reads_later { S.faults source.old ≤ S.faults source.new }
     ensures writes_later { K.faults sink.old ≤ K.faults sink.new }
-    ensures read_some { (o : RewriteOptions) → asked_in words.now ≡ Some o → GaveSome o.byte_limit (S.left source.old) (S.left source.new) }
+    ensures read_some { (o : RewriteOptions) → asked_in words.now ≡ Some o
+        → GaveSome o.byte_limit (S.left source.old) (S.left source.new) }
     ensures shown { Grows (V.seen view.old) (V.seen view.new) }
     // The line on the notes of a status that names no reason.
-    ensures note { (result ≡ 2) ⊎ (result ≡ 3) ⊎ (result ≡ 4) ⊎ (result ≡ 10) → Told M.taken M.faults M.wants notes.old notes.new (words_of result ++ codes "\n") }
+    ensures note { (result ≡ 2) ⊎ (result ≡ 3) ⊎ (result ≡ 4) ⊎ (result ≡ 10)
+        → Told M.taken M.faults M.wants notes.old notes.new (words_of result ++ codes "\n") }
 {
     forms_exclude();
     refused_is_not_valid();

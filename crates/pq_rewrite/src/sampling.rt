@@ -46,7 +46,9 @@ fn tell_failed<M: Sink>(notes: &mut M, error: Error) -> u8
 pub fn run_sample<M: Sink, V: View>(alloc: Global, count: u32, notes: &mut M, view: &mut V) -> u8
     requires some { 0 < count }
     requires few { count ≤ 1000000 }
-    ensures made { ((result ≡ 0) × Told M.taken M.faults M.wants notes.old notes.new (sample_lines count) × Sees (V.seen view.old) (V.seen view.new) (sample_seen count)) ⊎ ((result ≡ 10) × Told M.taken M.faults M.wants notes.old notes.new (codes "Memory\n")) }
+    ensures made { ((result ≡ 0) × Told M.taken M.faults M.wants notes.old notes.new (sample_lines count)
+        × Sees (V.seen view.old) (V.seen view.new) (sample_seen count))
+        ⊎ ((result ≡ 10) × Told M.taken M.faults M.wants notes.old notes.new (codes "Memory\n")) }
     ensures shown { Grows (V.seen view.old) (V.seen view.new) }
 {
     match sample(alloc, count, view) {

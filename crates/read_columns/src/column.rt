@@ -79,8 +79,11 @@ fn open_dictionary<I: Pages>(
     chunk_size: Option<usize>,
     num_rows: usize,
 ) -> Result<Box<DictionaryColumn<I>>>
-    ensures ok { (o : ColumnOpening) → IsColumnOpening o (type_view data_type) (physical_view physical_type) → o.outcomes ≡ I.outcomes pages → IsWay nested.items (thin o.column.way) → o.rows ≡ num_rows → o.chunk_size ≡ chunk_size → IfOk result (λ b. IsReadingDictionary o (type_view data_type) [] b.value) }
-    ensures unserved { IsErrOf result (NotYetImplemented N5) ↔ (is_dictionary_read nested.items (base (type_view data_type)) (physical_view physical_type) ≡ false) }
+    ensures ok { (o : ColumnOpening) → IsColumnOpening o (type_view data_type) (physical_view physical_type)
+        → o.outcomes ≡ I.outcomes pages → IsWay nested.items (thin o.column.way) → o.rows ≡ num_rows
+        → o.chunk_size ≡ chunk_size → IfOk result (λ b. IsReadingDictionary o (type_view data_type) [] b.value) }
+    ensures unserved { IsErrOf result (NotYetImplemented N5)
+        ↔ (is_dictionary_read nested.items (base (type_view data_type)) (physical_view physical_type) ≡ false) }
     ensures err { IfErr result (λ e. (e ≡ Memory) ⊎ (e ≡ NotYetImplemented N5)) }
 {
     let column = match DictionaryColumn::try_new(
@@ -101,7 +104,10 @@ fn open_dictionary<I: Pages>(
 impl<I: Pages> Reader<I> {
     // The next piece, of the reader that it is.
     fn next_piece(&mut self) -> Option<Result<ColumnPiece>>
-        ensures { (o : ColumnOpening) (t : TypeTree) (pieces : List (List Triple)) → IsReadingColumn o t pieces (reading_in self.old) → GivesPiece (λ x ps r. IsReadingColumn x t ps r) (λ p ts. IsColumnPiece o t ts p) o pieces result (reading_in self.new) }
+        ensures { (o : ColumnOpening) (t : TypeTree) (pieces : List (List Triple))
+            → IsReadingColumn o t pieces (reading_in self.old)
+            → GivesPiece (λ x ps r. IsReadingColumn x t ps r) (λ p ts. IsColumnPiece o t ts p) o pieces result
+            (reading_in self.new) }
     {
         match self {
             Reader::Leaf(column) => column.next_piece(),
@@ -127,8 +133,11 @@ impl<I: Pages> Column<I> {
         chunk_size: Option<usize>,
         num_rows: usize,
     ) -> Result<Self>
-        ensures ok { (o : ColumnOpening) → IsColumnOpening o (type_view data_type) (physical_view physical_type) → o.outcomes ≡ I.outcomes pages → IsWay nested.items (thin o.column.way) → o.rows ≡ num_rows → o.chunk_size ≡ chunk_size → IfOk result (λ c. IsReadingColumn o (type_view data_type) [] c) }
-        ensures unserved { IsErrOf result (NotYetImplemented N5) ↔ (is_column_read nested.items (base (type_view data_type)) (physical_view physical_type) ≡ false) }
+        ensures ok { (o : ColumnOpening) → IsColumnOpening o (type_view data_type) (physical_view physical_type)
+            → o.outcomes ≡ I.outcomes pages → IsWay nested.items (thin o.column.way) → o.rows ≡ num_rows
+            → o.chunk_size ≡ chunk_size → IfOk result (λ c. IsReadingColumn o (type_view data_type) [] c) }
+        ensures unserved { IsErrOf result (NotYetImplemented N5)
+            ↔ (is_column_read nested.items (base (type_view data_type)) (physical_view physical_type) ≡ false) }
         ensures err { IfErr result (λ e. (e ≡ Memory) ⊎ (e ≡ NotYetImplemented N5)) }
     {
         if is_keyed(&data_type) {
@@ -169,7 +178,9 @@ impl<I: Pages> Column<I> {
     ///
     /// Those of `LeafColumn` and of `DictionaryColumn`.
     pub fn next_piece(&mut self) -> Option<Result<ColumnPiece>>
-        ensures { (o : ColumnOpening) (t : TypeTree) (pieces : List (List Triple)) → IsReadingColumn o t pieces self.old → GivesPiece (λ x ps r. IsReadingColumn x t ps r) (λ p ts. IsColumnPiece o t ts p) o pieces result self.new }
+        ensures { (o : ColumnOpening) (t : TypeTree) (pieces : List (List Triple)) → IsReadingColumn o t pieces self.old
+            → GivesPiece (λ x ps r. IsReadingColumn x t ps r)
+            (λ p ts. IsColumnPiece o t ts p) o pieces result self.new }
     {
         self.reader.next_piece()
     }

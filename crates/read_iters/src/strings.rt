@@ -24,7 +24,8 @@ impl<'a> BinaryIter<'a> {
 
 // So many bytes, and those behind them.
 fn front(bytes: &[u8], size: usize) -> Option<(&[u8], &[u8])>
-    ensures { MatchOption result (length bytes.now < size) (λ x. (length x.0.now ≡ size) × (bytes.now ≡ x.0.now ++ x.1.now)) }
+    ensures { MatchOption result (length bytes.now < size) (λ x. (length x.0.now ≡ size)
+        × (bytes.now ≡ x.0.now ++ x.1.now)) }
 {
     if bytes.len() < size {
         return None;

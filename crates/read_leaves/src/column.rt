@@ -79,7 +79,10 @@ fn read<I: Pages, L: LeafReader>(
     rows: Box<PagesOfRows<I>>,
     leaf: &L,
 ) -> Result<Box<ColumnReader<I, L>>>
-    ensures reads { (o : ColumnOpening) (stored : List ℕ → List Stored) (limit : ℕ) → IsReadable o stored limit → o.leaf.physical ≡ physical_view rows.value.physical_type → o.outcomes ≡ I.outcomes rows.value.pages → IsWay rows.value.nested.items (thin o.column.way) → o.rows ≡ rows.value.num_rows → o.chunk_size ≡ rows.value.chunk_size → IfOk result (λ b. IsReading stored limit o [] b.value) }
+    ensures reads { (o : ColumnOpening) (stored : List ℕ → List Stored) (limit : ℕ) → IsReadable o stored limit
+        → o.leaf.physical ≡ physical_view rows.value.physical_type → o.outcomes ≡ I.outcomes rows.value.pages
+        → IsWay rows.value.nested.items (thin o.column.way) → o.rows ≡ rows.value.num_rows
+        → o.chunk_size ≡ rows.value.chunk_size → IfOk result (λ b. IsReading stored limit o [] b.value) }
     ensures suits { IfOk result (λ b. IsSuited (L.suits leaf.now) b.value.queue) }
     ensures err { IfErr result (λ e. e ≡ Memory) }
 {
@@ -118,7 +121,10 @@ fn next_of<I: Pages, L: LeafArray>(
 ) -> Option<Result<ColumnPiece>>
     requires makes { L.makes leaf.now (base (type_view data_type.now)) ≡ true }
     requires suits { IsSuited (L.suits leaf.now) reader.old.value.queue }
-    ensures gives { (o : ColumnOpening) (pieces : List (List Triple)) → IsReading (λ text. L.stored leaf.now text 0) L.byte_limit o pieces reader.old.value → GivesPiece (IsReading (λ text. L.stored leaf.now text 0) L.byte_limit) (λ p ts. IsPieceOf o.column (type_view data_type.now) ts None p) o pieces result reader.new.value }
+    ensures gives { (o : ColumnOpening) (pieces : List (List Triple))
+        → IsReading (λ text. L.stored leaf.now text 0) L.byte_limit o pieces reader.old.value
+        → GivesPiece (IsReading (λ text. L.stored leaf.now text 0) L.byte_limit)
+        (λ p ts. IsPieceOf o.column (type_view data_type.now) ts None p) o pieces result reader.new.value }
     ensures suits { IsSuited (L.suits leaf.now) reader.new.value.queue }
 {
     piece_of(alloc, leaf, data_type, reader.next_piece(leaf))
@@ -132,7 +138,10 @@ fn next_fixed<I: Pages, T: FixedValue + NumberBox>(
     data_type: &DataType,
 ) -> Option<Result<ColumnPiece>>
     requires { makes_fixed T.stores (base (type_view data_type.now)) ≡ true }
-    ensures { (o : ColumnOpening) (pieces : List (List Triple)) → IsReading (stored_fixed T.loaded size) 0 o pieces reader.old.value → GivesPiece (IsReading (stored_fixed T.loaded size) 0) (λ p ts. IsPieceOf o.column (type_view data_type.now) ts None p) o pieces result reader.new.value }
+    ensures { (o : ColumnOpening) (pieces : List (List Triple))
+        → IsReading (stored_fixed T.loaded size) 0 o pieces reader.old.value
+        → GivesPiece (IsReading (stored_fixed T.loaded size) 0)
+        (λ p ts. IsPieceOf o.column (type_view data_type.now) ts None p) o pieces result reader.new.value }
 {
     let leaf = Fixed {
         size,
@@ -150,7 +159,10 @@ fn next_chunks<I: Pages>(
 ) -> Option<Result<ColumnPiece>>
     requires makes { reads_chunks size (base (type_view data_type.now)) ≡ true }
     requires suits { IsSuited (λ n. n ≡ size) reader.old.value.queue }
-    ensures gives { (o : ColumnOpening) (pieces : List (List Triple)) → IsReading (stored_fixed loaded_bytes size) 0 o pieces reader.old.value → GivesPiece (IsReading (stored_fixed loaded_bytes size) 0) (λ p ts. IsPieceOf o.column (type_view data_type.now) ts None p) o pieces result reader.new.value }
+    ensures gives { (o : ColumnOpening) (pieces : List (List Triple))
+        → IsReading (stored_fixed loaded_bytes size) 0 o pieces reader.old.value
+        → GivesPiece (IsReading (stored_fixed loaded_bytes size) 0)
+        (λ p ts. IsPieceOf o.column (type_view data_type.now) ts None p) o pieces result reader.new.value }
     ensures suits { IsSuited (λ n. n ≡ size) reader.new.value.queue }
 {
     next_of(reader, &FixedBytes { size }, alloc, data_type)
@@ -164,7 +176,11 @@ impl<I: Pages> KindColumn<I> {
     /// `Memory`.
     pub fn new(kind: LeafKind, rows: Box<PagesOfRows<I>>) -> Result<Self>
         ensures kind { IfOk result (λ c. kind_in c ≡ kind) }
-        ensures reads { (o : ColumnOpening) → IsReadable o (stored_of kind) (limit_of kind) → o.leaf.physical ≡ physical_view rows.value.physical_type → o.outcomes ≡ I.outcomes rows.value.pages → IsWay rows.value.nested.items (thin o.column.way) → o.rows ≡ rows.value.num_rows → o.chunk_size ≡ rows.value.chunk_size → IfOk result (λ c. IsReading (stored_of kind) (limit_of kind) o [] (reader_in c)) }
+        ensures reads { (o : ColumnOpening) → IsReadable o (stored_of kind) (limit_of kind)
+            → o.leaf.physical ≡ physical_view rows.value.physical_type → o.outcomes ≡ I.outcomes rows.value.pages
+            → IsWay rows.value.nested.items (thin o.column.way) → o.rows ≡ rows.value.num_rows
+            → o.chunk_size ≡ rows.value.chunk_size → IfOk result
+            (λ c. IsReading (stored_of kind) (limit_of kind) o [] (reader_in c)) }
         ensures sized { IfOk result (λ c. IsSized (kind_in c) (reader_in c)) }
         ensures err { IfErr result (λ e. e ≡ Memory) }
     {
@@ -209,7 +225,10 @@ impl<I: Pages> KindColumn<I> {
         requires sized { IsSized (kind_in self.old) (reader_in self.old) }
         ensures kind { kind_in self.new ≡ kind_in self.old }
         ensures sized { IsSized (kind_in self.new) (reader_in self.new) }
-        ensures gives { (o : ColumnOpening) (pieces : List (List Triple)) → IsReading (stored_of (kind_in self.old)) (limit_of (kind_in self.old)) o pieces (reader_in self.old) → GivesPiece (IsReading (stored_of (kind_in self.old)) (limit_of (kind_in self.old))) (λ p ts. IsPieceOf o.column (type_view data_type.now) ts None p) o pieces result (reader_in self.new) }
+        ensures gives { (o : ColumnOpening) (pieces : List (List Triple))
+            → IsReading (stored_of (kind_in self.old)) (limit_of (kind_in self.old)) o pieces (reader_in self.old)
+            → GivesPiece (IsReading (stored_of (kind_in self.old)) (limit_of (kind_in self.old)))
+            (λ p ts. IsPieceOf o.column (type_view data_type.now) ts None p) o pieces result (reader_in self.new) }
     {
         match self {
             KindColumn::Boolean(reader) => next_of(reader, &Truths, alloc, data_type),

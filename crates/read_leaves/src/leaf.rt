@@ -106,7 +106,10 @@ fn kind_along(
     data_type: &DataType,
     physical_type: PhysicalType,
 ) -> Option<LeafKind>
-    ensures { MatchOption result (is_read_along parts.now (base (type_view data_type.now)) (physical_view physical_type) ≡ false) (λ k. (physical_of k ≡ physical_view physical_type) × (types_of k (base (type_view data_type.now)) ≡ true) × (is_read_along parts.now (base (type_view data_type.now)) (physical_view physical_type) ≡ true)) }
+    ensures { MatchOption result (is_read_along parts.now (base (type_view data_type.now)) (physical_view physical_type)
+        ≡ false) (λ k. (physical_of k ≡ physical_view physical_type)
+        × (types_of k (base (type_view data_type.now)) ≡ true)
+        × (is_read_along parts.now (base (type_view data_type.now)) (physical_view physical_type) ≡ true)) }
 {
     if !may_nest(data_type) && !stands_alone(parts) {
         return None;
@@ -134,8 +137,11 @@ impl<I: Pages> LeafColumn<I> {
         chunk_size: Option<usize>,
         num_rows: usize,
     ) -> Result<Self>
-        ensures ok { (o : ColumnOpening) → IsLeafOpening o (type_view data_type) (physical_view physical_type) → o.outcomes ≡ I.outcomes pages → IsWay nested.items (thin o.column.way) → o.rows ≡ num_rows → o.chunk_size ≡ chunk_size → IfOk result (λ c. IsReadingLeaf o (type_view data_type) [] c) }
-        ensures unserved { IsErrOf result (NotYetImplemented N5) ↔ (is_read_along nested.items (base (type_view data_type)) (physical_view physical_type) ≡ false) }
+        ensures ok { (o : ColumnOpening) → IsLeafOpening o (type_view data_type) (physical_view physical_type)
+            → o.outcomes ≡ I.outcomes pages → IsWay nested.items (thin o.column.way) → o.rows ≡ num_rows
+            → o.chunk_size ≡ chunk_size → IfOk result (λ c. IsReadingLeaf o (type_view data_type) [] c) }
+        ensures unserved { IsErrOf result (NotYetImplemented N5)
+            ↔ (is_read_along nested.items (base (type_view data_type)) (physical_view physical_type) ≡ false) }
         ensures err { IfErr result (λ e. (e ≡ Memory) ⊎ (e ≡ NotYetImplemented N5)) }
     {
         let Some(kind) = kind_along(&nested, &data_type, physical_type) else {
@@ -169,7 +175,9 @@ impl<I: Pages> LeafColumn<I> {
     /// not those of rows; S9 where the pages have more or fewer rows than the group, or one of version 2 than its header states; V1 where a piece
     /// passes the offsets of its array; `Memory`.
     pub fn next_piece(&mut self) -> Option<Result<ColumnPiece>>
-        ensures { (o : ColumnOpening) (t : TypeTree) (pieces : List (List Triple)) → IsReadingLeaf o t pieces self.old → GivesPiece (λ o ps r. IsReadingLeaf o t ps r) (λ p ts. IsPieceOf o.column t ts None p) o pieces result self.new }
+        ensures { (o : ColumnOpening) (t : TypeTree) (pieces : List (List Triple)) → IsReadingLeaf o t pieces self.old
+            → GivesPiece (λ o ps r. IsReadingLeaf o t ps r) (λ p ts. IsPieceOf o.column t ts None p) o pieces result
+            self.new }
     {
         self.column.next_piece(self.alloc, &self.data_type)
     }

@@ -19,7 +19,8 @@ pub(crate) fn struct_of(
     children: Vec<ArrayBox>,
 ) -> Result<ArrayBox>
     ensures taken { IsPopped nested.old nested.new }
-    ensures ok { IfOk result (λ a. IsStructOf (type_view data_type) (innermost nested.old) (all_boxed children.items) (boxed a)) }
+    ensures ok { IfOk result (λ a. IsStructOf (type_view data_type) (innermost nested.old) (all_boxed children.items)
+        (boxed a)) }
     ensures err { IfErr result (RefusesStruct (type_view data_type) (innermost nested.old) (all_boxed children.items)) }
 {
     let part = take_part(nested);

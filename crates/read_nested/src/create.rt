@@ -41,7 +41,8 @@ struct Children {
 
 // The next piece, without its innermost part.
 fn create_leaf(pieces: &mut IntoIter<ColumnPiece>) -> Result<ColumnPiece>
-    ensures ok { IfOk result (λ p. BuildsLeaf (into_iter_items pieces.old) (into_iter_items pieces.new) (boxed p.values) p.nested) }
+    ensures ok { IfOk result (λ p. BuildsLeaf (into_iter_items pieces.old) (into_iter_items pieces.new)
+        (boxed p.values) p.nested) }
     ensures err { IfErr result (FailsLeaf (into_iter_items pieces.old)) }
 {
     let Some(piece) = pieces.next() else {
@@ -64,7 +65,8 @@ fn create_type(
     own: &DataType,
     pieces: &mut IntoIter<ColumnPiece>,
 ) -> Result<ColumnPiece>
-    ensures ok { IfOk result (λ p. Builds (type_view own.now) (type_view data_type.now) (into_iter_items pieces.old) (into_iter_items pieces.new) (boxed p.values) p.nested) }
+    ensures ok { IfOk result (λ p. Builds (type_view own.now) (type_view data_type.now) (into_iter_items pieces.old)
+        (into_iter_items pieces.new) (boxed p.values) p.nested) }
     ensures err { IfErr result (Fails (type_view own.now) (type_view data_type.now) (into_iter_items pieces.old)) }
 {
     match data_type {
@@ -84,7 +86,8 @@ fn create_field(
     field: &Field,
     pieces: &mut IntoIter<ColumnPiece>,
 ) -> Result<ColumnPiece>
-    ensures ok { IfOk result (λ p. BuildsField (field_view field.now) (into_iter_items pieces.old) (into_iter_items pieces.new) (boxed p.values) p.nested) }
+    ensures ok { IfOk result (λ p. BuildsField (field_view field.now) (into_iter_items pieces.old)
+        (into_iter_items pieces.new) (boxed p.values) p.nested) }
     ensures err { IfErr result (FailsField (field_view field.now) (into_iter_items pieces.old)) }
 {
     create_type(alloc, &field.data_type, &field.data_type, pieces)
@@ -98,7 +101,8 @@ fn create_items(
     own: &DataType,
     pieces: &mut IntoIter<ColumnPiece>,
 ) -> Result<ColumnPiece>
-    ensures ok { IfOk result (λ p. Builds (type_view own.now) (t_list (field_view item.now)) (into_iter_items pieces.old) (into_iter_items pieces.new) (boxed p.values) p.nested) }
+    ensures ok { IfOk result (λ p. Builds (type_view own.now) (t_list (field_view item.now))
+        (into_iter_items pieces.old) (into_iter_items pieces.new) (boxed p.values) p.nested) }
     ensures err { IfErr result (Fails (type_view own.now) (t_list (field_view item.now)) (into_iter_items pieces.old)) }
 {
     let items = create_field(alloc, item, pieces)?;
@@ -112,8 +116,10 @@ fn create_entries(
     own: &DataType,
     pieces: &mut IntoIter<ColumnPiece>,
 ) -> Result<ColumnPiece>
-    ensures ok { IfOk result (λ p. Builds (type_view own.now) (t_map (field_view entry.now) true) (into_iter_items pieces.old) (into_iter_items pieces.new) (boxed p.values) p.nested) }
-    ensures err { IfErr result (Fails (type_view own.now) (t_map (field_view entry.now) true) (into_iter_items pieces.old)) }
+    ensures ok { IfOk result (λ p. Builds (type_view own.now) (t_map (field_view entry.now) true)
+        (into_iter_items pieces.old) (into_iter_items pieces.new) (boxed p.values) p.nested) }
+    ensures err { IfErr result (Fails (type_view own.now) (t_map (field_view entry.now) true)
+        (into_iter_items pieces.old)) }
 {
     let entries = create_field(alloc, entry, pieces)?;
     map_over(alloc, own, entries)
@@ -126,8 +132,10 @@ fn create_struct(
     own: &DataType,
     pieces: &mut IntoIter<ColumnPiece>,
 ) -> Result<ColumnPiece>
-    ensures ok { IfOk result (λ p. Builds (type_view own.now) (t_struct (fields_view fields.now.items)) (into_iter_items pieces.old) (into_iter_items pieces.new) (boxed p.values) p.nested) }
-    ensures err { IfErr result (Fails (type_view own.now) (t_struct (fields_view fields.now.items)) (into_iter_items pieces.old)) }
+    ensures ok { IfOk result (λ p. Builds (type_view own.now) (t_struct (fields_view fields.now.items))
+        (into_iter_items pieces.old) (into_iter_items pieces.new) (boxed p.values) p.nested) }
+    ensures err { IfErr result (Fails (type_view own.now) (t_struct (fields_view fields.now.items))
+        (into_iter_items pieces.old)) }
 {
     let children = create_children(alloc, fields, pieces)?;
     struct_over(alloc, own, children)
@@ -140,7 +148,8 @@ fn create_children(
     fields: &[Field],
     pieces: &mut IntoIter<ColumnPiece>,
 ) -> Result<Children>
-    ensures ok { IfOk result (λ c. BuildsAll (fields_view fields.now) (into_iter_items pieces.old) (into_iter_items pieces.new) (all_boxed c.arrays.items) c.nested) }
+    ensures ok { IfOk result (λ c. BuildsAll (fields_view fields.now) (into_iter_items pieces.old)
+        (into_iter_items pieces.new) (all_boxed c.arrays.items) c.nested) }
     ensures err { IfErr result (FailsAll (fields_view fields.now) (into_iter_items pieces.old)) }
 {
     let [first, others @ ..] = fields else {
@@ -156,7 +165,8 @@ fn create_children(
 }
 
 fn first_child(alloc: Global, piece: ColumnPiece) -> Result<Children>
-    ensures ok { IfOk result (λ c. (all_boxed c.arrays.items ≡ more_arrays (boxed piece.values) no_arrays) × (c.nested ≡ piece.nested)) }
+    ensures ok { IfOk result (λ c. (all_boxed c.arrays.items ≡ more_arrays (boxed piece.values) no_arrays)
+        × (c.nested ≡ piece.nested)) }
     ensures err { IfErr result (λ e. e ≡ Error.Memory) }
 {
     let mut arrays = Vec::new(alloc);
@@ -170,9 +180,12 @@ fn first_child(alloc: Global, piece: ColumnPiece) -> Result<Children>
 // One more. S10 where its state is left with other parts.
 #[tactic(auto, using(crate::proofs::Each::boxed_more))]
 fn add_child(piece: ColumnPiece, children: &mut Children) -> Result<()>
-    ensures ok { OnOk result ((piece.nested ≡ children.old.nested) × (all_boxed children.new.arrays.items ≡ joined (all_boxed children.old.arrays.items) (more_arrays (boxed piece.values) no_arrays))) }
+    ensures ok { OnOk result ((piece.nested ≡ children.old.nested)
+        × (all_boxed children.new.arrays.items ≡ joined (all_boxed children.old.arrays.items)
+        (more_arrays (boxed piece.values) no_arrays))) }
     ensures same { children.new.nested ≡ children.old.nested }
-    ensures err { IfErr result (λ e. (e ≡ Error.Memory) ⊎ ((e ≡ Error.OutOfSpec S.S10) × ¬ (piece.nested ≡ children.old.nested))) }
+    ensures err { IfErr result (λ e. (e ≡ Error.Memory) ⊎ ((e ≡ Error.OutOfSpec S.S10)
+        × ¬ (piece.nested ≡ children.old.nested))) }
 {
     if !piece.nested.same(&children.nested) {
         return Err(Error::OutOfSpec(S::S10));
@@ -183,8 +196,10 @@ fn add_child(piece: ColumnPiece, children: &mut Children) -> Result<()>
 
 // The list array over these items and the parts above it.
 fn list_over(alloc: Global, own: &DataType, items: ColumnPiece) -> Result<ColumnPiece>
-    ensures ok { IfOk result (λ p. IsPopped items.nested p.nested × MakesList (type_view own.now) (innermost items.nested) (boxed items.values) (boxed p.values)) }
-    ensures err { IfErr result (λ e. (e ≡ Error.Memory) ⊎ RefusesList (type_view own.now) (innermost items.nested) (boxed items.values) e) }
+    ensures ok { IfOk result (λ p. IsPopped items.nested p.nested
+        × MakesList (type_view own.now) (innermost items.nested) (boxed items.values) (boxed p.values)) }
+    ensures err { IfErr result (λ e. (e ≡ Error.Memory) ⊎ RefusesList (type_view own.now) (innermost items.nested)
+        (boxed items.values) e) }
 {
     let mut nested = items.nested;
     let data_type = own.clone(alloc)?;
@@ -193,8 +208,10 @@ fn list_over(alloc: Global, own: &DataType, items: ColumnPiece) -> Result<Column
 }
 
 fn map_over(alloc: Global, own: &DataType, entries: ColumnPiece) -> Result<ColumnPiece>
-    ensures ok { IfOk result (λ p. IsPopped entries.nested p.nested × IsListOf (type_view own.now) (innermost entries.nested) (boxed entries.values) (boxed p.values)) }
-    ensures err { IfErr result (λ e. (e ≡ Error.Memory) ⊎ RefusesMap (type_view own.now) (innermost entries.nested) (boxed entries.values) e) }
+    ensures ok { IfOk result (λ p. IsPopped entries.nested p.nested
+        × IsListOf (type_view own.now) (innermost entries.nested) (boxed entries.values) (boxed p.values)) }
+    ensures err { IfErr result (λ e. (e ≡ Error.Memory) ⊎ RefusesMap (type_view own.now) (innermost entries.nested)
+        (boxed entries.values) e) }
 {
     let mut nested = entries.nested;
     let data_type = own.clone(alloc)?;
@@ -203,8 +220,11 @@ fn map_over(alloc: Global, own: &DataType, entries: ColumnPiece) -> Result<Colum
 }
 
 fn struct_over(alloc: Global, own: &DataType, children: Children) -> Result<ColumnPiece>
-    ensures ok { IfOk result (λ p. IsPopped children.nested p.nested × IsStructOf (type_view own.now) (innermost children.nested) (all_boxed children.arrays.items) (boxed p.values)) }
-    ensures err { IfErr result (λ e. (e ≡ Error.Memory) ⊎ RefusesStruct (type_view own.now) (innermost children.nested) (all_boxed children.arrays.items) e) }
+    ensures ok { IfOk result (λ p. IsPopped children.nested p.nested
+        × IsStructOf (type_view own.now) (innermost children.nested) (all_boxed children.arrays.items)
+        (boxed p.values)) }
+    ensures err { IfErr result (λ e. (e ≡ Error.Memory) ⊎ RefusesStruct (type_view own.now) (innermost children.nested)
+        (all_boxed children.arrays.items) e) }
 {
     let mut nested = children.nested;
     let data_type = own.clone(alloc)?;
@@ -223,8 +243,14 @@ fn struct_over(alloc: Global, own: &DataType, children: Children) -> Result<Colu
 pub fn create_array(alloc: Global, field: &Field, pieces: Vec<ColumnPiece>) -> Result<ArrayBox>
     requires nesting { field_nesting (field_view field.now) ≤ 128 }
     requires structs { HasNoEmptyStruct (shape_of (field_view field.now)) }
-    ensures ok { (tables : List (List Triple)) (es : List (Option (List (Option Value)))) → HaveFlatEntries (field_view field.now) → ArePiecesOf (field_columns (field_view field.now)) (leaf_types (field_view field.now)) tables es pieces.items → IfOk result (λ a. IsArrayOf (field_view field.now) tables es (boxed a)) }
-    ensures err { (tables : List (List Triple)) (es : List (Option (List (Option Value)))) → HaveFlatEntries (field_view field.now) → ArePiecesOf (field_columns (field_view field.now)) (leaf_types (field_view field.now)) tables es pieces.items → IfErr result (CannotJoin (field_view field.now) tables) }
+    ensures ok { (tables : List (List Triple)) (es : List (Option (List (Option Value))))
+        → HaveFlatEntries (field_view field.now) → ArePiecesOf (field_columns (field_view field.now))
+        (leaf_types (field_view field.now)) tables es pieces.items
+        → IfOk result (λ a. IsArrayOf (field_view field.now) tables es (boxed a)) }
+    ensures err { (tables : List (List Triple)) (es : List (Option (List (Option Value))))
+        → HaveFlatEntries (field_view field.now) → ArePiecesOf (field_columns (field_view field.now))
+        (leaf_types (field_view field.now)) tables es pieces.items
+        → IfErr result (CannotJoin (field_view field.now) tables) }
 {
     items_are_counted();
     let mut left = pieces.into_iter();
@@ -247,8 +273,15 @@ pub fn create_piece(
     data_type: &DataType,
     pieces: Vec<ColumnPiece>,
 ) -> Result<ColumnPiece>
-    ensures ok { (above : List Above) (n : Bool) (tables : List (List Triple)) (es : List (Option (List (Option Value)))) → ArePiecesBeneath above n (type_view data_type.now) tables es pieces.items → IfOk result (IsBeneath above n (type_view data_type.now) tables es) }
-    ensures err { (above : List Above) (n : Bool) (tables : List (List Triple)) (es : List (Option (List (Option Value)))) → ArePiecesBeneath above n (type_view data_type.now) tables es pieces.items → IfErr result (CannotJoinColumns (HasFixedList (type_view data_type.now)) (columns_beneath above n (type_view data_type.now)) tables) }
+    ensures ok { (above : List Above) (n : Bool) (tables : List (List Triple))
+        (es : List (Option (List (Option Value)))) → ArePiecesBeneath above n
+        (type_view data_type.now) tables es pieces.items → IfOk result
+        (IsBeneath above n (type_view data_type.now) tables es) }
+    ensures err { (above : List Above) (n : Bool) (tables : List (List Triple))
+        (es : List (Option (List (Option Value)))) → ArePiecesBeneath above n
+        (type_view data_type.now) tables es pieces.items → IfErr result
+        (CannotJoinColumns (HasFixedList (type_view data_type.now))
+        (columns_beneath above n (type_view data_type.now)) tables) }
 {
     items_are_counted();
     let mut left = pieces.into_iter();

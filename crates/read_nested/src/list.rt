@@ -47,7 +47,8 @@ fn small_list(
     values: ArrayBox,
 ) -> Result<ListArray>
     ensures ok { IfOk result (λ a. IsListOf (type_view data_type) (option_map kept_box part) (boxed values) a) }
-    ensures err { IfErr result (RefusesLists small_limit (small_item (base (type_view data_type))) (option_map kept_box part) (boxed values)) }
+    ensures err { IfErr result (RefusesLists small_limit (small_item (base (type_view data_type)))
+        (option_map kept_box part) (boxed values)) }
 {
     let (offsets, mask) = list_parts::<i32>(alloc, part, values.len())?;
     ListArray::try_new(alloc, data_type, offsets, values, mask)
@@ -60,7 +61,8 @@ fn large_list(
     values: ArrayBox,
 ) -> Result<LargeListArray>
     ensures ok { IfOk result (λ a. IsListOf (type_view data_type) (option_map kept_box part) (boxed values) a) }
-    ensures err { IfErr result (RefusesLists large_limit (large_item (base (type_view data_type))) (option_map kept_box part) (boxed values)) }
+    ensures err { IfErr result (RefusesLists large_limit (large_item (base (type_view data_type)))
+        (option_map kept_box part) (boxed values)) }
 {
     let (offsets, mask) = list_parts::<i64>(alloc, part, values.len())?;
     LargeListArray::try_new(alloc, data_type, offsets, values, mask)
@@ -73,7 +75,8 @@ fn fixed_list(
     values: ArrayBox,
 ) -> Result<FixedSizeListArray>
     ensures ok { IfOk result (λ a. IsFixedListOf (type_view data_type) (option_map kept_box part) (boxed values) a) }
-    ensures err { IfErr result (λ e. (e ≡ Error.Memory) ⊎ ((e ≡ Error.InvalidArgumentError A.A8) × ¬ (FitsFixedPart (base (type_view data_type)) (option_map kept_box part) (boxed values)))) }
+    ensures err { IfErr result (λ e. (e ≡ Error.Memory) ⊎ ((e ≡ Error.InvalidArgumentError A.A8)
+        × ¬ (FitsFixedPart (base (type_view data_type)) (option_map kept_box part) (boxed values)))) }
 {
     let Some((starts, validity)) = list_inner(part) else {
         return Err(Error::InvalidArgumentError(A::A8));

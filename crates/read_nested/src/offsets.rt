@@ -82,7 +82,8 @@ fn fill_low<O: Offset>(places: &mut [O], starts: &[i64]) -> bool
 
 // Appends starts as offsets, and tells whether all fit.
 fn append_block<O: Offset>(offsets: &mut Vec<O>, starts: &[i64]) -> Result<bool>
-    ensures ok { IfOk result (λ fits. IsTrue fits → map O.number offsets.new.items ≡ map O.number offsets.old.items ++ map pos (starts_of starts.now)) }
+    ensures ok { IfOk result (λ fits. IsTrue fits → map O.number offsets.new.items
+        ≡ map O.number offsets.old.items ++ map pos (starts_of starts.now)) }
     ensures err { IfErr result (λ e. e ≡ Error.Memory) }
 {
     let before = offsets.len();
@@ -98,7 +99,8 @@ fn append_block<O: Offset>(offsets: &mut Vec<O>, starts: &[i64]) -> Result<bool>
 
 // The same block by block.
 fn append_blocks<O: Offset>(offsets: &mut Vec<O>, starts: &[i64]) -> Result<bool>
-    ensures ok { IfOk result (λ fits. IsTrue fits → map O.number offsets.new.items ≡ map O.number offsets.old.items ++ map pos (starts_of starts.now)) }
+    ensures ok { IfOk result (λ fits. IsTrue fits → map O.number offsets.new.items
+        ≡ map O.number offsets.old.items ++ map pos (starts_of starts.now)) }
     ensures err { IfErr result (λ e. e ≡ Error.Memory) }
 {
     let mut at = 0;
@@ -123,7 +125,8 @@ fn offsets_each<O: Offset>(
     requires last { O.number last ≡ pos end }
     requires fits { end < O.limit }
     ensures ok { IfOk result (λ os. os ≡ starts_of starts.now ++ end ∷ []) }
-    ensures err { IfErr result (λ e. (e ≡ Error.Memory) ⊎ ((e ≡ Error.InvalidArgumentError A.A8) × ¬ (IsPlaces (starts_of starts.now ++ end ∷ []) end))) }
+    ensures err { IfErr result (λ e. (e ≡ Error.Memory) ⊎ ((e ≡ Error.InvalidArgumentError A.A8)
+        × ¬ (IsPlaces (starts_of starts.now ++ end ∷ []) end))) }
 {
     let mut made: Vec<O> = Vec::with_capacity(alloc, starts.len())?;
     for i in 0..starts.len() {
@@ -146,7 +149,8 @@ fn offsets_of<O: Offset>(
     requires last { O.number last ≡ pos end }
     requires fits { end < O.limit }
     ensures ok { IfOk result (λ os. os ≡ starts_of starts.now ++ end ∷ []) }
-    ensures err { IfErr result (λ e. (e ≡ Error.Memory) ⊎ ((e ≡ Error.InvalidArgumentError A.A8) × ¬ (IsPlaces (starts_of starts.now ++ end ∷ []) end))) }
+    ensures err { IfErr result (λ e. (e ≡ Error.Memory) ⊎ ((e ≡ Error.InvalidArgumentError A.A8)
+        × ¬ (IsPlaces (starts_of starts.now ++ end ∷ []) end))) }
 {
     let mut offsets: Vec<O> = Vec::with_capacity(alloc, starts.len().saturating_add(1))?;
     if !append_blocks(&mut offsets, starts)? {
@@ -158,7 +162,8 @@ fn offsets_of<O: Offset>(
 
 /// The starts and the validities of a list's part.
 pub(crate) fn list_inner(part: Option<NestedBox>) -> Option<(Vec<i64>, Option<MutableBitmap>)>
-    ensures { MatchOption result (IsNoList (option_map kept_box part)) (λ r. option_map kept_box part ≡ Some (kept_list (option_map (λ b. b.0) r.1) (starts_of r.0.items))) }
+    ensures { MatchOption result (IsNoList (option_map kept_box part)) (λ r. option_map kept_box part
+        ≡ Some (kept_list (option_map (λ b. b.0) r.1) (starts_of r.0.items))) }
 {
     let mut part = part?;
     if !part.is_repeated() {
@@ -169,7 +174,8 @@ pub(crate) fn list_inner(part: Option<NestedBox>) -> Option<(Vec<i64>, Option<Mu
 
 /// The size and the validities of a struct's part.
 pub(crate) fn struct_inner(part: Option<NestedBox>) -> Option<(usize, Option<MutableBitmap>)>
-    ensures { MatchOption result (IsNoStruct (option_map kept_box part)) (λ r. option_map kept_box part ≡ Some (kept_struct (option_map (λ b. b.0) r.1) r.0)) }
+    ensures { MatchOption result (IsNoStruct (option_map kept_box part)) (λ r. option_map kept_box part
+        ≡ Some (kept_struct (option_map (λ b. b.0) r.1) r.0)) }
 {
     let mut part = part?;
     if !part.is_required() {
@@ -191,7 +197,8 @@ pub(crate) fn list_parts<O: Offset>(
     end: usize,
 ) -> Result<(OffsetsBuffer<O>, Option<Bitmap>)>
     ensures ok { IfOk result (λ r. (end < O.limit) × AreOf (option_map kept_box part) end r.0 r.1) }
-    ensures err { IfErr result (λ e. (e ≡ Error.Memory) ⊎ ((e ≡ Error.Overflow V.V1) × (O.limit ≤ end)) ⊎ ((e ≡ Error.InvalidArgumentError A.A8) × (end < O.limit) × ¬ (HasOffsets (option_map kept_box part) end))) }
+    ensures err { IfErr result (λ e. (e ≡ Error.Memory) ⊎ ((e ≡ Error.Overflow V.V1) × (O.limit ≤ end))
+        ⊎ ((e ≡ Error.InvalidArgumentError A.A8) × (end < O.limit) × ¬ (HasOffsets (option_map kept_box part) end))) }
 {
     let Some(last) = O::from_usize(end) else {
         return Err(Error::Overflow(V::V1));

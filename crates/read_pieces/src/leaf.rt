@@ -77,8 +77,10 @@ pub trait LeafReader {
     ///
     /// S6 where the bytes are cut, S7 where no value of the leaf's type is stored so (Parquet format, Encodings, "Plain").
     fn value_size(&self, bytes: &[u8]) -> Result<usize>
-        ensures ok { in_bytes (λ text. stored self.now text 0) ≡ true → IfOk result (λ n. BeginsWithValue (λ text. stored self.now text 0) n bytes.now) }
-        ensures err { IfErr result (λ e. ((e ≡ OutOfSpec S6) × (stored self.now bytes.now 0 ≡ [])) ⊎ ((e ≡ OutOfSpec S7) × BeginsOutside (λ text. stored self.now text 0) bytes.now)) };
+        ensures ok { in_bytes (λ text. stored self.now text 0) ≡ true
+            → IfOk result (λ n. BeginsWithValue (λ text. stored self.now text 0) n bytes.now) }
+        ensures err { IfErr result (λ e. ((e ≡ OutOfSpec S6) × (stored self.now bytes.now 0 ≡ []))
+            ⊎ ((e ≡ OutOfSpec S7) × BeginsOutside (λ text. stored self.now text 0) bytes.now)) };
 
     /// Takes pairs of the page, and the values that they call for, until `additional` rows are whole or the page ends. Of each pair at most one step
     /// for each part of the state.
@@ -98,8 +100,12 @@ pub trait LeafReader {
         requires fits { StateFits nested.old }
         requires decoded { length (slots values.old) ≡ leaf_count nested.old }
         requires suits { suits self.now (width values.old) }
-        ensures ok { OnOk result (Extends additional page.old page.new (stored self.now bytes.old.values.now bytes.old.bit) (stored self.now bytes.new.values.now bytes.new.bit) nested.old nested.new (slots values.old) (slots values.new)) }
-        ensures err { IfErr result (Refuses byte_limit additional page.old (stored self.now bytes.old.values.now bytes.old.bit) nested.old (slots values.old)) }
+        ensures ok { OnOk result (Extends additional page.old page.new
+            (stored self.now bytes.old.values.now bytes.old.bit)
+            (stored self.now bytes.new.values.now bytes.new.bit) nested.old nested.new (slots values.old)
+            (slots values.new)) }
+        ensures err { IfErr result (Refuses byte_limit additional page.old
+            (stored self.now bytes.old.values.now bytes.old.bit) nested.old (slots values.old)) }
         ensures ticked { OnOk result (TicksEach (length nested.old) page.old page.new steps.old steps.new) }
         ensures bounded { TicksAtMost (length nested.old * length page.old) steps.old steps.new }
         ensures width { width values.new ≡ width values.old };
@@ -121,8 +127,12 @@ fn extend_in<'a, 'b, R: LeafReader, L: Ledger>(
     requires name { blank.name ≡ L.name }
     requires parts { blank.parts ≡ L.parts }
     requires some { 0 < blank.parts }
-    ensures ok { OnOk result (Extends additional page.old page.new (R.stored leaf.now bytes.old.values.now bytes.old.bit) (R.stored leaf.now bytes.new.values.now bytes.new.bit) nested.old nested.new (R.slots values.old) (R.slots values.new)) }
-    ensures err { IfErr result (Refuses R.byte_limit additional page.old (R.stored leaf.now bytes.old.values.now bytes.old.bit) nested.old (R.slots values.old)) }
+    ensures ok { OnOk result (Extends additional page.old page.new
+        (R.stored leaf.now bytes.old.values.now bytes.old.bit)
+        (R.stored leaf.now bytes.new.values.now bytes.new.bit) nested.old nested.new (R.slots values.old)
+        (R.slots values.new)) }
+    ensures err { IfErr result (Refuses R.byte_limit additional page.old
+        (R.stored leaf.now bytes.old.values.now bytes.old.bit) nested.old (R.slots values.old)) }
     ensures width { R.width values.new ≡ R.width values.old }
 {
     let mut steps: Steps<L> = Steps::new(blank);
@@ -145,8 +155,12 @@ pub fn extend_leaf<'a, 'b, R: LeafReader>(
     requires fits { StateFits nested.old }
     requires decoded { length (R.slots values.old) ≡ leaf_count nested.old }
     requires suits { R.suits leaf.now (R.width values.old) }
-    ensures ok { OnOk result (Extends additional page.old page.new (R.stored leaf.now bytes.old.values.now bytes.old.bit) (R.stored leaf.now bytes.new.values.now bytes.new.bit) nested.old nested.new (R.slots values.old) (R.slots values.new)) }
-    ensures err { IfErr result (Refuses R.byte_limit additional page.old (R.stored leaf.now bytes.old.values.now bytes.old.bit) nested.old (R.slots values.old)) }
+    ensures ok { OnOk result (Extends additional page.old page.new
+        (R.stored leaf.now bytes.old.values.now bytes.old.bit)
+        (R.stored leaf.now bytes.new.values.now bytes.new.bit) nested.old nested.new (R.slots values.old)
+        (R.slots values.new)) }
+    ensures err { IfErr result (Refuses R.byte_limit additional page.old
+        (R.stored leaf.now bytes.old.values.now bytes.old.bit) nested.old (R.slots values.old)) }
     ensures width { R.width values.new ≡ R.width values.old }
 {
     extend_in::<R, Brand>(leaf, page, bytes, nested, values, additional, Blank::new(1))

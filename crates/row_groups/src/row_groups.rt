@@ -48,8 +48,10 @@ fn group_of(
     options: WriteOptions,
     chunk: Chunk,
 ) -> Result<RowGroupIter>
-    ensures ok { IfOk result (λ g. IsGroupFor (fields_view fields.now) (trees_view trees.now) (map (λ es. es.items) encodings.now) options chunk g) }
-    ensures refused { IfErr result (λ e. RefusesGroup (fields_view fields.now) (trees_view trees.now) (map (λ es. es.items) encodings.now) options chunk e) }
+    ensures ok { IfOk result (λ g. IsGroupFor (fields_view fields.now) (trees_view trees.now)
+        (map (λ es. es.items) encodings.now) options chunk g) }
+    ensures refused { IfErr result (λ e. RefusesGroup (fields_view fields.now) (trees_view trees.now)
+        (map (λ es. es.items) encodings.now) options chunk e) }
 {
     if !are_rows_of(fields, &chunk) {
         return Err(Error::InvalidArgumentError(A::A8));
@@ -74,12 +76,19 @@ impl<I: Iterator<Item = Result<Chunk>> + Drop> RowGroupIterator<I> {
         options: WriteOptions,
         encodings: Vec<Vec<Encoding>>,
     ) -> Result<Self>
-        ensures ok { IfOk result (λ g. (g.iter ≡ iter) × (g.options ≡ options) × (g.encodings ≡ encodings) × (g.has_failed ≡ false)) }
+        ensures ok { IfOk result (λ g. (g.iter ≡ iter) × (g.options ≡ options) × (g.encodings ≡ encodings)
+            × (g.has_failed ≡ false)) }
         ensures fields { IfOk result (λ g. fields_view g.fields.items ≡ (schema_view schema.now).fields) }
-        ensures trees { IfOk result (λ g. trees_view g.schema.fields ≡ (schema_of (schema_view schema.now).fields).fields) }
-        ensures numbered { IfOk result (λ g. AreNumbered (schema_view schema.now).fields (map (λ es. es.items) encodings.items)) }
-        ensures differ { fields_nesting (schema_view schema.now).fields ≤ 128 → (¬ AreNumbered (schema_view schema.now).fields (map (λ es. es.items) encodings.items)) → result ≡ Err (InvalidArgumentError A8) }
-        ensures refused { IfErr result (λ e. ((e ≡ InvalidArgumentError A8) × (¬ AreNumbered (schema_view schema.now).fields (map (λ es. es.items) encodings.items))) ⊎ RefusesSchema (schema_view schema.now).fields e) }
+        ensures trees { IfOk result (λ g. trees_view g.schema.fields
+            ≡ (schema_of (schema_view schema.now).fields).fields) }
+        ensures numbered { IfOk result (λ g. AreNumbered (schema_view schema.now).fields
+            (map (λ es. es.items) encodings.items)) }
+        ensures differ { fields_nesting (schema_view schema.now).fields ≤ 128
+            → (¬ AreNumbered (schema_view schema.now).fields (map (λ es. es.items) encodings.items))
+            → result ≡ Err (InvalidArgumentError A8) }
+        ensures refused { IfErr result (λ e. ((e ≡ InvalidArgumentError A8)
+            × (¬ AreNumbered (schema_view schema.now).fields (map (λ es. es.items) encodings.items)))
+            ⊎ RefusesSchema (schema_view schema.now).fields e) }
     {
         if all_nest_within(&schema.fields, MAX_NESTING)
             && !are_numbered(&schema.fields, &encodings)

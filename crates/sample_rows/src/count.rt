@@ -30,7 +30,8 @@ fn add_item(totals: Totals, numbers: &PrimitiveArray<i32>, i: usize) -> Totals
     requires within { i < length numbers.now.1.0 }
     requires typed { numbers.now.0 ≡ t_int32 }
     requires room { totals.count + 1 < 2 ^ 64 }
-    ensures are { (zs : List ℤ) → AreOf totals zs → AreOf result (zs ++ number_in (slot_at (numbers_tree numbers.now) i)) }
+    ensures are { (zs : List ℤ) → AreOf totals zs → AreOf result
+        (zs ++ number_in (slot_at (numbers_tree numbers.now) i)) }
     ensures few { result.count ≤ totals.count + 1 }
 {
     if !is_present(numbers, i) {
@@ -45,7 +46,8 @@ fn add_items(totals: Totals, numbers: &PrimitiveArray<i32>, first: usize, count:
     requires within { first + count ≤ length numbers.now.1.0 }
     requires typed { numbers.now.0 ≡ t_int32 }
     requires room { totals.count + count < 2 ^ 64 }
-    ensures are { (zs : List ℤ) → AreOf totals zs → AreOf result (zs ++ flat_map number_in (slots_from (slot_at (numbers_tree numbers.now)) first count)) }
+    ensures are { (zs : List ℤ) → AreOf totals zs → AreOf result
+        (zs ++ flat_map number_in (slots_from (slot_at (numbers_tree numbers.now)) first count)) }
     ensures few { result.count ≤ totals.count + count }
 {
     let _count = numbers.len();

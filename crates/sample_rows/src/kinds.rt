@@ -44,7 +44,8 @@ pub fn lists_in(array: &ArrayBox) -> Option<&ListArray>
 
 /// The array as numbers of 32 bits.
 pub fn numbers_in(array: &ArrayBox) -> Option<&PrimitiveArray<i32>>
-    ensures { MatchOption result (type_of (boxed array.now) ≢ t_int32) (λ numbers. numbers_tree numbers.now ≡ boxed array.now) }
+    ensures { MatchOption result (type_of (boxed array.now) ≢ t_int32) (λ numbers. numbers_tree numbers.now
+        ≡ boxed array.now) }
 {
     match array {
         ArrayBox::Int32(a) => Some(a),

@@ -41,7 +41,8 @@ fn tag(alloc: Global, row: u32) -> Result<String>
 /// A text behind the others, and its end.
 fn push_text(offsets: &mut Offsets<i32>, bytes: &mut Vec<u8>, text: &str) -> Result<()>
     requires fits { last_place offsets.old.0 + length text.now < 2 ^ 31 }
-    ensures offsets { IfOk result (λ _. offsets.new.0 ≡ offsets.old.0 ++ (last_place offsets.old.0 + length text.now) ∷ []) }
+    ensures offsets { IfOk result (λ _. offsets.new.0 ≡ offsets.old.0 ++ (last_place offsets.old.0 + length text.now)
+        ∷ []) }
     ensures bytes { IfOk result (λ _. bytes.new.items ≡ bytes.old.items ++ text.now) }
     ensures err { IfErr result (λ e. e ≡ Error.Memory) }
 {

@@ -19,7 +19,8 @@ pub fn rewrite_file<V: View>(
     input: Vec<u8>,
     view: &mut V,
 ) -> Result<(Report, PlainSink)>
-    ensures ok { IfOk result (λ made. Gives plain_codec sample_asked (V.seen view.old) (V.seen view.new) input.items (plain_taken made.1) made.0) }
+    ensures ok { IfOk result (λ made. Gives plain_codec sample_asked (V.seen view.old) (V.seen view.new) input.items
+        (plain_taken made.1) made.0) }
     ensures err { IfErr result (IsNotRewritten input.items) }
     ensures shown { Grows (V.seen view.old) (V.seen view.new) }
 {

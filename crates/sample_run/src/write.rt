@@ -122,7 +122,9 @@ fn put_group(writer: &mut FileWriter<PlainSink>, group: RowGroupIter) -> Result<
 /// Ends the file.
 fn end_file(writer: FileWriter<PlainSink>) -> Result<PlainSink>
     requires { (chunk : ArrayTrees) × HasPut chunk writer }
-    ensures ok { (chunk : ArrayTrees) → HasPut chunk writer → IfOk result (λ k. IsFileOfChunk (Some []) (Some (plain_taken k)) sample_tree (plain_bytes sample_tree) written_options chunk) }
+    ensures ok { (chunk : ArrayTrees) → HasPut chunk writer → IfOk result
+        (λ k. IsFileOfChunk (Some []) (Some (plain_taken k)) sample_tree
+        (plain_bytes sample_tree) written_options chunk) }
     ensures err { IfErr result (λ e. e ≡ Memory) }
 {
     served_groups_are_laid();
@@ -140,7 +142,8 @@ fn end_file(writer: FileWriter<PlainSink>) -> Result<PlainSink>
 fn write_chunk(alloc: Global, schema: Schema, chunk: Chunk) -> Result<PlainSink>
     requires schema { schema_view schema ≡ sample_tree }
     requires columns { AreSampleArrays chunk }
-    ensures ok { IfOk result (λ k. IsFileOfChunk (Some []) (Some (plain_taken k)) sample_tree (plain_bytes sample_tree) written_options chunk) }
+    ensures ok { IfOk result (λ k. IsFileOfChunk (Some []) (Some (plain_taken k)) sample_tree
+        (plain_bytes sample_tree) written_options chunk) }
     ensures err { IfErr result (λ e. e ≡ Memory) }
 {
     let mut writer = sample_writer(alloc, schema)?;

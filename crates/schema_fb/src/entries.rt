@@ -100,7 +100,8 @@ fn with_extension(
     text: &Option<String>,
     metadata: &Metadata,
 ) -> Result<Metadata, AllocError>
-    ensures { IfOk result (λ m. m ≡ with_optional (option_map string_bytes text.now) (with_text name_key (string_bytes name.now) metadata.now)) }
+    ensures { IfOk result (λ m. m ≡ with_optional (option_map string_bytes text.now)
+        (with_text name_key (string_bytes name.now) metadata.now)) }
 {
     let Ok(mut entries) = metadata.clone(alloc) else {
         return Err(AllocError);

@@ -65,7 +65,8 @@ fn extension_of(
     inner: DataType,
     text: Option<String>,
 ) -> Result<DataType, Refusal>
-    ensures { Gives type_view result (Some (t_extension (string_bytes name) (type_view inner) (option_map string_bytes text))) }
+    ensures { Gives type_view result (Some
+        (t_extension (string_bytes name) (type_view inner) (option_map string_bytes text))) }
 {
     let inner = Box::new(alloc, inner)?;
     Ok(DataType::Extension(name, inner, text))

@@ -113,7 +113,8 @@ fn nested_in(
     left: u128,
     depth: u8,
 ) -> Result<(DataType, u128), Refusal>
-    ensures { Gives (seen type_view) result (nested_in tag (field_at bytes.now depth) bytes.now parent.now table.now left) }
+    ensures { Gives (seen type_view) result
+        (nested_in tag (field_at bytes.now depth) bytes.now parent.now table.now left) }
 {
     match tag {
         Container::List => {
@@ -171,7 +172,8 @@ fn child_in(
     left: u128,
     depth: u8,
 ) -> Result<(Box<Field>, u128), Refusal>
-    ensures { Gives (seen (λ b. field_view b.value)) result (child_in (field_at bytes.now depth) bytes.now parent.now left) }
+    ensures { Gives (seen (λ b. field_view b.value)) result (child_in
+        (field_at bytes.now depth) bytes.now parent.now left) }
 {
     let (fields, rest) = fields_in(alloc, bytes, parent, 5, left, depth)?;
     match only(fields) {
@@ -191,7 +193,8 @@ pub fn fields_in(
     left: u128,
     depth: u8,
 ) -> Result<(Vec<Field>, u128), Refusal>
-    ensures { Gives (seen (λ v. map field_view v.items)) result (items_in (field_at bytes.now depth) bytes.now table.now i left) }
+    ensures { Gives (seen (λ v. map field_view v.items)) result
+        (items_in (field_at bytes.now depth) bytes.now table.now i left) }
 {
     match slot(bytes, table, i) {
         Some(place) => {
@@ -212,7 +215,8 @@ fn fields_at(
     left: u128,
     depth: u8,
 ) -> Result<(Vec<Field>, u128), Refusal>
-    ensures { Gives (seen (λ v. map field_view v.items)) result (items_at (field_at bytes.now depth) bytes.now count place left) }
+    ensures { Gives (seen (λ v. map field_view v.items)) result
+        (items_at (field_at bytes.now depth) bytes.now count place left) }
 {
     let mut fields = Vec::new(alloc);
     let mut at = place;

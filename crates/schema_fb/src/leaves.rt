@@ -144,7 +144,8 @@ fn timestamp_in(
 
 /// A type that is read, with what may still be read as it was.
 fn beside(left: u128, data_type: Result<DataType, Refusal>) -> Result<(DataType, u128), Refusal>
-    ensures { (read : Option TypeTree) → Gives type_view data_type read → Gives (seen type_view) result (beside left read) }
+    ensures { (read : Option TypeTree) → Gives type_view data_type read
+        → Gives (seen type_view) result (beside left read) }
 {
     Ok((data_type?, left))
 }

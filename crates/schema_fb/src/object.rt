@@ -64,7 +64,8 @@ pub fn three<'a>(
     second: Cell<'a>,
     third: Cell<'a>,
 ) -> Result<Vec<Cell<'a>>, AllocError>
-    ensures { IfOk result (λ v. cells_view v.items ≡ three (cell_view first.entry) (cell_view second.entry) (cell_view third.entry)) }
+    ensures { IfOk result (λ v. cells_view v.items ≡ three (cell_view first.entry) (cell_view second.entry)
+        (cell_view third.entry)) }
 {
     let mut cells = Vec::new(alloc);
     cells.push(first)?;

@@ -127,7 +127,8 @@ fn push_vtable(out: &mut Vec<u8>, cells: &Vec<Cell>) -> Result<(), AllocError>
 
 /// A slot behind which so many slots and so many bytes stand before what it points at.
 fn push_cell(out: &mut Vec<u8>, left: usize, before: usize, cell: &Cell) -> Result<(), AllocError>
-    ensures { OnOk result (out.new.items ≡ out.old.items ++ cells_bytes 0 (8 * left + before) (one (cell_view cell.now))) }
+    ensures { OnOk result (out.new.items ≡ out.old.items ++ cells_bytes 0 (8 * left + before)
+        (one (cell_view cell.now))) }
 {
     match cell {
         Cell::Absent => push_number(out, 0),

@@ -48,7 +48,8 @@ fn write_message(alloc: Global, schema: &Schema) -> Result<Vec<u8>, CodecFault>
 fn write_plain(alloc: Global, schema: &Schema) -> Result<Vec<u8>, CodecFault>
     ensures ok { IfOk result (λ v. v.items ≡ (0 ∷ 0 ∷ 0 ∷ 0 ∷ []) ++ plain_bytes (schema_view schema.now)) }
     ensures small { IfOk result (λ v. length v.items ≤ max_length) }
-    ensures large { result ≡ Err TooLarge → max_length < length ((0 ∷ 0 ∷ 0 ∷ 0 ∷ []) ++ plain_bytes (schema_view schema.now)) }
+    ensures large { result ≡ Err TooLarge → max_length
+        < length ((0 ∷ 0 ∷ 0 ∷ 0 ∷ []) ++ plain_bytes (schema_view schema.now)) }
 {
     match PlainCodec.encode(alloc, schema) {
         Ok(plain) => behind_zeros(alloc, plain.as_slice()),

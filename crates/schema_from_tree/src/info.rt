@@ -70,7 +70,8 @@ pub fn is_item_name(parent: &str, name: &str) -> bool
 
 /// A field of the type, with the name and the nullability of the node.
 pub fn field_as_node(alloc: Global, info: &FieldInfo, data_type: DataType) -> Result<Field>
-    ensures { Gives field_view result (field_named (string_bytes info.now.name) (repetition_view info.now.repetition) (type_view data_type)) }
+    ensures { Gives field_view result (field_named (string_bytes info.now.name) (repetition_view info.now.repetition)
+        (type_view data_type)) }
 {
     Ok(Field {
         name: String::from_str(alloc, info.name.as_str())?,

@@ -139,7 +139,8 @@ fn fixed_by_annotations(
     logical_type: Option<LogicalType>,
     converted_type: Option<ConvertedType>,
 ) -> Option<DataType>
-    ensures { option_map type_view result ≡ fixed_of (option_map logical_view logical_type) (option_map converted_view converted_type) }
+    ensures { option_map type_view result ≡ fixed_of (option_map logical_view logical_type)
+        (option_map converted_view converted_type) }
 {
     match (logical_type, converted_type) {
         (Some(LogicalType::Decimal(precision, scale)), _) => Some(DataType::Decimal(
@@ -155,7 +156,9 @@ fn fixed_by_annotations(
 
 /// The type of the leaf's values, repeated or not.
 pub fn type_of_leaf(alloc: Global, leaf: &PrimitiveType) -> Result<DataType>
-    ensures { Gives type_view result (leaf_type (info_view leaf.now.field_info leaf.now.converted_type leaf.now.logical_type) (physical_view leaf.now.physical_type)) }
+    ensures { Gives type_view result (leaf_type
+        (info_view leaf.now.field_info leaf.now.converted_type leaf.now.logical_type)
+        (physical_view leaf.now.physical_type)) }
 {
     Ok(match leaf.physical_type {
         PhysicalType::Boolean => DataType::Boolean,

@@ -39,7 +39,8 @@ pub fn to_data_type(alloc: Global, type_: &ParquetType) -> Result<Option<DataTyp
 
 /// A list whose item has the type, and the name and the nullability of the node.
 fn list_as_node(alloc: Global, info: &FieldInfo, item: DataType) -> Result<DataType>
-    ensures { Gives type_view result (t_list (field_named (string_bytes info.now.name) (repetition_view info.now.repetition) (type_view item))) }
+    ensures { Gives type_view result (t_list
+        (field_named (string_bytes info.now.name) (repetition_view info.now.repetition) (type_view item))) }
 {
     Ok(DataType::List(Box::new(alloc, field_as_node(alloc, info, item)?)?))
 }
@@ -80,7 +81,9 @@ fn repeated_group(
     info: &FieldInfo,
     children: &[ParquetType],
 ) -> Result<Option<DataType>>
-    ensures { Gives (option_map type_view) result (option_map (λ t. t_list (field_named (string_bytes info.now.name) (repetition_view info.now.repetition) t)) (struct_with (arrow_fields (trees_view children.now)))) }
+    ensures { Gives (option_map type_view) result
+        (option_map (λ t. t_list (field_named (string_bytes info.now.name) (repetition_view info.now.repetition) t))
+        (struct_with (arrow_fields (trees_view children.now)))) }
 {
     match struct_of_nodes(alloc, children)? {
         Some(item) => Ok(Some(list_as_node(alloc, info, item)?)),
@@ -150,7 +153,8 @@ fn struct_of_nodes(alloc: Global, children: &[ParquetType]) -> Result<Option<Dat
 
 #[cycle(nodes)]
 fn field_of_node(alloc: Global, node: &ParquetType) -> Result<Option<Field>>
-    ensures { Gives (option_map field_view) result (option_map (field_as (info_of (tree_view node.now))) (type_of (tree_view node.now))) }
+    ensures { Gives (option_map field_view) result (option_map (field_as (info_of (tree_view node.now)))
+        (type_of (tree_view node.now))) }
 {
     match type_of_node(alloc, node)? {
         Some(data_type) => Ok(Some(field_as_node(alloc, info_of_node(node), data_type)?)),

@@ -59,7 +59,8 @@ pub fn schema_to_metadata_key<C: SchemaCodec>(
     ensures ok { IfOk result (λ k. key_view k ≡ schema_entry (C.bytes_of codec.now (schema_view schema.now))) }
     ensures small { OnOk result (length (C.bytes_of codec.now (schema_view schema.now)) ≤ max_length) }
     ensures decodable { OnOk result (IsDecodable (C.bytes_of codec.now (schema_view schema.now))) }
-    ensures err { IfErr result (λ e. (e ≡ Memory) ⊎ ((e ≡ Overflow V3) × (max_length < length (C.bytes_of codec.now (schema_view schema.now))))) }
+    ensures err { IfErr result (λ e. (e ≡ Memory) ⊎ ((e ≡ Overflow V3)
+        × (max_length < length (C.bytes_of codec.now (schema_view schema.now))))) }
 {
     let bytes = match codec.encode(alloc, schema) {
         Ok(bytes) => bytes,
@@ -86,10 +87,12 @@ pub fn add_arrow_schema<C: SchemaCodec>(
     key_value_metadata: Option<Vec<KeyValue>>,
     codec: &C,
 ) -> Result<Option<Vec<KeyValue>>>
-    ensures ok { IfOk result (λ o. option_map (λ v. map key_view v.items) o ≡ Some (keys_in key_value_metadata ++ schema_entry (C.bytes_of codec.now (schema_view schema.now)) ∷ [])) }
+    ensures ok { IfOk result (λ o. option_map (λ v. map key_view v.items) o
+        ≡ Some (keys_in key_value_metadata ++ schema_entry (C.bytes_of codec.now (schema_view schema.now)) ∷ [])) }
     ensures small { OnOk result (length (C.bytes_of codec.now (schema_view schema.now)) ≤ max_length) }
     ensures decodable { OnOk result (IsDecodable (C.bytes_of codec.now (schema_view schema.now))) }
-    ensures err { IfErr result (λ e. (e ≡ Memory) ⊎ ((e ≡ Overflow V3) × (max_length < length (C.bytes_of codec.now (schema_view schema.now))))) }
+    ensures err { IfErr result (λ e. (e ≡ Memory) ⊎ ((e ≡ Overflow V3)
+        × (max_length < length (C.bytes_of codec.now (schema_view schema.now))))) }
 {
     let mut entries = match key_value_metadata {
         Some(entries) => entries,

@@ -67,7 +67,8 @@ fn bytes_of_text(alloc: Global, text: &str) -> Result<Vec<u8>>
 fn schema_of_bytes<C: SchemaCodec>(alloc: Global, bytes: &[u8], codec: &C) -> Result<Schema>
     ensures ok { IfOk result (λ s. C.reads codec.now bytes.now ≡ Some (schema_view s)) }
     ensures shallow { IfOk result (λ s. fields_nesting (schema_view s).fields ≤ max_nesting) }
-    ensures err { IfErr result (λ e. (e ≡ Memory) ⊎ ((e ≡ InvalidArgumentError A2) × (C.reads codec.now bytes.now ≡ None))) }
+    ensures err { IfErr result (λ e. (e ≡ Memory) ⊎ ((e ≡ InvalidArgumentError A2)
+        × (C.reads codec.now bytes.now ≡ None))) }
 {
     match codec.decode(alloc, bytes) {
         Ok(Some(schema)) => Ok(schema),
@@ -80,7 +81,8 @@ fn schema_of_bytes<C: SchemaCodec>(alloc: Global, bytes: &[u8], codec: &C) -> Re
 fn schema_from_text<C: SchemaCodec>(alloc: Global, text: &str, codec: &C) -> Result<Schema>
     ensures ok { IfOk result (λ s. schema_in (C.reads codec.now) text.now ≡ Some (schema_view s)) }
     ensures shallow { IfOk result (λ s. fields_nesting (schema_view s).fields ≤ max_nesting) }
-    ensures err { IfErr result (λ e. (e ≡ Memory) ⊎ ((e ≡ InvalidArgumentError A2) × (schema_in (C.reads codec.now) text.now ≡ None))) }
+    ensures err { IfErr result (λ e. (e ≡ Memory) ⊎ ((e ≡ InvalidArgumentError A2)
+        × (schema_in (C.reads codec.now) text.now ≡ None))) }
 {
     let framed = bytes_of_text(alloc, text)?;
     let Some(bytes) = without_frame(&framed) else {
@@ -103,9 +105,11 @@ pub fn read_schema_from_metadata<C: SchemaCodec>(
     codec: &C,
 ) -> Result<Option<Schema>>
     ensures taken { metadata.new ≡ without_key schema_key metadata.old }
-    ensures ok { IfOk result (λ o. schema_under (C.reads codec.now) (text_at schema_key metadata.old) ≡ Some (option_map schema_view o)) }
+    ensures ok { IfOk result (λ o. schema_under (C.reads codec.now) (text_at schema_key metadata.old)
+        ≡ Some (option_map schema_view o)) }
     ensures shallow { IfOk result (λ o. IfSome o (λ s. fields_nesting (schema_view s).fields ≤ max_nesting)) }
-    ensures err { IfErr result (λ e. (e ≡ Memory) ⊎ ((e ≡ InvalidArgumentError A2) × (schema_under (C.reads codec.now) (text_at schema_key metadata.old) ≡ None))) }
+    ensures err { IfErr result (λ e. (e ≡ Memory) ⊎ ((e ≡ InvalidArgumentError A2)
+        × (schema_under (C.reads codec.now) (text_at schema_key metadata.old) ≡ None))) }
 {
     let Some(text) = metadata.remove(SCHEMA_KEY) else {
         return Ok(None);
@@ -124,9 +128,11 @@ fn schema_by_rule<C: SchemaCodec>(
     codec: &C,
 ) -> Result<Option<Schema>>
     ensures taken { metadata.new ≡ without_key schema_key metadata.old }
-    ensures ok { IfOk result (λ o. schema_under (C.reads codec.now) (counting rule metadata.old) ≡ Some (option_map schema_view o)) }
+    ensures ok { IfOk result (λ o. schema_under (C.reads codec.now) (counting rule metadata.old)
+        ≡ Some (option_map schema_view o)) }
     ensures shallow { IfOk result (λ o. IfSome o (λ s. fields_nesting (schema_view s).fields ≤ max_nesting)) }
-    ensures err { IfErr result (λ e. (e ≡ Memory) ⊎ ((e ≡ InvalidArgumentError A2) × (schema_under (C.reads codec.now) (counting rule metadata.old) ≡ None))) }
+    ensures err { IfErr result (λ e. (e ≡ Memory) ⊎ ((e ≡ InvalidArgumentError A2)
+        × (schema_under (C.reads codec.now) (counting rule metadata.old) ≡ None))) }
 {
     match rule {
         KeyRule::Use => read_schema_from_metadata(alloc, metadata, codec),
@@ -138,7 +144,8 @@ fn schema_by_rule<C: SchemaCodec>(
 }
 
 fn put(metadata: &mut Metadata, entry: &KeyValue) -> Result<()>
-    ensures ok { OnOk result (metadata.new ≡ with_value metadata.old (key_view entry.now).key (key_view entry.now).«value») }
+    ensures ok { OnOk result (metadata.new ≡ with_value metadata.old (key_view entry.now).key
+        (key_view entry.now).«value») }
     ensures err { IfErr result (λ e. e ≡ Memory) }
 {
     let Some(value) = &entry.value else {
@@ -189,9 +196,17 @@ pub fn infer_schema<C: SchemaCodec>(
     rule: KeyRule,
     codec: &C,
 ) -> Result<Schema>
-    ensures ok { IfOk result (λ s. inferred (C.reads codec.now) rule (keys_in file_metadata.now.key_value_metadata) (fields_of (arrow_fields (trees_view file_metadata.now.schema_descr.fields))) ≡ Some (schema_view s)) }
+    ensures ok { IfOk result (λ s. inferred (C.reads codec.now) rule (keys_in file_metadata.now.key_value_metadata)
+        (fields_of (arrow_fields (trees_view file_metadata.now.schema_descr.fields))) ≡ Some (schema_view s)) }
     ensures shallow { IfOk result (λ s. fields_nesting (schema_view s).fields ≤ max_nesting) }
-    ensures err { IfErr result (λ e. (e ≡ Memory) ⊎ ((e ≡ InvalidArgumentError A2) × (inferred (C.reads codec.now) rule (keys_in file_metadata.now.key_value_metadata) (fields_of (arrow_fields (trees_view file_metadata.now.schema_descr.fields))) ≡ None)) ⊎ ((e ≡ NotYetImplemented N7) × (s : SchemaTree) × (inferred (C.reads codec.now) rule (keys_in file_metadata.now.key_value_metadata) (fields_of (arrow_fields (trees_view file_metadata.now.schema_descr.fields))) ≡ Some s) × (max_nesting < fields_nesting s.fields))) }
+    ensures err { IfErr result (λ e. (e ≡ Memory) ⊎ ((e ≡ InvalidArgumentError A2)
+        ×
+        (inferred (C.reads codec.now) rule (keys_in file_metadata.now.key_value_metadata)
+        (fields_of (arrow_fields (trees_view file_metadata.now.schema_descr.fields))) ≡ None))
+        ⊎ ((e ≡ NotYetImplemented N7) × (s : SchemaTree) ×
+        (inferred (C.reads codec.now) rule (keys_in file_metadata.now.key_value_metadata)
+        (fields_of (arrow_fields (trees_view file_metadata.now.schema_descr.fields))) ≡ Some s)
+        × (max_nesting < fields_nesting s.fields))) }
 {
     let mut metadata = gather_all(alloc, &file_metadata.key_value_metadata)?;
     if let Some(schema) = schema_by_rule(alloc, &mut metadata, rule, codec)? {

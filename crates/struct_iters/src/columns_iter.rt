@@ -29,7 +29,8 @@ pub struct ColumnsIter<I: Pages> {
 impl<I: Pages + Drop> ColumnsIter<I> {
     // The next pieces, joined.
     fn next_piece(&mut self) -> Option<Result<ColumnPiece>>
-        ensures gives { (above : List Above) (n : Bool) (t : TypeTree) (xs : List Progress) → IsGivingItems above n t xs (columns_in self.old) → GivesPiece above n t xs result (columns_in self.new) }
+        ensures gives { (above : List Above) (n : Bool) (t : TypeTree) (xs : List Progress)
+            → IsGivingItems above n t xs (columns_in self.old) → GivesPiece above n t xs result (columns_in self.new) }
         ensures ended { AreGone (columns_in self.old).readers → (result ≡ None) × AreGone (columns_in self.new).readers }
         ensures gone { result ≡ None → AreGone (columns_in self.new).readers }
     {
@@ -56,7 +57,8 @@ impl<I: Pages + Drop> ColumnsIter<I> {
     /// - `Overflow(V1)`: a list has more items than its offsets count.
     /// - `Memory`.
     pub fn next(&mut self) -> Option<Result<(NestedState, ArrayBox)>>
-        ensures gives { (above : List Above) (n : Bool) (t : TypeTree) (xs : List Progress) → IsGivingItems above n t xs (columns_in self.old) → GivesItem above n t xs result (columns_in self.new) }
+        ensures gives { (above : List Above) (n : Bool) (t : TypeTree) (xs : List Progress)
+            → IsGivingItems above n t xs (columns_in self.old) → GivesItem above n t xs result (columns_in self.new) }
         ensures ends { IsAtEnd result (columns_in self.new) }
         ensures ended { AreGone (columns_in self.old).readers → (result ≡ None) × AreGone (columns_in self.new).readers }
     {

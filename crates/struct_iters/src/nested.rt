@@ -40,7 +40,8 @@ impl<I: Pages + Drop> NestedArrayIter<I> {
     ///
     /// Those of `ColumnsIter` and of `StructIterator`.
     pub fn next(&mut self) -> Option<Result<(NestedState, ArrayBox)>>
-        ensures gives { (above : List Above) (n : Bool) (t : TypeTree) (xs : List Progress) → IsGivingItems above n t xs (items_in self.old) → GivesItem above n t xs result (items_in self.new) }
+        ensures gives { (above : List Above) (n : Bool) (t : TypeTree) (xs : List Progress)
+            → IsGivingItems above n t xs (items_in self.old) → GivesItem above n t xs result (items_in self.new) }
         ensures ends { IsAtEnd result (items_in self.new) }
         ensures ended { AreGone (items_in self.old).readers → (result ≡ None) × AreGone (items_in self.new).readers }
     {

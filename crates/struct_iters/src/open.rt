@@ -59,9 +59,13 @@ pub fn columns_to_iter_recursive<I: Pages + Drop>(
     chunk_size: Option<usize>,
 ) -> Result<NestedArrayIter<I>>
     requires { field_nesting (field_view field) ≤ 128 }
-    ensures ok { (above : List Above) (xs : List Lane) → OpenBeneath above (field_view field) xs init.items (map I.outcomes columns.items) (map physical_in types.items) num_rows chunk_size → IfOk result (λ it. IsGivingItems above field.is_nullable (type_view field.data_type) (map begun xs) (items_in it)) }
+    ensures ok { (above : List Above) (xs : List Lane) → OpenBeneath above (field_view field) xs init.items
+        (map I.outcomes columns.items) (map physical_in types.items) num_rows chunk_size
+        → IfOk result (λ it. IsGivingItems above field.is_nullable (type_view field.data_type) (map begun xs)
+        (items_in it)) }
     ensures size { IsErrOf result (InvalidArgumentError A1) ↔ (chunk_size ≡ Some 0) }
-    ensures err { IfErr result (CannotOpen (field_view field) init.items (length columns.items) (map physical_in types.items) chunk_size) }
+    ensures err { IfErr result (CannotOpen (field_view field) init.items (length columns.items)
+        (map physical_in types.items) chunk_size) }
 {
     if chunk_size == Some(0) {
         return Err(Error::InvalidArgumentError(A::A1));

@@ -36,9 +36,13 @@ pub(crate) fn take_pieces<I: Pages + Drop>(
     alloc: Global,
     columns: &mut Vec<Option<Column<I>>>,
 ) -> Result<Vec<ColumnPiece>>
-    ensures ok { (xs : List Progress) → AreAt xs columns.old.items → IfOk result (λ pieces. (took : List (Option (List Triple))) × (length took ≡ length columns.new.items) × AreTaken took xs columns.new.items pieces.items) }
-    ensures err { (xs : List Progress) → AreAt xs columns.old.items → IfErr result (λ e. (e ≡ Memory) ⊎ AnyOf (λ x. RefusesPiece x.opening e) xs) }
-    ensures ended { AreGone columns.old.items → MatchResult result (λ pieces. (pieces.items ≡ []) × AreGone columns.new.items) (λ e. ⊥) }
+    ensures ok { (xs : List Progress) → AreAt xs columns.old.items
+        → IfOk result (λ pieces. (took : List (Option (List Triple))) × (length took ≡ length columns.new.items)
+        × AreTaken took xs columns.new.items pieces.items) }
+    ensures err { (xs : List Progress) → AreAt xs columns.old.items
+        → IfErr result (λ e. (e ≡ Memory) ⊎ AnyOf (λ x. RefusesPiece x.opening e) xs) }
+    ensures ended { AreGone columns.old.items → MatchResult result (λ pieces. (pieces.items ≡ [])
+        × AreGone columns.new.items) (λ e. ⊥) }
     ensures gone { IfOk result (λ pieces. pieces.items ≡ [] → AreGone columns.new.items) }
 {
     let mut pieces = Vec::new(alloc);

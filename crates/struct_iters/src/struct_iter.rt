@@ -54,9 +54,12 @@ impl<I: Pages + Drop> StructIterator<I> {
     /// - `InvalidArgumentError(A8)`: exactly where the numbers differ or are 0.
     /// - `Memory`.
     pub fn new(alloc: Global, iters: Vec<NestedArrayIter<I>>, fields: Vec<Field>) -> Result<Self>
-        ensures ok { (above : List Above) (n : Bool) (xs : List Progress) → AreChildren above n 0 (fields_view fields.items) (map items_in iters.items) xs → IfOk result (λ it. IsGivingItems above n (t_struct (fields_view fields.items)) xs (struct_in it)) }
+        ensures ok { (above : List Above) (n : Bool) (xs : List Progress)
+            → AreChildren above n 0 (fields_view fields.items) (map items_in iters.items) xs
+            → IfOk result (λ it. IsGivingItems above n (t_struct (fields_view fields.items)) xs (struct_in it)) }
         ensures typed { IfOk result (λ it. (struct_in it).type ≡ t_struct (fields_view fields.items)) }
-        ensures numbers { IsErrOf result (InvalidArgumentError A8) ↔ ((iters.items ≡ []) ⊎ (length iters.items ≢ length fields.items)) }
+        ensures numbers { IsErrOf result (InvalidArgumentError A8) ↔ ((iters.items ≡ [])
+            ⊎ (length iters.items ≢ length fields.items)) }
         ensures err { IfErr result (λ e. (e ≡ Memory) ⊎ (e ≡ InvalidArgumentError A8)) }
     {
         if iters.is_empty() {
@@ -81,7 +84,9 @@ impl<I: Pages + Drop> StructIterator<I> {
         requires same { base (type_view data_type) ≡ base (struct_in self).type }
         requires is_struct { is_struct_type (base (struct_in self).type) ≡ true }
         ensures typed { (struct_in result).type ≡ type_view data_type }
-        ensures gives { (above : List Above) (n : Bool) (t : TypeTree) (xs : List Progress) → IsGivingItems above n t xs (struct_in self) → IsGivingItems above n (type_view data_type) xs (struct_in result) }
+        ensures gives { (above : List Above) (n : Bool) (t : TypeTree) (xs : List Progress)
+            → IsGivingItems above n t xs (struct_in self) → IsGivingItems above n (type_view data_type) xs
+            (struct_in result) }
     {
         let children = self.children;
         StructIterator {
@@ -101,7 +106,8 @@ impl<I: Pages + Drop> StructIterator<I> {
     /// - `OutOfSpec(S10)`: the children disagree on the parts above them, the struct's among them, or one ends before another.
     /// - `Memory`.
     pub fn next(&mut self) -> Option<Result<(NestedState, ArrayBox)>>
-        ensures gives { (above : List Above) (n : Bool) (t : TypeTree) (xs : List Progress) → IsGivingItems above n t xs (struct_in self.old) → GivesItem above n t xs result (struct_in self.new) }
+        ensures gives { (above : List Above) (n : Bool) (t : TypeTree) (xs : List Progress)
+            → IsGivingItems above n t xs (struct_in self.old) → GivesItem above n t xs result (struct_in self.new) }
         ensures ends { IsAtEnd result (struct_in self.new) }
         ensures ended { AreGone (struct_in self.old).readers → (result ≡ None) × AreGone (struct_in self.new).readers }
     {

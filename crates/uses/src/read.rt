@@ -27,8 +27,11 @@ pub fn field_to_array<I: Pages + Drop>(
     num_rows: usize,
 ) -> Result<Option<ArrayBox>>
     requires { field_nesting (field_view field) ≤ 128 }
-    ensures ok { (o : Opening) → Opens o (field_view field) (map I.outcomes columns.items) (map (λ t. physical_view t.physical_type) types.items) None num_rows → IfOk result (λ array. Assembled o (arrays_in array)) }
-    ensures err { (o : Opening) → Opens o (field_view field) (map I.outcomes columns.items) (map (λ t. physical_view t.physical_type) types.items) None num_rows → IfErr result (Refuses o) }
+    ensures ok { (o : Opening) → Opens o (field_view field) (map I.outcomes columns.items)
+        (map (λ t. physical_view t.physical_type) types.items) None num_rows
+        → IfOk result (λ array. Assembled o (arrays_in array)) }
+    ensures err { (o : Opening) → Opens o (field_view field) (map I.outcomes columns.items)
+        (map (λ t. physical_view t.physical_type) types.items) None num_rows → IfErr result (Refuses o) }
 {
     let mut arrays = column_iter_to_arrays(alloc, columns, types, field, None, num_rows)?;
     let array = match arrays.next() {

@@ -26,7 +26,8 @@ pub fn schema_there_and_back<C: SchemaCodec>(
 ) -> Result<Schema>
     requires { fields_nesting (schema_view schema.now).fields ≤ 128 }
     ensures ok { IfOk result (λ again. schema_view again ≡ schema_view schema.now) }
-    ensures err { IfErr result (λ e. RefusesSchema (schema_view schema.now).fields e ⊎ IsTooLong (C.bytes_of codec.now (schema_view schema.now)) e) }
+    ensures err { IfErr result (λ e. RefusesSchema (schema_view schema.now).fields e
+        ⊎ IsTooLong (C.bytes_of codec.now (schema_view schema.now)) e) }
 {
     let schema_descr = to_parquet_schema(alloc, schema)?;
     let key_value_metadata = add_arrow_schema(alloc, schema, None, codec)?;

@@ -36,8 +36,10 @@ pub fn arrays_to_file<K: Sink + Drop, C: SchemaCodec>(
     options: WriteOptions,
     codec: &C,
 ) -> Result<K>
-    ensures ok { IfOk result (λ k. IsFileOf (K.taken sink) (K.taken k) (schema_view schema) (C.bytes_of codec.now (schema_view schema)) options chunk) }
-    ensures err { IfErr result (RefusesFile (schema_view schema) (C.bytes_of codec.now (schema_view schema)) options chunk (map (λ es. es.items) encodings.items)) }
+    ensures ok { IfOk result (λ k. IsFileOf (K.taken sink) (K.taken k) (schema_view schema)
+        (C.bytes_of codec.now (schema_view schema)) options chunk) }
+    ensures err { IfErr result (RefusesFile (schema_view schema)
+        (C.bytes_of codec.now (schema_view schema)) options chunk (map (λ es. es.items) encodings.items)) }
 {
     let mut writer = FileWriter::try_new(alloc, sink, schema, options)?;
     let trees = copy_trees(alloc, writer.parquet_schema().fields())?;

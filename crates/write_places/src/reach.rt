@@ -127,7 +127,8 @@ fn closed_lists<O: Offset>(
     requires low { word < 2 ^ count }
     requires within { place + count < length offsets.now }
     ensures few { result ≤ count }
-    ensures closed { (i : ℕ) → i < result → bit_at word i ≡ 0 → item_start offsets.now (place + i) ≡ item_start offsets.now (place + i + 1) }
+    ensures closed { (i : ℕ) → i < result → bit_at word i ≡ 0 → item_start offsets.now (place + i)
+        ≡ item_start offsets.now (place + i + 1) }
 {
     let _lists = offsets.len_proxy();
     let mut absent = word ^ full_word(count);
@@ -183,10 +184,12 @@ fn next_range<O: Offset>(
 ) -> (usize, usize, usize)
     requires well { IsPath (parts_of parts.now) }
     requires tell { TellThere (parts_of parts.now) masks }
-    requires foot { IsListFoot (parts_of parts.now) (length parts.now) list.now.offsets (parts_of rest.now) (length rest.now) }
+    requires foot { IsListFoot (parts_of parts.now) (length parts.now) list.now.offsets (parts_of rest.now)
+        (length rest.now) }
     requires some { place < to }
     requires within { to ≤ slot_count (parts_of parts.now) }
-    ensures { IsRange (parts_of parts.now) (parts_of rest.now) (item_span list.now.offsets) place to result.0 result.1 result.2 }
+    ensures { IsRange (parts_of parts.now) (parts_of rest.now)
+        (item_span list.now.offsets) place to result.0 result.1 result.2 }
 {
     let end = closed_end(masks, parts, &list.offsets, place, to);
     if end == place {
@@ -210,7 +213,8 @@ fn reach_lists<'a, O: Offset>(
 ) -> Reach<'a>
     requires well { IsPath (parts_of parts.now) }
     requires tell { TellThere (parts_of parts.now) masks }
-    requires foot { IsListFoot (parts_of parts.now) (length parts.now) list.now.offsets (parts_of rest.now) (length rest.now) }
+    requires foot { IsListFoot (parts_of parts.now) (length parts.now) list.now.offsets (parts_of rest.now)
+        (length rest.now) }
     requires some { place < to }
     requires within { to ≤ slot_count (parts_of parts.now) }
     ensures { IsReach (parts_of parts.now) (length parts.now) place to result }

@@ -31,7 +31,8 @@ pub trait Taker: Drop {
         ensures sound { sound self.new }
         ensures limit { limit self.new ≡ limit self.old }
         ensures accepts { (places : List ℕ) → accepts self.old places → accepts self.new places }
-        ensures taken { OnOk result ((first : Self) (places : List ℕ) → has first self.old places → has first self.new (places ++ range from (to - from))) }
+        ensures taken { OnOk result ((first : Self) (places : List ℕ) → has first self.old places
+            → has first self.new (places ++ range from (to - from))) }
         ensures refused { IfErr result (refuses self.old) }
         ensures same { (e : Error) → refuses self.new e → refuses self.old e };
 
@@ -45,7 +46,8 @@ pub trait Taker: Drop {
         ensures sound { sound self.new }
         ensures limit { limit self.new ≡ limit self.old }
         ensures accepts { (places : List ℕ) → accepts self.old places → accepts self.new places }
-        ensures taken { OnOk result ((first : Self) (places : List ℕ) → has first self.old places → has first self.new (places ++ picked bits from count)) }
+        ensures taken { OnOk result ((first : Self) (places : List ℕ) → has first self.old places
+            → has first self.new (places ++ picked bits from count)) }
         ensures refused { IfErr result (refuses self.old) }
         ensures same { (e : Error) → refuses self.new e → refuses self.old e };
 

@@ -120,7 +120,9 @@ fn masks_within<'a>(mask: &'a Bitmap, inner: &'a Bitmap, rest: &'a [Nested]) -> 
     requires well { IsPath (parts_of rest.now) }
     requires fits { length mask.now ≡ slot_count (parts_of rest.now) }
     requires inner_fits { length inner.now ≡ slot_count (parts_of rest.now) }
-    ensures { (count few : ℕ) → length mask.entry.now ≡ count → length inner.entry.now ≡ few → TellThere (struct_part true (Some mask.entry.now) count ∷ struct_part true (Some inner.entry.now) few ∷ parts_of rest.entry.now) result }
+    ensures { (count few : ℕ) → length mask.entry.now ≡ count → length inner.entry.now ≡ few
+        → TellThere (struct_part true (Some mask.entry.now) count ∷ struct_part true (Some inner.entry.now) few
+        ∷ parts_of rest.entry.now) result }
 {
     if is_full(rest) {
         return Masks::Both(mask, inner);
@@ -138,7 +140,8 @@ fn masks_within<'a>(mask: &'a Bitmap, inner: &'a Bitmap, rest: &'a [Nested]) -> 
 fn masks_under<'a>(mask: &'a Bitmap, rest: &'a [Nested]) -> Masks<'a>
     requires well { IsPath (parts_of rest.now) }
     requires fits { length mask.now ≡ slot_count (parts_of rest.now) }
-    ensures { (count : ℕ) → length mask.entry.now ≡ count → TellThere (struct_part true (Some mask.entry.now) count ∷ parts_of rest.entry.now) result }
+    ensures { (count : ℕ) → length mask.entry.now ≡ count → TellThere
+        (struct_part true (Some mask.entry.now) count ∷ parts_of rest.entry.now) result }
 {
     if is_full(rest) {
         return Masks::Sole(mask);

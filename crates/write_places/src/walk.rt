@@ -60,7 +60,8 @@ fn step<T: Taker>(
     ensures limit { T.limit taker.new ≡ T.limit taker.old }
     ensures accepts { (places : List ℕ) → T.accepts taker.old places → T.accepts taker.new places }
     ensures after { IfOk result (λ next. (place < next) × (next ≤ to)) }
-    ensures taken { IfOk result (λ next. (first : T) (places : List ℕ) → T.has first taker.old places → T.has first taker.new (places ++ gather (slot_places (parts_of parts.now)) place (next - place))) }
+    ensures taken { IfOk result (λ next. (first : T) (places : List ℕ) → T.has first taker.old places
+        → T.has first taker.new (places ++ gather (slot_places (parts_of parts.now)) place (next - place))) }
     ensures refused { IfErr result (T.refuses taker.old) }
     ensures same { (e : Error) → T.refuses taker.new e → T.refuses taker.old e }
 {
@@ -103,7 +104,8 @@ fn walk_by<T: Taker>(
     ensures sound { T.sound taker.new }
     ensures limit { T.limit taker.new ≡ T.limit taker.old }
     ensures accepts { (places : List ℕ) → T.accepts taker.old places → T.accepts taker.new places }
-    ensures taken { OnOk result ((first : T) (places : List ℕ) → T.has first taker.old places → T.has first taker.new (places ++ gather (slot_places (parts_of parts.now)) from (to - from))) }
+    ensures taken { OnOk result ((first : T) (places : List ℕ) → T.has first taker.old places
+        → T.has first taker.new (places ++ gather (slot_places (parts_of parts.now)) from (to - from))) }
     ensures refused { IfErr result (T.refuses taker.old) }
     ensures same { (e : Error) → T.refuses taker.new e → T.refuses taker.old e }
 {
@@ -135,7 +137,8 @@ fn walk_leaves<T: Taker>(
     ensures sound { T.sound taker.new }
     ensures limit { T.limit taker.new ≡ T.limit taker.old }
     ensures accepts { (places : List ℕ) → T.accepts taker.old places → T.accepts taker.new places }
-    ensures taken { OnOk result ((first : T) (places : List ℕ) → T.has first taker.old places → T.has first taker.new (places ++ gather (slot_places (parts_of parts.now)) from (to - from))) }
+    ensures taken { OnOk result ((first : T) (places : List ℕ) → T.has first taker.old places
+        → T.has first taker.new (places ++ gather (slot_places (parts_of parts.now)) from (to - from))) }
     ensures refused { IfErr result (T.refuses taker.old) }
     ensures same { (e : Error) → T.refuses taker.new e → T.refuses taker.old e }
 {
@@ -165,7 +168,8 @@ fn walk<T: Taker>(taker: &mut T, parts: &[Nested], from: usize, to: usize) -> Re
     ensures sound { T.sound taker.new }
     ensures limit { T.limit taker.new ≡ T.limit taker.old }
     ensures accepts { (places : List ℕ) → T.accepts taker.old places → T.accepts taker.new places }
-    ensures taken { OnOk result ((first : T) (places : List ℕ) → T.has first taker.old places → T.has first taker.new (places ++ gather (slot_places (parts_of parts.now)) from (to - from))) }
+    ensures taken { OnOk result ((first : T) (places : List ℕ) → T.has first taker.old places
+        → T.has first taker.new (places ++ gather (slot_places (parts_of parts.now)) from (to - from))) }
     ensures refused { IfErr result (T.refuses taker.old) }
     ensures same { (e : Error) → T.refuses taker.new e → T.refuses taker.old e }
 {

@@ -45,7 +45,8 @@ fn greater<T: OrderedNative>(greatest: T, number: T) -> T
 
 // Those of a number more.
 pub fn with_number<T: OrderedNative>(extremes: Extremes<T>, number: T) -> Extremes<T>
-    ensures { (xs : List T) → AreExtremes T.ordinal xs extremes.least extremes.greatest → AreExtremes T.ordinal (xs ++ number ∷ []) result.least result.greatest }
+    ensures { (xs : List T) → AreExtremes T.ordinal xs extremes.least extremes.greatest
+        → AreExtremes T.ordinal (xs ++ number ∷ []) result.least result.greatest }
 {
     match (extremes.least, extremes.greatest) {
         (Some(least), Some(greatest)) => Extremes {

@@ -34,7 +34,8 @@ fn with_kept<T: OrderedNative>(
 ) -> Extremes<T>
     requires same { length mask.now ≡ length values.now }
     requires within { i < length values.now }
-    ensures { AreExtremes T.ordinal (kept (take i mask.now) (take i values.now)) extremes.least extremes.greatest → AreExtremes T.ordinal (kept (take (i + 1) mask.now) (take (i + 1) values.now)) result.least result.greatest }
+    ensures { AreExtremes T.ordinal (kept (take i mask.now) (take i values.now)) extremes.least extremes.greatest
+        → AreExtremes T.ordinal (kept (take (i + 1) mask.now) (take (i + 1) values.now)) result.least result.greatest }
 {
     if mask.get_bit(i) {
         with_number(extremes, values[i])
@@ -99,9 +100,12 @@ pub fn build_statistics<T: OrderedNative + StoredAs<P>, P: PlainNumber>(
     requires ordered { has_order (leaf_type (base array.now.0)) ≡ true }
     requires storable { All T.is_storable (present array.now.1.1 array.now.1.0) }
     ensures about { result.primitive_type ≡ primitive_type }
-    ensures nulls { MatchOption result.null_count (2 ^ 63 ≤ nulls_in array.now.1.1) (λ n. n ≡ pos (nulls_in array.now.1.1)) }
+    ensures nulls { MatchOption result.null_count (2 ^ 63 ≤ nulls_in array.now.1.1) (λ n. n
+        ≡ pos (nulls_in array.now.1.1)) }
     ensures none { present array.now.1.1 array.now.1.0 ≡ [] → (result.min_value ≡ None) × (result.max_value ≡ None) }
-    ensures bounds { HasBounds (leaf_type (base array.now.0)) (physical_view P.physical) true (bounds_of P.stored result.min_value result.max_value) (map (T.value (base array.now.0)) (present array.now.1.1 array.now.1.0)) }
+    ensures bounds { HasBounds (leaf_type (base array.now.0)) (physical_view P.physical) true
+        (bounds_of P.stored result.min_value result.max_value)
+        (map (T.value (base array.now.0)) (present array.now.1.1 array.now.1.0)) }
 {
     array.know();
     let extremes = extremes_of(array);
