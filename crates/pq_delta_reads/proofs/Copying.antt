@@ -77,23 +77,6 @@ pub record Walking (first d : Decoding) : Type 0 where
   pub come : all done ++ d.items ≡ first.items
   pub total : d.total ≡ first.total
 
-pub walking_begin : (d : Decoding) → Walking d d
-walking_begin d = record { done = []; come = refl; total = refl }
-
-pub walking_more : (first d d' : Decoding) (z : ℤ) → d.items ≡ Ok z ∷ d'.items → d'.total ≡ d.total → Walking first d → Walking first d'
-walking_more first d d' z e t w = record {
-  done = w.done ++ z ∷ [];
-  come = ap (λ (x : List (Result ℤ Error)). x ++ d'.items) (map-append Ok w.done (z ∷ [])) ∙ append_assoc (all w.done) (Ok z ∷ []) d'.items ∙ ap (λ (x : List (Result ℤ Error)). all w.done ++ x) (sym e) ∙ w.come;
-  total = t ∙ w.total;
-}
-
-pub walking_block : (first d d' : Decoding) (ns : List ℕ) → d.items ≡ all (signed ns) ++ d'.items → d'.total ≡ d.total → Walking first d → Walking first d'
-walking_block first d d' ns e t w = record {
-  done = w.done ++ signed ns;
-  come = ap (λ (x : List (Result ℤ Error)). x ++ d'.items) (map-append Ok w.done (signed ns)) ∙ append_assoc (all w.done) (all (signed ns)) d'.items ∙ ap (λ (x : List (Result ℤ Error)). all w.done ++ x) (sym e) ∙ w.come;
-  total = t ∙ w.total;
-}
-
 pub lengths_none : (count : ℕ) (section : List ℕ) → head_at section ≡ None → SpellsNone AreDeltaLengths count section
 lengths_none count section none = λ vs n b. (
     let r = (strings_read section vs b).2 in

@@ -6,3 +6,4 @@ pub mod Fields
 pub mod Narrow
 pub mod Steps
 pub mod Whole
+pub mod Passing

@@ -5,7 +5,7 @@ use Rattle.pq_runs.specs.DeltaReading.{Head, all, head_at, numbers_of}
 use Rattle.pq_runs.specs.Hybrid.{fault}
 use Rattle.pq_delta_reads.specs.Blocks.{signed}
 use Rattle.pq_delta_reads.specs.declared.state.State.{State}
-use Rattle.pq_delta_reads.specs.Reading.{items, left_of, taken, total}
+use Rattle.pq_delta_reads.specs.Reading.{items, left_of, taken, total, zeroed, zeros_then}
 
 -- what still comes, how many numbers are left by the header's count, and the bytes that were taken so far and will have been in the end
 pub record Decoding : Type 0 where
@@ -39,3 +39,9 @@ abbrev pub StepsBlock : Decoding → Option (Result ℕ Error) → List ℕ → 
 StepsBlock d None ns d' = Steps d None d'
 StepsBlock d (Some (Ok n)) ns d' = (0 < n) × (n ≤ 32) × (d.items ≡ all (signed (take n ns)) ++ d'.items) × (d.left ≡ n + d'.left) × (d'.total ≡ d.total)
 StepsBlock d (Some (Err e)) ns d' = Steps d (Some (Err e)) d'
+
+-- So many items at once, whose numbers are not told.
+abbrev pub PassesBlock : Decoding → Option (Result ℕ Error) → Decoding → Type 0
+PassesBlock d None d' = Steps d None d'
+PassesBlock d (Some (Ok n)) d' = (0 < n) × (zeroed d.items ≡ zeros_then n (zeroed d'.items)) × (d.left ≡ n + d'.left) × (d'.total ≡ d.total)
+PassesBlock d (Some (Err e)) d' = Steps d (Some (Err e)) d'

@@ -1,5 +1,5 @@
 -- What is left to read of delta packing.
-use Rattle.std.specs.Prelude.{◌≡◌, ◌⊎◌, ℕ, ◌+◌, ◌-◌, ◌*◌, ◌^◌, ◌<◌, ◌≤◌, ℤ, ◌+ℤ◌, List, [], ◌∷◌, ◌++◌, length, Result, Ok, Err, Bool, true, false, if◌then◌else◌, slice_index}
+use Rattle.std.specs.Prelude.{◌≡◌, ◌⊎◌, ℕ, ◌+◌, ◌-◌, ◌*◌, ◌^◌, ◌<◌, ◌≤◌, ℤ, pos, ◌+ℤ◌, List, [], ◌∷◌, ◌++◌, length, replicate, Result, Ok, Err, Bool, true, false, if◌then◌else◌, slice_index}
 use Rattle.std.specs.Int.{w64}
 use Rattle.columns_base.specs.declared.error.Error.{Error}
 use Rattle.pq_numbers.specs.Bits.{unpacked}
@@ -18,6 +18,16 @@ abbrev pub stepped : ℤ → List (Result ℤ Error) → List (Result ℤ Error)
 stepped z [] = []
 stepped z (Ok d ∷ items) = Ok (wrapped w64 (z +ℤ d)) ∷ stepped (wrapped w64 (z +ℤ d)) items
 stepped z (Err e ∷ items) = Err e ∷ []
+
+-- the same items, with 0 in the place of each number
+abbrev pub zeroed : List (Result ℤ Error) → List (Result ℤ Error)
+zeroed [] = []
+zeroed (Ok z ∷ items) = Ok (pos 0) ∷ zeroed items
+zeroed (Err e ∷ items) = Err e ∷ zeroed items
+
+-- so many numbers and then others, where each number is 0
+abbrev pub zeros_then : ℕ → List (Result ℤ Error) → List (Result ℤ Error)
+zeros_then n items = replicate n (Ok (pos 0)) ++ items
 
 -- the deltas behind the miniblock that is being read
 abbrev pub later_of : Bool → ℕ → ℕ → ℤ → List ℕ → ℕ → List ℕ → Out

@@ -6,13 +6,13 @@ ghost use Rattle.pq_runs.specs.DeltaReading.{head_at, is_good};
 ghost use Rattle.pq_runs.specs.Listed.{count as count_of};
 ghost use Rattle.pq_runs.specs.Hybrid.{fault};
 ghost use Rattle.pq_delta_reads.specs.Blocks.{signed};
-ghost use Rattle.pq_delta_reads.specs.Decoding.{IsBegun, IsDecoderOf, Steps, StepsBlock, decoding};
+ghost use Rattle.pq_delta_reads.specs.Decoding.{IsBegun, IsDecoderOf, PassesBlock, Steps, StepsBlock, decoding};
 ghost use Rattle.pq_delta_reads.specs.Reading.{IsState, head_of};
 
 use crate::buffer::Buffer;
 use crate::head::{Head, take_head};
 use crate::state::State;
-use crate::take::{find, find_standing, take, take_block};
+use crate::take::{find, find_standing, pass_standing, take, take_block};
 use columns_base::{Error, Result, S};
 use std::marker::Model;
 
@@ -144,6 +144,23 @@ impl<'a> Decoder<'a> {
         }
         match find_standing(&mut self.state) {
             Ok(()) => Some(Ok(take_block(&mut self.state, numbers))),
+            Err(e) => Some(Err(e)),
+        }
+    }
+
+    // Passes over the next numbers, and gives how many. In the place of the first that isn't there comes S6.
+    pub(crate) fn pass_block(&mut self) -> Option<Result<usize>>
+        ensures { PassesBlock self.old result self.new }
+    {
+        if self.len() == 0 {
+            return None;
+        }
+        if self.state.buffer.len() > 0 {
+            let _number = take(&mut self.state);
+            return Some(Ok(1));
+        }
+        match find_standing(&mut self.state) {
+            Ok(()) => Some(Ok(pass_standing(&mut self.state))),
             Err(e) => Some(Err(e)),
         }
     }

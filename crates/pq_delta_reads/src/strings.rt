@@ -26,8 +26,7 @@ fn behind_lengths(section: &[u8], count: usize) -> Result<&[u8]>
     if decoder.len() != count {
         return Err(Error::OutOfSpec(S::S6));
     }
-    let mut lengths = [0; 32];
-    while let Some(item) = decoder.next_block(&mut lengths) {
+    while let Some(item) = decoder.pass_block() {
         if let Err(error) = item {
             return Err(error);
         }

@@ -6,7 +6,7 @@ ghost use Rattle.pq_runs.specs.Delta.{wrapped};
 ghost use Rattle.pq_runs.specs.DeltaReading.{above, all, failed};
 ghost use Rattle.pq_runs.specs.Hybrid.{fault};
 ghost use Rattle.pq_delta_reads.specs.Blocks.{signed};
-ghost use Rattle.pq_delta_reads.specs.Reading.{IsState, Keeps, items, later, left_of, stepped, total};
+ghost use Rattle.pq_delta_reads.specs.Reading.{IsState, Keeps, items, later, left_of, stepped, total, zeroed, zeros_then};
 
 use crate::begin::begin;
 use crate::bits::unpack_into;
@@ -150,5 +150,21 @@ pub fn take_block(state: &mut State<'_>, numbers: &mut [u64; 32]) -> usize
     state.packed = skip(state.packed, 4 * state.width as usize);
     state.standing -= count;
     state.latest = numbers[count - 1].cast_signed();
+    count
+}
+
+// Passes over the numbers of the miniblock that stand there, and gives how many these are. The number before those that follow is not kept.
+pub fn pass_standing(state: &mut State<'_>) -> usize
+    requires is { IsState state.old }
+    requires empty { length state.old.buffer ≡ 0 }
+    requires some { 0 < state.old.standing }
+    ensures is { IsState state.new }
+    ensures some { 0 < result }
+    ensures passed { zeroed (items state.old) ≡ zeros_then result (zeroed (items state.new)) }
+    ensures total { total state.new ≡ total state.old }
+    ensures left { left_of state.old ≡ result + left_of state.new }
+{
+    let count = state.standing;
+    state.standing = 0;
     count
 }

@@ -1,8 +1,8 @@
-use Rattle.pq_delta_reads.proofs.Copying.{Walking}
+use Rattle.pq_delta_reads.proofs.Passing.{Passing}
 use Rattle.pq_delta_reads.proofs.strings.behind_lengths.Given as goal
 
 abbrev pub invariant-loop-item : goal.invariant-loop-item
-invariant-loop-item l = Walking l.initial.decoder l.decoder
+invariant-loop-item l = Passing l.initial.decoder l.decoder
 
 abbrev pub decreases-loop-item : goal.decreases-loop-item
 decreases-loop-item l = l.decoder.left
