@@ -311,6 +311,8 @@ fn unpack_groups(bytes: &[u8], width: u32, numbers: &mut [u64; 32])
 }
 
 // The first 32 numbers, one by one.
+#[cold]
+#[inline(never)]
 fn unpack_each(bytes: &[u8], width: u32) -> [u64; 32]
     requires { width ≤ 64 }
     ensures { result ≡ block_of width bytes.now }
