@@ -48,6 +48,7 @@ fn put_low(places: &mut [u8; 128], numbers: &[u64; 32], count: usize)
 // Appends the first numbers, of 32 bits each.
 fn push_low(
     out: &mut Vec<u8>,
+    places: &mut [u8; 128],
     numbers: &[u64; 32],
     count: usize,
 ) -> std::result::Result<(), AllocError>
@@ -55,11 +56,10 @@ fn push_low(
     ensures ok { OnOk result ((text : List ℕ) × (out.new.items ≡ out.old.items ++ text) × InARow int32 text (values_of w32 (take count numbers.now))) }
     ensures err { OnErr result (out.new.items ≡ out.old.items) }
 {
-    let mut places = [0; 128];
     if count == 32 {
-        put_low(&mut places, numbers, 32);
+        put_low(places, numbers, 32);
     } else {
-        put_low(&mut places, numbers, count);
+        put_low(places, numbers, count);
     }
     out.extend_from_slice(&places[..4 * count])
 }
@@ -95,6 +95,7 @@ fn put_whole(places: &mut [u8; 256], numbers: &[u64; 32], count: usize)
 // Appends the first numbers, of 64 bits each.
 fn push_whole(
     out: &mut Vec<u8>,
+    places: &mut [u8; 256],
     numbers: &[u64; 32],
     count: usize,
 ) -> std::result::Result<(), AllocError>
@@ -102,11 +103,10 @@ fn push_whole(
     ensures ok { OnOk result ((text : List ℕ) × (out.new.items ≡ out.old.items ++ text) × InARow int64 text (values_of w64 (take count numbers.now))) }
     ensures err { OnErr result (out.new.items ≡ out.old.items) }
 {
-    let mut places = [0; 256];
     if count == 32 {
-        put_whole(&mut places, numbers, 32);
+        put_whole(places, numbers, 32);
     } else {
-        put_whole(&mut places, numbers, count);
+        put_whole(places, numbers, count);
     }
     out.extend_from_slice(&places[..8 * count])
 }
@@ -135,9 +135,10 @@ pub fn push_plain_i32(section: &[u8], count: usize, out: &mut Vec<u8>) -> Result
     }
     expect_room(out, count.saturating_mul(4), section.len());
     let mut numbers = [0; 32];
+    let mut places = [0; 128];
     while let Some(item) = decoder.next_block(&mut numbers) {
         match item {
-            Ok(count) => push_low(out, &numbers, count)?,
+            Ok(count) => push_low(out, &mut places, &numbers, count)?,
             Err(error) => return Err(error),
         }
     }
@@ -161,9 +162,10 @@ pub fn push_plain_i64(section: &[u8], count: usize, out: &mut Vec<u8>) -> Result
     }
     expect_room(out, count.saturating_mul(8), section.len());
     let mut numbers = [0; 32];
+    let mut places = [0; 256];
     while let Some(item) = decoder.next_block(&mut numbers) {
         match item {
-            Ok(count) => push_whole(out, &numbers, count)?,
+            Ok(count) => push_whole(out, &mut places, &numbers, count)?,
             Err(error) => return Err(error),
         }
     }

@@ -65,21 +65,19 @@ fn push_string<'a>(out: &mut Vec<u8>, bytes: &'a [u8], size: usize) -> Result<&'
     Ok(rest)
 }
 
-// The same, of at most 32, where so many bytes stand there.
+// The same, of at most 32, where so many bytes stand there. A negative length is a great one without its sign.
 #[inline(always)]
 fn short_length(value: i64, bytes: &[u8]) -> Option<usize>
     ensures { MatchOption result (Unit {0}) (λ n. (wrapped w32 value ≡ pos n) × (n ≤ 32) × (32 ≤ length bytes.now)) }
 {
-    let Some(size) = length_of(value) else {
-        return None;
-    };
-    if size > 32 {
+    let low = (value.cast_unsigned() % (1 << 32)) as u32;
+    if low > 32 {
         return None;
     }
     if bytes.len() < 32 {
         return None;
     }
-    Some(size)
+    Some(low as usize)
 }
 
 // Bytes take their places, and those before them stay.
@@ -151,6 +149,7 @@ fn put_strings<'a>(
 // Appends the strings of the first lengths, and gives the bytes behind them.
 fn push_strings<'a>(
     out: &mut Vec<u8>,
+    places: &mut [u8; 1152],
     bytes: &'a [u8],
     lengths: &[u64; 32],
     count: usize,
@@ -160,8 +159,7 @@ fn push_strings<'a>(
     ensures err { IfErr result (λ e. (e ≡ Memory) ⊎ ((e ≡ fault) × StopsStrings (signed (take count lengths.now)) bytes.now out.old.items)) }
     ensures kept { Extends out.old.items out.new.items }
 {
-    let mut places = [0; 1152];
-    let (first, size, rest) = put_strings(&mut places, bytes, lengths, count);
+    let (first, size, rest) = put_strings(places, bytes, lengths, count);
     out.extend_from_slice(&places[..size])?;
     let mut rest = rest;
     for i in first..count {
@@ -194,12 +192,13 @@ pub fn push_plain_strings(section: &[u8], count: usize, out: &mut Vec<u8>) -> Re
     );
     let mut decoder = Decoder::try_new(section)?;
     let mut lengths = [0; 32];
+    let mut places = [0; 1152];
     while let Some(item) = decoder.next_block(&mut lengths) {
         let count = match item {
             Ok(count) => count,
             Err(error) => return Err(error),
         };
-        bytes = push_strings(out, bytes, &lengths, count)?;
+        bytes = push_strings(out, &mut places, bytes, &lengths, count)?;
     }
     Ok(())
 }
