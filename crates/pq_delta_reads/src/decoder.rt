@@ -122,7 +122,8 @@ impl<'a> Decoder<'a> {
 
     // The bytes behind what was taken of these; none where the last miniblock is cut.
     pub(crate) fn behind<'b>(&self, bytes: &'b [u8]) -> Option<&'b [u8]>
-        ensures { MatchOption result (length bytes.now < self.now.taken) (λ rest. (self.now.taken ≤ length bytes.now) × (rest.now ≡ drop self.now.taken bytes.now)) }
+        ensures { MatchOption result (length bytes.now < self.now.taken) (λ rest. (self.now.taken ≤ length bytes.now)
+            × (rest.now ≡ drop self.now.taken bytes.now)) }
     {
         let taken = self.taken();
         if taken > bytes.len() as u128 {

@@ -53,7 +53,8 @@ fn push_low(
     count: usize,
 ) -> std::result::Result<(), AllocError>
     requires { count ≤ 32 }
-    ensures ok { OnOk result ((text : List ℕ) × (out.new.items ≡ out.old.items ++ text) × InARow int32 text (values_of w32 (take count numbers.now))) }
+    ensures ok { OnOk result ((text : List ℕ) × (out.new.items ≡ out.old.items ++ text)
+        × InARow int32 text (values_of w32 (take count numbers.now))) }
     ensures err { OnErr result (out.new.items ≡ out.old.items) }
 {
     if count == 32 {
@@ -100,7 +101,8 @@ fn push_whole(
     count: usize,
 ) -> std::result::Result<(), AllocError>
     requires { count ≤ 32 }
-    ensures ok { OnOk result ((text : List ℕ) × (out.new.items ≡ out.old.items ++ text) × InARow int64 text (values_of w64 (take count numbers.now))) }
+    ensures ok { OnOk result ((text : List ℕ) × (out.new.items ≡ out.old.items ++ text)
+        × InARow int64 text (values_of w64 (take count numbers.now))) }
     ensures err { OnErr result (out.new.items ≡ out.old.items) }
 {
     if count == 32 {

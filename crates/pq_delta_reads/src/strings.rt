@@ -39,7 +39,8 @@ fn behind_lengths(section: &[u8], count: usize) -> Result<&[u8]>
 
 // The length that a number of 32 bits is: none that is negative.
 fn length_of(value: i64) -> Option<usize>
-    ensures { MatchOption result ((n : ℕ) → wrapped w32 value ≡ pos n → ⊥) (λ n. (wrapped w32 value ≡ pos n) × (n < 2 ^ 31)) }
+    ensures { MatchOption result ((n : ℕ) → wrapped w32 value ≡ pos n → ⊥) (λ n. (wrapped w32 value ≡ pos n)
+        × (n < 2 ^ 31)) }
 {
     let low = (value.cast_unsigned() % (1 << 32)) as u32;
     if low < 1 << 31 {
@@ -130,7 +131,8 @@ fn put_strings<'a>(
     requires few { count ≤ 32 }
     ensures few { result.0 ≤ count }
     ensures fits { result.1 ≤ 1152 }
-    ensures takes { TakesStrings (signed (take result.0 lengths.now)) bytes.now result.2.now [] (take result.1 places.new) }
+    ensures takes { TakesStrings (signed (take result.0 lengths.now)) bytes.now result.2.now []
+        (take result.1 places.new) }
 {
     let mut rest = bytes;
     let mut at = 0;
@@ -155,8 +157,10 @@ fn push_strings<'a>(
     count: usize,
 ) -> Result<&'a [u8]>
     requires { count ≤ 32 }
-    ensures ok { IfOk result (λ rest. TakesStrings (signed (take count lengths.now)) bytes.now rest.now out.old.items out.new.items) }
-    ensures err { IfErr result (λ e. (e ≡ Memory) ⊎ ((e ≡ fault) × StopsStrings (signed (take count lengths.now)) bytes.now out.old.items)) }
+    ensures ok { IfOk result (λ rest. TakesStrings
+        (signed (take count lengths.now)) bytes.now rest.now out.old.items out.new.items) }
+    ensures err { IfErr result (λ e. (e ≡ Memory) ⊎ ((e ≡ fault)
+        × StopsStrings (signed (take count lengths.now)) bytes.now out.old.items)) }
     ensures kept { Extends out.old.items out.new.items }
 {
     let (first, size, rest) = put_strings(places, bytes, lengths, count);

@@ -64,7 +64,8 @@ pub fn find_standing(state: &mut State<'_>) -> Result<()>
     ensures total { total state.new ≡ total state.old }
     ensures empty { length state.new.buffer ≡ 0 }
     ensures found { OnOk result (Keeps state.old state.new × (0 < state.new.standing)) }
-    ensures failed { IfErr result (λ e. (e ≡ fault) × (items state.old ≡ Err e ∷ []) × (items state.new ≡ []) × (left_of state.new ≡ 0)) }
+    ensures failed { IfErr result (λ e. (e ≡ fault) × (items state.old ≡ Err e ∷ []) × (items state.new ≡ [])
+        × (left_of state.new ≡ 0)) }
 {
     if state.standing == 0
         && let Err(error) = begin(state)
@@ -82,7 +83,8 @@ pub fn find(state: &mut State<'_>) -> Result<()>
     ensures is { IsState state.new }
     ensures total { total state.new ≡ total state.old }
     ensures found { OnOk result (Keeps state.old state.new × (0 < length state.new.buffer)) }
-    ensures failed { IfErr result (λ e. (e ≡ fault) × (items state.old ≡ Err e ∷ []) × (items state.new ≡ []) × (left_of state.new ≡ 0)) }
+    ensures failed { IfErr result (λ e. (e ≡ fault) × (items state.old ≡ Err e ∷ []) × (items state.new ≡ [])
+        × (left_of state.new ≡ 0)) }
 {
     if state.buffer.len() > 0 {
         return Ok(());
