@@ -3,7 +3,7 @@ ghost use Rattle.std.specs.Prelude.{◌≡◌, ◌<◌, ◌≤◌, ◌^◌, ◌+
 ghost use Rattle.pq_thrift.specs.Value.{int32, binary, struct, no_fields, view, values_view};
 ghost use Rattle.pq_metadata.specs.Elements.{number_of_repetition};
 ghost use Rattle.pq_tree.specs.Physical.{number_of_physical};
-ghost use Rattle.pq_tree.specs.Tree.{preorder, preorder_of, columns_of};
+ghost use Rattle.pq_tree.specs.Tree.{preorder, preorder_of};
 ghost use Rattle.pq_tree.specs.Types.{Logical};
 ghost use Rattle.pq_tree.specs.TreeViews.{info_view, leaf_view, tree_view, trees_view, schema_view};
 ghost use Rattle.pq_tree.specs.Views.{repetition_view, physical_view, converted_view, logical_view, unit_view, integer_view};
@@ -336,16 +336,4 @@ pub fn elements_from(alloc: Global, schema: &SchemaDescriptor) -> Result<Vec<Thr
     let mut elements = vec![in alloc; root_element(alloc, schema.name(), fields.len())?]?;
     push_trees(alloc, fields, &mut elements)?;
     Ok(elements)
-}
-
-/// The orders of the columns: each leaf has the order of its type.
-pub fn orders_from(alloc: Global, schema: &SchemaDescriptor) -> Result<Vec<Thrift>, AllocError>
-    ensures { IfOk result (λ vs. map view vs.items ≡ map (λ l. one 1 empty) (columns_of (schema_view schema.now))) }
-{
-    let columns = schema.columns();
-    let mut orders = Vec::with_capacity(alloc, columns.len())?;
-    for _column in columns {
-        orders.push(empty_member(alloc, 1)?)?;
-    }
-    Ok(orders)
 }

@@ -1,7 +1,6 @@
 //! Structs whose fields may be absent.
 ghost use Rattle.std.specs.Prelude.{◌≡◌, ◌++◌, OnOk, IfOk, map, option_map};
-ghost use Rattle.pq_thrift.specs.Value.{struct, binary, int16, int64, view, field_view};
-ghost use Rattle.pq_tree.specs.Views.{bytes_view};
+ghost use Rattle.pq_thrift.specs.Value.{struct, binary, view, field_view};
 ghost use Rattle.footer_write.specs.Parts.{part_view, present, one_part};
 
 use pq_thrift::Thrift;
@@ -41,34 +40,4 @@ pub fn text_from(alloc: Global, text: &str) -> Result<Thrift, AllocError>
     ensures { IfOk result (λ v. view v ≡ binary text.now) }
 {
     Ok(Thrift::Binary(Vec::from_slice(alloc, text.as_bytes())?))
-}
-
-/// Bytes, if there are some.
-pub fn bytes_from(alloc: Global, bytes: &Option<Vec<u8>>) -> Result<Option<Thrift>, AllocError>
-    ensures { IfOk result (λ v. option_map view v ≡ option_map binary (option_map bytes_view bytes.now)) }
-{
-    match bytes {
-        Some(bytes) => Ok(Some(Thrift::Binary(Vec::from_slice(alloc, bytes)?))),
-        None => Ok(None),
-    }
-}
-
-/// A number, if there is one.
-pub fn i64_from(number: Option<i64>) -> Option<Thrift>
-    ensures { option_map view result ≡ option_map int64 number }
-{
-    match number {
-        Some(number) => Some(Thrift::I64(number)),
-        None => None,
-    }
-}
-
-/// A number, if there is one.
-pub fn i16_from(number: Option<i16>) -> Option<Thrift>
-    ensures { option_map view result ≡ option_map int16 number }
-{
-    match number {
-        Some(number) => Some(Thrift::I16(number)),
-        None => None,
-    }
 }

@@ -8,12 +8,11 @@ ghost use Rattle.footer_write.specs.Fits.{FooterFits};
 ghost use Rattle.footer_write.specs.FooterView.{footer_view};
 ghost use Rattle.footer_write.specs.Written.{AppendsFooter};
 
-use crate::footer::footer_from;
+use crate::footer::push_footer;
 use crate::numbers::numbers_fit;
 use crate::room::spend_footer;
 use crate::types::ThriftFileMetaData;
 use columns_base::{Error, Result, V};
-use pq_thrift::write_thrift;
 use pq_tree::SchemaDescriptor;
 
 /// The most bytes that a footer may take.
@@ -61,6 +60,8 @@ pub fn write_metadata(metadata: &ThriftFileMetaData, out: &mut Vec<u8>) -> Resul
         return Err(Error::Overflow(V::V3));
     }
     know_name(&metadata.schema);
-    let value = footer_from(*out.allocator(), metadata)?;
-    write_thrift(&value, out)
+    let mut text = Vec::new(*out.allocator());
+    push_footer(&mut text, metadata)?;
+    out.extend_from_slice(&text)?;
+    Ok(())
 }
