@@ -84,7 +84,8 @@ fn converted_from(converted_type: ConvertedType) -> i32
 }
 
 fn some_converted(converted_type: Option<ConvertedType>) -> Option<Thrift>
-    ensures { option_map view result ≡ option_map (λ c. small (number_of_converted c)) (option_map converted_view converted_type) }
+    ensures { option_map view result ≡ option_map (λ c. small (number_of_converted c))
+        (option_map converted_view converted_type) }
 {
     match converted_type {
         Some(converted_type) => Some(Thrift::I32(converted_from(converted_type))),
@@ -227,7 +228,8 @@ fn some_logical(
 
 fn leaf_element(alloc: Global, leaf: &PrimitiveType) -> Result<Thrift, AllocError>
     requires { TreeFits (leaf_view leaf.now) }
-    ensures { IfOk result (λ v. view v ≡ element_of (Some (physical_view leaf.now.physical_type)) 0 (info_view leaf.now.field_info leaf.now.converted_type leaf.now.logical_type)) }
+    ensures { IfOk result (λ v. view v ≡ element_of (Some (physical_view leaf.now.physical_type)) 0
+        (info_view leaf.now.field_info leaf.now.converted_type leaf.now.logical_type)) }
 {
     let name = text_from(alloc, leaf.field_info.name.as_str())?;
     let logical = some_logical(alloc, leaf.logical_type)?;
@@ -279,7 +281,8 @@ fn push_tree(
 ) -> Result<(), AllocError>
     requires fits { TreeFits (tree_view tree.now) }
     requires small { tree_room (tree_view tree.now) < 2 ^ 31 }
-    ensures { OnOk result (map view elements.new.items ≡ map view elements.old.items ++ map element_value (preorder (tree_view tree.now))) }
+    ensures { OnOk result (map view elements.new.items ≡ map view elements.old.items
+        ++ map element_value (preorder (tree_view tree.now))) }
 {
     match tree {
         ParquetType::PrimitiveType(leaf) => {
@@ -309,7 +312,8 @@ fn push_trees(
 ) -> Result<(), AllocError>
     requires fits { TreesFit (trees_view trees.now) }
     requires small { trees_room (trees_view trees.now) < 2 ^ 31 }
-    ensures { OnOk result (map view elements.new.items ≡ map view elements.old.items ++ map element_value (preorder_of (trees_view trees.now))) }
+    ensures { OnOk result (map view elements.new.items ≡ map view elements.old.items
+        ++ map element_value (preorder_of (trees_view trees.now))) }
 {
     for tree in trees {
         push_tree(alloc, tree, elements)?;

@@ -60,7 +60,8 @@ fn push_some_text(
     id: u8,
     text: &Option<String>,
 ) -> Result<u8, AllocError>
-    ensures { IfOk result (λ next. AppendsSome last id (option_map binary (option_map string_bytes text.now)) next out.old.items out.new.items) }
+    ensures { IfOk result (λ next. AppendsSome last id (option_map binary
+        (option_map string_bytes text.now)) next out.old.items out.new.items) }
 {
     let Some(text) = text else {
         return Ok(last);
@@ -81,7 +82,8 @@ fn push_key(out: &mut Vec<u8>, pair: &KeyValue) -> Result<(), AllocError>
 
 // Pairs, one behind the other.
 fn push_keys(out: &mut Vec<u8>, pairs: &[KeyValue]) -> Result<(), AllocError>
-    ensures { OnOk result (AppendsValues (values_of (map key_value (map key_view pairs.now))) out.old.items out.new.items) }
+    ensures { OnOk result
+        (AppendsValues (values_of (map key_value (map key_view pairs.now))) out.old.items out.new.items) }
 {
     'pairs: for pair in pairs {
         push_key(out, pair)?;
@@ -96,7 +98,8 @@ fn push_key_list(
     id: u8,
     pairs: &Vec<KeyValue>,
 ) -> Result<(), AllocError>
-    ensures { OnOk result (AppendsField last id (structs (map key_value (map key_view pairs.now.items))) out.old.items out.new.items) }
+    ensures { OnOk result (AppendsField last id
+        (structs (map key_value (map key_view pairs.now.items))) out.old.items out.new.items) }
 {
     push_list_head(out, last, id, 12, pairs.len())?;
     push_keys(out, pairs)?;
@@ -111,7 +114,8 @@ fn push_pairs(
     id: u8,
     pairs: &Option<Vec<KeyValue>>,
 ) -> Result<u8, AllocError>
-    ensures { IfOk result (λ next. AppendsSome last id (keys_value (pairs_view pairs.now)) next out.old.items out.new.items) }
+    ensures { IfOk result (λ next. AppendsSome last id (keys_value
+        (pairs_view pairs.now)) next out.old.items out.new.items) }
 {
     let Some(pairs) = pairs else {
         return Ok(last);

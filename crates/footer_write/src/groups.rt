@@ -43,7 +43,8 @@ fn push_chunk(out: &mut Vec<u8>, chunk: &ThriftColumnChunk) -> Result<(), AllocE
 
 // Columns, one behind the other.
 fn push_each_chunk(out: &mut Vec<u8>, chunks: &[ThriftColumnChunk]) -> Result<(), AllocError>
-    ensures { OnOk result (AppendsValues (values_of (map chunk_value (map chunk_view chunks.now))) out.old.items out.new.items) }
+    ensures { OnOk result
+        (AppendsValues (values_of (map chunk_value (map chunk_view chunks.now))) out.old.items out.new.items) }
 {
     'chunks: for chunk in chunks {
         push_chunk(out, chunk)?;
@@ -58,7 +59,8 @@ fn push_chunks(
     id: u8,
     chunks: &Vec<ThriftColumnChunk>,
 ) -> Result<(), AllocError>
-    ensures { OnOk result (AppendsField last id (structs (map chunk_value (map chunk_view chunks.now.items))) out.old.items out.new.items) }
+    ensures { OnOk result (AppendsField last id
+        (structs (map chunk_value (map chunk_view chunks.now.items))) out.old.items out.new.items) }
 {
     push_list_head(out, last, id, 12, chunks.len())?;
     push_each_chunk(out, chunks)?;
@@ -81,7 +83,8 @@ fn push_group(out: &mut Vec<u8>, group: &ThriftRowGroup) -> Result<(), AllocErro
 
 // Row groups, one behind the other.
 fn push_each_group(out: &mut Vec<u8>, groups: &[ThriftRowGroup]) -> Result<(), AllocError>
-    ensures { OnOk result (AppendsValues (values_of (map group_value (map row_group_view groups.now))) out.old.items out.new.items) }
+    ensures { OnOk result
+        (AppendsValues (values_of (map group_value (map row_group_view groups.now))) out.old.items out.new.items) }
 {
     'groups: for group in groups {
         push_group(out, group)?;
@@ -96,7 +99,8 @@ pub fn push_groups(
     id: u8,
     groups: &Vec<ThriftRowGroup>,
 ) -> Result<(), AllocError>
-    ensures { OnOk result (AppendsField last id (structs (map group_value (map row_group_view groups.now.items))) out.old.items out.new.items) }
+    ensures { OnOk result (AppendsField last id
+        (structs (map group_value (map row_group_view groups.now.items))) out.old.items out.new.items) }
 {
     push_list_head(out, last, id, 12, groups.len())?;
     push_each_group(out, groups)?;

@@ -15,7 +15,8 @@ pub fn push_part(
     id: u8,
     value: Option<Thrift>,
 ) -> Result<(), AllocError>
-    ensures { OnOk result (map field_view fields.new.items ≡ map field_view fields.old.items ++ one_part id (option_map view value)) }
+    ensures { OnOk result (map field_view fields.new.items ≡ map field_view fields.old.items
+        ++ one_part id (option_map view value)) }
 {
     let Some(value) = value else {
         return Ok(());

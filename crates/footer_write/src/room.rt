@@ -22,14 +22,16 @@ fn spend(left: usize, bytes: usize) -> Option<usize>
 }
 
 fn spend_info(left: usize, info: &FieldInfo) -> Option<usize>
-    ensures { MatchOption result (left < 128 + length (string_bytes info.now.name)) (λ rest. rest + (128 + length (string_bytes info.now.name)) ≡ left) }
+    ensures { MatchOption result (left < 128 + length (string_bytes info.now.name))
+        (λ rest. rest + (128 + length (string_bytes info.now.name)) ≡ left) }
 {
     spend(spend(left, 128)?, info.name.len())
 }
 
 #[cycle(room)]
 fn spend_tree(left: usize, tree: &ParquetType) -> Option<usize>
-    ensures { MatchOption result (left < tree_room (tree_view tree.now)) (λ rest. rest + tree_room (tree_view tree.now) ≡ left) }
+    ensures { MatchOption result (left < tree_room (tree_view tree.now)) (λ rest. rest + tree_room (tree_view tree.now)
+        ≡ left) }
 {
     match tree {
         ParquetType::PrimitiveType(leaf) => spend_info(left, &leaf.field_info),
@@ -46,7 +48,8 @@ fn spend_tree(left: usize, tree: &ParquetType) -> Option<usize>
 
 #[cycle(room)]
 fn spend_trees(left: usize, trees: &[ParquetType]) -> Option<usize>
-    ensures { MatchOption result (left < trees_room (trees_view trees.now)) (λ rest. rest + trees_room (trees_view trees.now) ≡ left) }
+    ensures { MatchOption result (left < trees_room (trees_view trees.now))
+        (λ rest. rest + trees_room (trees_view trees.now) ≡ left) }
 {
     let mut rest = left;
     for tree in trees {
@@ -81,7 +84,8 @@ fn is_schema_key(key: &str) -> bool
 }
 
 fn spend_key(left: usize, key: &KeyValue) -> Option<usize>
-    ensures { MatchOption result (left < key_room (key_view key.now)) (λ rest. rest + key_room (key_view key.now) ≡ left) }
+    ensures { MatchOption result (left < key_room (key_view key.now)) (λ rest. rest + key_room (key_view key.now)
+        ≡ left) }
 {
     let value = text_length(&key.value);
     if is_schema_key(key.key.as_str()) {
@@ -92,7 +96,8 @@ fn spend_key(left: usize, key: &KeyValue) -> Option<usize>
 }
 
 fn spend_keys(left: usize, keys: &[KeyValue]) -> Option<usize>
-    ensures { MatchOption result (left < sum_by key_room (map key_view keys.now)) (λ rest. rest + sum_by key_room (map key_view keys.now) ≡ left) }
+    ensures { MatchOption result (left < sum_by key_room (map key_view keys.now))
+        (λ rest. rest + sum_by key_room (map key_view keys.now) ≡ left) }
 {
     let mut rest = left;
     for key in keys {
@@ -102,7 +107,8 @@ fn spend_keys(left: usize, keys: &[KeyValue]) -> Option<usize>
 }
 
 fn spend_pairs(left: usize, pairs: &Option<Vec<KeyValue>>) -> Option<usize>
-    ensures { MatchOption result (left < sum_by key_room (pairs_view pairs.now)) (λ rest. rest + sum_by key_room (pairs_view pairs.now) ≡ left) }
+    ensures { MatchOption result (left < sum_by key_room (pairs_view pairs.now))
+        (λ rest. rest + sum_by key_room (pairs_view pairs.now) ≡ left) }
 {
     match pairs {
         Some(keys) => spend_keys(left, keys),
@@ -111,13 +117,15 @@ fn spend_pairs(left: usize, pairs: &Option<Vec<KeyValue>>) -> Option<usize>
 }
 
 fn spend_name(left: usize, name: &String) -> Option<usize>
-    ensures { MatchOption result (left < name_room (string_bytes name.now)) (λ rest. rest + name_room (string_bytes name.now) ≡ left) }
+    ensures { MatchOption result (left < name_room (string_bytes name.now))
+        (λ rest. rest + name_room (string_bytes name.now) ≡ left) }
 {
     spend(spend(left, 8)?, name.len())
 }
 
 fn spend_path(left: usize, path: &[String]) -> Option<usize>
-    ensures { MatchOption result (left < sum_by name_room (map string_bytes path.now)) (λ rest. rest + sum_by name_room (map string_bytes path.now) ≡ left) }
+    ensures { MatchOption result (left < sum_by name_room (map string_bytes path.now))
+        (λ rest. rest + sum_by name_room (map string_bytes path.now) ≡ left) }
 {
     let mut rest = left;
     for name in path {
@@ -127,7 +135,8 @@ fn spend_path(left: usize, path: &[String]) -> Option<usize>
 }
 
 fn spend_bounds(left: usize, statistics: &Option<Statistics>) -> Option<usize>
-    ensures { MatchOption result (left < bounds_room (option_map statistics_view statistics.now)) (λ rest. rest + bounds_room (option_map statistics_view statistics.now) ≡ left) }
+    ensures { MatchOption result (left < bounds_room (option_map statistics_view statistics.now))
+        (λ rest. rest + bounds_room (option_map statistics_view statistics.now) ≡ left) }
 {
     let Some(statistics) = statistics else {
         return Some(left);
@@ -137,7 +146,8 @@ fn spend_bounds(left: usize, statistics: &Option<Statistics>) -> Option<usize>
 }
 
 fn spend_chunk(left: usize, chunk: &ThriftColumnChunk) -> Option<usize>
-    ensures { MatchOption result (left < chunk_room (chunk_view chunk.now)) (λ rest. rest + chunk_room (chunk_view chunk.now) ≡ left) }
+    ensures { MatchOption result (left < chunk_room (chunk_view chunk.now))
+        (λ rest. rest + chunk_room (chunk_view chunk.now) ≡ left) }
 {
     let left = spend(left, 256)?;
     let left = spend_path(left, &chunk.meta_data.path_in_schema)?;
@@ -145,7 +155,8 @@ fn spend_chunk(left: usize, chunk: &ThriftColumnChunk) -> Option<usize>
 }
 
 fn spend_chunks(left: usize, chunks: &[ThriftColumnChunk]) -> Option<usize>
-    ensures { MatchOption result (left < sum_by chunk_room (map chunk_view chunks.now)) (λ rest. rest + sum_by chunk_room (map chunk_view chunks.now) ≡ left) }
+    ensures { MatchOption result (left < sum_by chunk_room (map chunk_view chunks.now))
+        (λ rest. rest + sum_by chunk_room (map chunk_view chunks.now) ≡ left) }
 {
     let mut rest = left;
     for chunk in chunks {
@@ -155,14 +166,16 @@ fn spend_chunks(left: usize, chunks: &[ThriftColumnChunk]) -> Option<usize>
 }
 
 fn spend_group(left: usize, group: &ThriftRowGroup) -> Option<usize>
-    ensures { MatchOption result (left < group_room (row_group_view group.now)) (λ rest. rest + group_room (row_group_view group.now) ≡ left) }
+    ensures { MatchOption result (left < group_room (row_group_view group.now))
+        (λ rest. rest + group_room (row_group_view group.now) ≡ left) }
 {
     let left = spend(left, 64)?;
     spend_chunks(left, &group.columns)
 }
 
 fn spend_groups(left: usize, groups: &[ThriftRowGroup]) -> Option<usize>
-    ensures { MatchOption result (left < sum_by group_room (map row_group_view groups.now)) (λ rest. rest + sum_by group_room (map row_group_view groups.now) ≡ left) }
+    ensures { MatchOption result (left < sum_by group_room (map row_group_view groups.now))
+        (λ rest. rest + sum_by group_room (map row_group_view groups.now) ≡ left) }
 {
     let mut rest = left;
     for group in groups {
@@ -173,7 +186,8 @@ fn spend_groups(left: usize, groups: &[ThriftRowGroup]) -> Option<usize>
 
 /// What is left of the bytes after the room of a footer. None where that passes them.
 pub fn spend_footer(left: usize, metadata: &ThriftFileMetaData) -> Option<usize>
-    ensures { MatchOption result (left < walked_room (footer_view metadata.now)) (λ rest. rest + walked_room (footer_view metadata.now) ≡ left) }
+    ensures { MatchOption result (left < walked_room (footer_view metadata.now))
+        (λ rest. rest + walked_room (footer_view metadata.now) ≡ left) }
 {
     let left = spend(left, 4_224)?;
     let left = spend(left, metadata.schema.name().len())?;

@@ -114,7 +114,8 @@ pub fn push_list_head(
     count: usize,
 ) -> Result<(), AllocError>
     requires { number < 16 }
-    ensures { OnOk result (out.new.items ≡ out.old.items ++ (field_head (pos last) (pos id) 9 ++ list_head number count)) }
+    ensures { OnOk result (out.new.items ≡ out.old.items
+        ++ (field_head (pos last) (pos id) 9 ++ list_head number count)) }
 {
     push_head(out, last, id, 9)?;
     push_count(out, number, count)
@@ -137,7 +138,8 @@ pub fn push_numbers(
     id: u8,
     numbers: &Vec<i32>,
 ) -> Result<(), AllocError>
-    ensures { OnOk result (AppendsField last id (list 5 (values_of (map int32 numbers.now.items))) out.old.items out.new.items) }
+    ensures { OnOk result (AppendsField last id
+        (list 5 (values_of (map int32 numbers.now.items))) out.old.items out.new.items) }
 {
     push_list_head(out, last, id, 5, numbers.len())?;
     push_each_number(out, numbers)?;
@@ -153,7 +155,8 @@ fn push_item(out: &mut Vec<u8>, text: &String) -> Result<(), AllocError>
 
 // The texts of a list.
 fn push_each_text(out: &mut Vec<u8>, texts: &[String]) -> Result<(), AllocError>
-    ensures { OnOk result (AppendsValues (values_of (map binary (map string_bytes texts.now))) out.old.items out.new.items) }
+    ensures { OnOk result
+        (AppendsValues (values_of (map binary (map string_bytes texts.now))) out.old.items out.new.items) }
 {
     'texts: for text in texts {
         push_item(out, text)?;
@@ -168,7 +171,8 @@ pub fn push_texts(
     id: u8,
     texts: &Vec<String>,
 ) -> Result<(), AllocError>
-    ensures { OnOk result (AppendsField last id (list 8 (values_of (map binary (map string_bytes texts.now.items)))) out.old.items out.new.items) }
+    ensures { OnOk result (AppendsField last id
+        (list 8 (values_of (map binary (map string_bytes texts.now.items)))) out.old.items out.new.items) }
 {
     push_list_head(out, last, id, 8, texts.len())?;
     push_each_text(out, texts)?;

@@ -88,7 +88,8 @@ pub(crate) fn push_some_bytes(
     id: u8,
     text: &Option<Vec<u8>>,
 ) -> Result<u8, AllocError>
-    ensures { IfOk result (λ next. AppendsSome last id (option_map binary (option_map bytes_view text.now)) next out.old.items out.new.items) }
+    ensures { IfOk result (λ next. AppendsSome last id (option_map binary
+        (option_map bytes_view text.now)) next out.old.items out.new.items) }
 {
     let Some(text) = text else {
         return Ok(last);

@@ -27,7 +27,8 @@ fn push_bounds(
     id: u8,
     statistics: &Statistics,
 ) -> Result<(), AllocError>
-    ensures { OnOk result (AppendsField last id (statistics_value (statistics_view statistics.now)) out.old.items out.new.items) }
+    ensures { OnOk result (AppendsField last id
+        (statistics_value (statistics_view statistics.now)) out.old.items out.new.items) }
 {
     push_struct_head(out, last, id)?;
     push_statistics(out, statistics)?;
@@ -41,7 +42,8 @@ pub fn push_some_statistics(
     id: u8,
     statistics: &Option<Statistics>,
 ) -> Result<u8, AllocError>
-    ensures { IfOk result (λ next. AppendsSome last id (option_map statistics_value (option_map statistics_view statistics.now)) next out.old.items out.new.items) }
+    ensures { IfOk result (λ next. AppendsSome last id (option_map statistics_value
+        (option_map statistics_view statistics.now)) next out.old.items out.new.items) }
 {
     let Some(statistics) = statistics else {
         return Ok(last);
