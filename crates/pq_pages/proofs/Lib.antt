@@ -1,6 +1,5 @@
 pub mod HeaderReads
 pub mod Headers
-pub mod Listed
 pub mod NextFound
 pub mod NextPages
 pub mod Steps
@@ -11,3 +10,4 @@ pub mod ChunkRead
 pub mod Behind
 pub mod HeldChunks
 pub mod Ended
+pub mod HeaderWritable

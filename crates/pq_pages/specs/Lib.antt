@@ -5,7 +5,6 @@ pub mod Headers
 pub mod Held
 pub mod Opened
 pub mod Outcomes
-pub mod Parts
 pub mod Reading
 pub mod ReadsChunk
 pub mod Shown

@@ -7,7 +7,6 @@ mod header;
 mod laws;
 mod page;
 mod pages;
-mod parts;
 mod place;
 mod raw;
 mod reader;
