@@ -89,6 +89,9 @@ pub struct PlainStrings<'a> {
     pub values: &'a [u8],
 }
 
+/// How many strings there is room for at the start.
+const FEW: usize = 1_024;
+
 /// Strings, each a value of the leaf by `K`, and which of them are there.
 #[derive(Debug, Drop)]
 pub struct StringValues<O: Offset, K: StringKind> {
@@ -120,8 +123,8 @@ impl<O: Offset, K: StringKind> StringValues<O, K> {
         ensures err { IfErr result (λ e. e ≡ Error.Memory) }
     {
         Ok(StringValues {
-            strings: Binary::with_capacity(alloc, 0)?,
-            validity: MutableBitmap::new(alloc),
+            strings: Binary::with_capacity(alloc, FEW)?,
+            validity: MutableBitmap::with_capacity(alloc, FEW)?,
             kind: PhantomData,
         })
     }
