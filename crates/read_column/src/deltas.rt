@@ -37,7 +37,7 @@ pub fn deltas_of(physical_type: PhysicalType, is_flat: bool) -> Deltas
 
 // One where a level is this one, and else none.
 #[inline(always)]
-fn count_one(found: u32, level: u32) -> usize
+fn count_one(found: u32, level: u32) -> u32
     ensures is { result ≡ cond (nat_eq found level) 1 0 }
     ensures most { result ≤ 1 }
 {
@@ -45,7 +45,8 @@ fn count_one(found: u32, level: u32) -> usize
 }
 
 // How many of the levels are this one.
-fn count_equal(levels: &[u32], level: u32) -> usize
+fn count_equal(levels: &[u32], level: u32) -> u32
+    requires { length levels.now ≤ 64 }
     ensures { result ≡ levels_at level levels.now }
 {
     let mut count = 0;
@@ -57,12 +58,13 @@ fn count_equal(levels: &[u32], level: u32) -> usize
 
 // The same, of a level that may have more bits than they have.
 fn count_level(levels: &[u32], level: usize) -> usize
+    requires { length levels.now ≤ 64 }
     ensures { result ≡ levels_at level levels.now }
 {
     if level > u32::MAX as usize {
         return 0;
     }
-    count_equal(levels, level as u32)
+    count_equal(levels, level as u32) as usize
 }
 
 // How many of so many copies of a level are this one.
