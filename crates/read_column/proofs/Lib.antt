@@ -21,5 +21,6 @@ pub mod Refusals
 pub mod Refused
 pub mod Readings
 pub mod Entered
+pub mod Even
 pub mod Futures
 pub mod Suited

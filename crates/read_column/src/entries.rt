@@ -1,14 +1,14 @@
 //! The entries of a dictionary page.
-ghost use Rattle.std.specs.Prelude.{◌≡◌, ◌⊎◌, ◌*◌, ◌<◌, ◌≤◌, ℕ, [], true, Some, IfErr, IfOk, MatchOption, drop, length, map, slice_get, take, All};
+ghost use Rattle.std.specs.Prelude.{◌≡◌, ◌⊎◌, ◌*◌, ◌<◌, ◌≤◌, ℕ, [], true, Some, IfErr, IfOk, IsTrue, MatchOption, drop, length, map, slice_get, take, All};
 ghost use Rattle.shredding.specs.Slot.{Value};
 ghost use Rattle.columns_base.specs.declared.error.Error.TheVariants.{Memory, OutOfSpec};
 ghost use Rattle.columns_base.specs.declared.error.S.TheVariants.{S6, S7};
 ghost use Rattle.read_pieces.specs.Leaves.{BeginsOutside, IsValue, in_bytes};
 ghost use Rattle.read_column.specs.Dictionary.{CannotHold, HoldsEntries, IsPlaceIn, text_at};
-ghost use Rattle.read_column.specs.Entries.{ArePlaces};
+ghost use Rattle.read_column.specs.Entries.{AreInRow, ArePlaces};
 ghost use Rattle.read_column.specs.Lookups.{AreLaidAs};
 
-use crate::lookup::put_short;
+use crate::lookup::{put_even, put_short};
 use columns_base::{Error, Result, S};
 use read_pieces::LeafReader;
 use std::alloc::Global;
@@ -21,22 +21,25 @@ pub struct Place {
     pub end: usize,
 }
 
-/// The entries of a dictionary page: a copy of its body, and where each entry stands in it. Seen by contracts as the bytes of each.
+/// The entries of a dictionary page: a copy of its body with 32 zeros behind it, where each entry stands in it, and how many bytes each has, where all
+/// have four or eight, one behind the other from the front on; else 0. Seen by contracts as the bytes of each.
 #[derive(Drop)]
 pub struct Entries {
     body: Vec<u8>,
     places: Vec<Place>,
+    size: usize,
 }
 
 impl Model for Entries {
-    ghost use Rattle.std.specs.Prelude.{length, map, All};
-    ghost use Rattle.read_column.specs.Dictionary.{IsPlaceIn, Texts, text_at};
+    ghost use Rattle.std.specs.Prelude.{◌<◌, length, map, All};
+    ghost use Rattle.read_column.specs.Dictionary.{Texts, text_at};
+    ghost use Rattle.read_column.specs.Entries.{AreEven, IsPadded};
 
     ghost Value = { Texts };
 
     ghost view = { λ e. map (text_at e.body.items) e.places.items };
 
-    ghost invariant = { λ e. All (IsPlaceIn (length e.body.items)) e.places.items };
+    ghost invariant = { λ e. All (IsPadded (length e.body.items)) e.places.items × (0 < e.size → AreEven e.size e.body.items (map (text_at e.body.items) e.places.items)) };
 }
 
 // The bytes at a place.
@@ -83,7 +86,11 @@ impl Entries {
         ensures fits { result.1 ≤ 1024 }
         ensures laid { AreLaidAs self.now (take result.0 indices.now) (take result.1 out.new) }
     {
-        put_short(out, &self.body, &self.places, indices, count)
+        match self.size {
+            4 => put_even::<4>(out, &self.body, &self.places, indices, count),
+            8 => put_even::<8>(out, &self.body, &self.places, indices, count),
+            _ => put_short(out, &self.body, &self.places, indices, count),
+        }
     }
 }
 
@@ -138,7 +145,43 @@ fn count_bits(alloc: Global, body: &[u8], count: usize) -> Result<Entries>
     Ok(Entries {
         body: Vec::new(alloc),
         places: Vec::new(alloc),
+        size: 0,
     })
+}
+
+// Whether all entries have so many bytes, one behind the other from the front on.
+fn are_even(places: &[Place], size: usize) -> bool
+    ensures { IsTrue result → AreInRow size 0 places.now }
+{
+    let mut rest = places;
+    let mut start = 0;
+    while let [place, others @ ..] = rest {
+        if place.start != start {
+            return false;
+        }
+        if place.end < start {
+            return false;
+        }
+        if place.end - start != size {
+            return false;
+        }
+        start = place.end;
+        rest = others;
+    }
+    true
+}
+
+// How many bytes each entry has, where these are four or eight, and they stand one behind the other from the front on; else 0.
+fn even_size(places: &[Place]) -> usize
+    ensures { 0 < result → AreInRow result 0 places.now }
+{
+    if are_even(places, 4) {
+        return 4;
+    }
+    if are_even(places, 8) {
+        return 8;
+    }
+    0
 }
 
 // Entries at these places of the body.
@@ -149,7 +192,13 @@ fn entries_at(alloc: Global, body: &[u8], places: Vec<Place>) -> Result<Entries>
 {
     let mut copy = Vec::new(alloc);
     copy.extend_from_slice(body)?;
-    Ok(Entries { body: copy, places })
+    copy.extend_from_slice(&[0; 32])?;
+    let size = even_size(&places);
+    Ok(Entries {
+        body: copy,
+        places,
+        size,
+    })
 }
 
 /// So many entries at the front of the body, plain, each of which is looked at.

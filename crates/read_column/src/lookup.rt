@@ -1,8 +1,9 @@
 //! Entries at blocks of indices.
-ghost use Rattle.std.specs.Prelude.{◌≡◌, ◌+◌, ◌++◌, ◌<◌, ◌≤◌, ℕ, List, Some, IfErr, IfOk, MatchOption, All, drop, length, map, replicate, slice_get, take};
+ghost use Rattle.std.specs.Prelude.{◌≡◌, ◌+◌, ◌*◌, ◌++◌, ◌<◌, ◌≤◌, ℕ, List, Some, IfErr, IfOk, MatchOption, All, drop, length, map, replicate, slice_get, take};
 ghost use Rattle.columns_base.specs.declared.error.Error.TheVariants.{Memory};
 ghost use Rattle.pq_numbers.specs.Bits.{unpacked};
-ghost use Rattle.read_column.specs.Dictionary.{IsPlaceIn, text_at};
+ghost use Rattle.read_column.specs.Dictionary.{text_at};
+ghost use Rattle.read_column.specs.Entries.{AreEven, IsPadded};
 ghost use Rattle.read_column.specs.Lookups.{AreLaidAs, Lays};
 
 use crate::entries::{Entries, Place};
@@ -31,8 +32,8 @@ fn skip(bytes: &[u8], count: usize) -> &[u8]
 // The bytes from where an entry stands on, and how many of them it has, if it is short.
 #[inline(always)]
 fn short_at<'a>(body: &'a [u8], places: &[Place], index: usize) -> Option<(&'a [u8], usize)>
-    requires { All (IsPlaceIn (length body.now)) places.now }
-    ensures { MatchOption result (Unit {0}) (λ s. (s.1 ≤ 32) × (s.1 ≤ length s.0.now) × (slice_get (map (text_at body.now) places.now) index ≡ Some (take s.1 s.0.now))) }
+    requires { All (IsPadded (length body.now)) places.now }
+    ensures { MatchOption result (Unit {0}) (λ s. (s.1 ≤ 32) × (32 ≤ length s.0.now) × (slice_get (map (text_at body.now) places.now) index ≡ Some (take s.1 s.0.now))) }
 {
     if places.len() <= index {
         return None;
@@ -54,36 +55,27 @@ fn put_bytes(out: &mut [u8; 1024], at: usize, text: &[u8])
     out[at..at + text.len()].copy_from_slice(text);
 }
 
-// As many bytes as a short entry may have take their places, and those before them stay.
+// The first bytes take their places, and those before them stay.
 #[inline(always)]
-fn put_chunk(out: &mut [u8; 1024], at: usize, bytes: &[u8])
-    requires within { at + 32 ≤ 1024 }
-    requires enough { 32 ≤ length bytes.now }
-    ensures { take (at + 32) out.new ≡ take at out.old ++ take 32 bytes.now }
+fn put_chunk<const N: usize>(out: &mut [u8; 1024], at: usize, bytes: &[u8])
+    requires within { at + N ≤ 1024 }
+    requires enough { N ≤ length bytes.now }
+    ensures { take (at + N) out.new ≡ take at out.old ++ take N bytes.now }
 {
-    match bytes.first_chunk::<32>() {
-        Some(chunk) => {
-            let chunk = *chunk;
-            put_bytes(out, at, &chunk);
-        }
-        None => unreachable!(),
-    }
+    let mut chunk = [0; N];
+    chunk.copy_from_slice(&bytes[..N]);
+    put_bytes(out, at, &chunk);
 }
 
-// The first bytes take their places, and those before them stay. Where as many stand there as a short entry may have, so many are copied, which costs
-// less.
+// The first bytes take their places, and those before them stay. As many are copied as a short entry may have, which costs less.
 #[inline(always)]
 fn put_text(out: &mut [u8; 1024], at: usize, bytes: &[u8], size: usize)
     requires within { at + 32 ≤ 1024 }
     requires short { size ≤ 32 }
-    requires enough { size ≤ length bytes.now }
+    requires enough { 32 ≤ length bytes.now }
     ensures { take (at + size) out.new ≡ take at out.old ++ take size bytes.now }
 {
-    if bytes.len() < 32 {
-        put_bytes(out, at, &bytes[..size]);
-    } else {
-        put_chunk(out, at, bytes);
-    }
+    put_chunk::<32>(out, at, bytes);
 }
 
 /// Puts the entries at the first indices one behind the other, up to the first that is not short or is past the entries. Gives how many, and how many
@@ -95,7 +87,7 @@ pub fn put_short(
     indices: &[u64; 32],
     count: usize,
 ) -> (usize, usize)
-    requires are { All (IsPlaceIn (length body.now)) places.now }
+    requires are { All (IsPadded (length body.now)) places.now }
     requires few { count ≤ 32 }
     ensures few { result.0 ≤ count }
     ensures fits { result.1 ≤ 1024 }
@@ -114,9 +106,69 @@ pub fn put_short(
     (count, at)
 }
 
+// The bytes from where an entry stands on, if there is one, where all have the same size.
+#[inline(always)]
+fn even_at<'a, const N: usize>(body: &'a [u8], places: &[Place], index: usize) -> Option<&'a [u8]>
+    requires { AreEven N body.now (map (text_at body.now) places.now) }
+    ensures { MatchOption result (Unit {0}) (λ text. (N ≤ length text.now) × (slice_get (map (text_at body.now) places.now) index ≡ Some (take N text.now))) }
+{
+    if places.len() <= index {
+        return None;
+    }
+    Some(behind(body, N * index))
+}
+
+// Puts the entries at the first indices one behind the other, up to the first that is past the entries, where all have the same size. Gives how many.
+#[inline(always)]
+fn put_each<const N: usize>(
+    out: &mut [u8; 1024],
+    body: &[u8],
+    places: &[Place],
+    indices: &[u64; 32],
+    count: usize,
+) -> usize
+    requires even { AreEven N body.now (map (text_at body.now) places.now) }
+    requires small { N ≤ 32 }
+    requires few { count ≤ 32 }
+    ensures few { result ≤ count }
+    ensures laid { AreLaidAs (map (text_at body.now) places.now) (take result indices.now) (take (N * result) out.new) }
+{
+    for i in 0..count {
+        match even_at::<N>(body, places, indices[i] as usize) {
+            None => return i,
+            Some(text) => put_chunk::<N>(out, N * i, text),
+        }
+    }
+    count
+}
+
+/// The same as `put_short`, where all entries have the same size.
+pub fn put_even<const N: usize>(
+    out: &mut [u8; 1024],
+    body: &[u8],
+    places: &[Place],
+    indices: &[u64; 32],
+    count: usize,
+) -> (usize, usize)
+    requires even { AreEven N body.now (map (text_at body.now) places.now) }
+    requires small { N ≤ 32 }
+    requires few { count ≤ 32 }
+    ensures few { result.0 ≤ count }
+    ensures fits { result.1 ≤ 1024 }
+    ensures laid { AreLaidAs (map (text_at body.now) places.now) (take result.0 indices.now) (take result.1 out.new) }
+{
+    let n = if count == 32 {
+        put_each::<N>(out, body, places, indices, 32)
+    } else {
+        put_each::<N>(out, body, places, indices, count)
+    };
+    (n, N * n)
+}
+
 // Appends the short entries at the first indices, and gives how many.
 fn push_short(
     values: &mut Vec<u8>,
+    places: &mut [u8; 1024],
     entries: &Entries,
     indices: &[u64; 32],
     count: usize,
@@ -125,8 +177,7 @@ fn push_short(
     ensures ok { IfOk result (λ n. (n ≤ count) × ((text : List ℕ) × (values.new.items ≡ values.old.items ++ text) × AreLaidAs entries.now (take n indices.now) text)) }
     ensures err { IfErr result (λ e. e ≡ Memory) }
 {
-    let mut places = [0; 1024];
-    let (n, size) = entries.put_short(&mut places, indices, count);
+    let (n, size) = entries.put_short(places, indices, count);
     values.extend_from_slice(&places[..size])?;
     Ok(n)
 }
@@ -134,6 +185,7 @@ fn push_short(
 // Appends the entries at the first indices, up to the first that is past the entries. Gives whether all were appended.
 fn push_entries(
     values: &mut Vec<u8>,
+    places: &mut [u8; 1024],
     entries: &Entries,
     indices: &[u64; 32],
     count: usize,
@@ -142,7 +194,7 @@ fn push_entries(
     ensures ok { IfOk result (λ all. Lays entries.now (take count indices.now) all values.old.items values.new.items) }
     ensures err { IfErr result (λ e. e ≡ Memory) }
 {
-    let mut at = push_short(values, entries, indices, count)?;
+    let mut at = push_short(values, places, entries, indices, count)?;
     while at < count {
         match entries.get(indices[at] as usize) {
             None => return Ok(false),
@@ -172,10 +224,11 @@ pub fn push_packed(
     let mut rest = body;
     let mut left = count;
     let mut indices = [0; 32];
+    let mut places = [0; 1024];
     while left > 0 {
         let some = left.min(32);
         unpack_into(rest, width, &mut indices);
-        let all = push_entries(values, entries, &indices, some)?;
+        let all = push_entries(values, &mut places, entries, &indices, some)?;
         if !all {
             return Ok(false);
         }
@@ -200,10 +253,11 @@ pub fn push_copies(
     ensures err { IfErr result (λ e. e ≡ Memory) }
 {
     let indices = [u64::from(index); 32];
+    let mut places = [0; 1024];
     let mut left = count;
     while left > 0 {
         let some = left.min(32);
-        let all = push_entries(values, entries, &indices, some)?;
+        let all = push_entries(values, &mut places, entries, &indices, some)?;
         if !all {
             return Ok(false);
         }
