@@ -23,7 +23,9 @@ fn chunk_start(data_page: i64, dictionary_page: Option<i64>) -> i64
 
 /// The number of values of the chunk, and its bytes, if it lies in those of the file.
 fn chunk_bytes<'a>(column: &ColumnChunkMetaData, file: &'a [u8]) -> Option<(usize, &'a [u8])>
-    ensures { MatchOption result (IsNegative column.now.num_values ⊎ IsNegative column.now.total_compressed_size ⊎ LiesOutside (length file.entry.now) (chunk_view column.now)) (λ x. IsPlaced file.entry.now (chunk_view column.now) x.0 x.1.now) }
+    ensures { MatchOption result (IsNegative column.now.num_values ⊎ IsNegative column.now.total_compressed_size
+        ⊎ LiesOutside (length file.entry.now) (chunk_view column.now))
+        (λ x. IsPlaced file.entry.now (chunk_view column.now) x.0 x.1.now) }
 {
     if column.num_values < 0 {
         return None;

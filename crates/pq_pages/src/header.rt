@@ -90,7 +90,9 @@ fn push_data_2(out: &mut Vec<u8>, header: &DataPageHeaderV2, size: u32) -> Resul
 // The number of entries, their encoding and their order as a struct.
 fn push_entries(out: &mut Vec<u8>, entries: u32, is_sorted: bool) -> Result<(), AllocError>
     requires few { entries < 2 ^ 31 }
-    ensures { OnOk result (AppendsValue (struct (at 1 (i32 entries) (at 2 (i32 0) (at 3 (truth is_sorted) no_fields)))) out.old.items out.new.items) }
+    ensures { OnOk result
+        (AppendsValue
+        (struct (at 1 (i32 entries) (at 2 (i32 0) (at 3 (truth is_sorted) no_fields)))) out.old.items out.new.items) }
 {
     push_natural(out, 0, 1, entries)?;
     push_natural(out, 1, 2, 0)?;

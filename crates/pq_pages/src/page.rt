@@ -39,7 +39,8 @@ impl DataPage {
         _rows: Option<usize>,
     ) -> Self
         requires { MakesPage header descriptor }
-        ensures { result ≡ record { header = header; buffer = buffer.items; descriptor = descriptor; selected_rows = None } }
+        ensures { result
+            ≡ record { header = header; buffer = buffer.items; descriptor = descriptor; selected_rows = None } }
     {
         DataPage {
             header,
@@ -100,7 +101,13 @@ impl DataPage {
     /// the last ends within the page's values (Parquet format, "Page Index").
     pub fn select_rows(&mut self, rows: Vec<Interval>)
         requires { AreRowsIn self.old.header rows.items }
-        ensures { self.new ≡ record { header = self.old.header; buffer = self.old.buffer; descriptor = self.old.descriptor; selected_rows = Some rows.items } }
+        ensures { self.new
+            ≡ record {
+              header = self.old.header;
+              buffer = self.old.buffer;
+              descriptor = self.old.descriptor;
+              selected_rows = Some rows.items;
+            } }
     {
         self.selected_rows = Some(rows);
     }

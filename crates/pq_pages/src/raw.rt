@@ -43,7 +43,8 @@ fn front_of(bytes: &[u8], most: usize) -> &[u8]
 /// So many bytes from a place on, and those behind them, if they lie in the bytes.
 fn body_at(bytes: &[u8], place: usize, size: usize) -> Option<(&[u8], &[u8])>
     requires { place ≤ length bytes.now }
-    ensures { MatchOption result (length bytes.now < place + size) (λ x. (place + size ≤ length bytes.now) × (x.0.now ≡ take size (drop place bytes.now)) × (x.1.now ≡ drop (place + size) bytes.now)) }
+    ensures { MatchOption result (length bytes.now < place + size) (λ x. (place + size ≤ length bytes.now)
+        × (x.0.now ≡ take size (drop place bytes.now)) × (x.1.now ≡ drop (place + size) bytes.now)) }
 {
     let rest = &bytes[place..];
     if rest.len() < size {
@@ -60,7 +61,8 @@ fn body_at(bytes: &[u8], place: usize, size: usize) -> Option<(&[u8], &[u8])>
 /// - `NotYetImplemented(N4)`: the page is an index page, or of a type that isn't known.
 /// - `Memory`: memory ran out.
 pub fn raw_page(alloc: Global, bytes: &[u8], max_header_size: usize) -> Result<RawPage<'_>>
-    ensures ok { IfOk result (λ p. next_page max_header_size bytes.now ≡ Ok (record { header = typed_view p.header; body = p.body.now }, p.behind.now)) }
+    ensures ok { IfOk result (λ p. next_page max_header_size bytes.now
+        ≡ Ok (record { header = typed_view p.header; body = p.body.now }, p.behind.now)) }
     ensures counted { IfOk result (λ p. IsCounted p.header) }
     ensures refused { IfErr result (λ e. (e ≡ Memory) ⊎ (next_page max_header_size bytes.now ≡ Err e)) }
 {

@@ -67,7 +67,12 @@ impl<'a> PageReader<'a> {
         max_header_size: usize,
     ) -> Self
         requires { HasLevels descriptor }
-        ensures { result ≡ record { outcomes = pages_in max_header_size (levels_in descriptor) at_start num_values bytes.entry.now; lent = None; shown = None } }
+        ensures { result ≡ record {
+          outcomes = pages_in max_header_size
+              (levels_in descriptor) at_start num_values bytes.entry.now;
+          lent = None;
+          shown = None;
+        } }
     {
         PageReader {
             alloc,
@@ -159,10 +164,13 @@ fn find_page<'a>(
     bytes: &'a [u8],
 ) -> Result<Taken<'a>>
     requires some { 0 < left }
-    ensures ok { IfOk result (λ s. (levels : Levels) → pages_in max_header_size levels place left bytes.now ≡ outcome_in levels (typed_view s.seen.header) s.seen.body.now ∷ pages_in max_header_size levels s.place s.left s.bytes.now) }
+    ensures ok { IfOk result (λ s. (levels : Levels) → pages_in max_header_size levels place left bytes.now
+        ≡ outcome_in levels (typed_view s.seen.header) s.seen.body.now
+        ∷ pages_in max_header_size levels s.place s.left s.bytes.now) }
     ensures counted { IfOk result (λ s. IsCounted s.seen.header) }
     ensures named { IfOk result (λ s. IsNamed s.seen.header) }
-    ensures refused { IfErr result (λ e. (e ≡ Memory) ⊎ ((levels : Levels) → pages_in max_header_size levels place left bytes.now ≡ fails e ∷ [])) }
+    ensures refused { IfErr result (λ e. (e ≡ Memory) ⊎ ((levels : Levels)
+        → pages_in max_header_size levels place left bytes.now ≡ fails e ∷ [])) }
 {
     let raw = match raw_page(alloc, bytes, max_header_size) {
         Ok(raw) => raw,

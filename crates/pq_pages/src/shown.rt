@@ -31,7 +31,8 @@ impl<'a> DataPageRef<'a> {
     /// The page with this header and body, of the column that the descriptor tells of.
     pub fn new(header: &'a DataPageHeader, buffer: &'a [u8], descriptor: &'a Descriptor) -> Self
         requires { MakesPage header.now descriptor.now }
-        ensures { result ≡ record { header = header.now; buffer = buffer.now; descriptor = descriptor.now; selected_rows = None } }
+        ensures { result
+            ≡ record { header = header.now; buffer = buffer.now; descriptor = descriptor.now; selected_rows = None } }
     {
         DataPageRef {
             header,

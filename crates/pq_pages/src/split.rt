@@ -16,7 +16,8 @@ use pq_tree::{DataPageHeader, DataPageHeaderV2, Descriptor};
 
 /// So many bytes, and those behind them.
 fn front(bytes: &[u8], size: usize) -> Option<(&[u8], &[u8])>
-    ensures { MatchOption result (length bytes.now < size) (λ x. (size ≤ length bytes.now) × (x.0.now ≡ take size bytes.now) × (x.1.now ≡ drop size bytes.now)) }
+    ensures { MatchOption result (length bytes.now < size) (λ x. (size ≤ length bytes.now)
+        × (x.0.now ≡ take size bytes.now) × (x.1.now ≡ drop size bytes.now)) }
 {
     if bytes.len() < size {
         return None;
@@ -27,7 +28,8 @@ fn front(bytes: &[u8], size: usize) -> Option<(&[u8], &[u8])>
 /// The section of levels up to this maximum in front of the bytes, and what lies behind it. It stands behind its length in
 /// four bytes, and is not there where the maximum is 0.
 fn behind_length(maximum: usize, bytes: &[u8]) -> Option<(&[u8], &[u8])>
-    ensures { MatchOption result ((section rest : List ℕ) → IsBehindLength maximum bytes.now section rest → ⊥) (λ x. IsBehindLength maximum bytes.now x.0.now x.1.now) }
+    ensures { MatchOption result ((section rest : List ℕ) → IsBehindLength maximum bytes.now section rest
+        → ⊥) (λ x. IsBehindLength maximum bytes.now x.0.now x.1.now) }
 {
     if maximum == 0 {
         return Some((&bytes[..0], bytes));
@@ -55,7 +57,10 @@ fn greatest_levels(descriptor: &Descriptor) -> (usize, usize)
 
 /// The lengths that the header states of the repetition and the definition levels, if neither is negative.
 fn stated_lengths(header: &DataPageHeaderV2) -> Option<(usize, usize)>
-    ensures { MatchOption result ((r d : ℕ) → pos r ≡ header.now.repetition_levels_byte_length → pos d ≡ header.now.definition_levels_byte_length → ⊥) (λ x. (pos x.0 ≡ header.now.repetition_levels_byte_length) × (pos x.1 ≡ header.now.definition_levels_byte_length)) }
+    ensures { MatchOption result ((r d : ℕ) → pos r ≡ header.now.repetition_levels_byte_length
+        → pos d ≡ header.now.definition_levels_byte_length
+        → ⊥) (λ x. (pos x.0 ≡ header.now.repetition_levels_byte_length)
+        × (pos x.1 ≡ header.now.definition_levels_byte_length)) }
 {
     if header.repetition_levels_byte_length < 0 {
         return None;
@@ -74,7 +79,8 @@ type Parts<'a> = (&'a [u8], &'a [u8], &'a [u8]);
 
 fn split_v1<'a>(descriptor: &Descriptor, body: &'a [u8]) -> Option<Parts<'a>>
     requires { HasLevels descriptor.now }
-    ensures { MatchOption result ((s : Sections) → Splits1 (levels_in descriptor.now) body.entry.now s → ⊥) (λ x. Splits1 (levels_in descriptor.now) body.entry.now (sections x.0.now x.1.now x.2.now)) }
+    ensures { MatchOption result ((s : Sections) → Splits1 (levels_in descriptor.now) body.entry.now s
+        → ⊥) (λ x. Splits1 (levels_in descriptor.now) body.entry.now (sections x.0.now x.1.now x.2.now)) }
 {
     let (max_repetition, max_definition) = greatest_levels(descriptor);
     let Some((repetition, behind)) = behind_length(max_repetition, body) else {
@@ -87,7 +93,8 @@ fn split_v1<'a>(descriptor: &Descriptor, body: &'a [u8]) -> Option<Parts<'a>>
 }
 
 fn split_v2<'a>(header: &DataPageHeaderV2, body: &'a [u8]) -> Option<Parts<'a>>
-    ensures { MatchOption result ((s : Sections) → Splits2 header.now body.entry.now s → ⊥) (λ x. Splits2 header.now body.entry.now (sections x.0.now x.1.now x.2.now)) }
+    ensures { MatchOption result ((s : Sections) → Splits2 header.now body.entry.now s
+        → ⊥) (λ x. Splits2 header.now body.entry.now (sections x.0.now x.1.now x.2.now)) }
 {
     let Some((repetition_length, definition_length)) = stated_lengths(header) else {
         return None;
@@ -107,7 +114,8 @@ fn split_by<'a>(
     body: &'a [u8],
 ) -> Option<Parts<'a>>
     requires { HasLevels descriptor.now }
-    ensures { MatchOption result ((s : Sections) → Splits header.now (levels_in descriptor.now) body.entry.now s → ⊥) (λ x. Splits header.now (levels_in descriptor.now) body.entry.now (sections x.0.now x.1.now x.2.now)) }
+    ensures { MatchOption result ((s : Sections) → Splits header.now (levels_in descriptor.now) body.entry.now s
+        → ⊥) (λ x. Splits header.now (levels_in descriptor.now) body.entry.now (sections x.0.now x.1.now x.2.now)) }
 {
     match header {
         DataPageHeader::V1(_) => split_v1(descriptor, body),
@@ -122,8 +130,10 @@ fn split_by<'a>(
 ///
 /// `OutOfSpec(S4)`: exactly where a section of levels does not lie in the body.
 pub fn split_buffer(page: &DataPage) -> Result<(&[u8], &[u8], &[u8])>
-    ensures ok { IfOk result (λ x. Splits page.now.header (levels_in page.now.descriptor) page.now.buffer (sections x.0.now x.1.now x.2.now)) }
-    ensures refused { IfErr result (λ e. (e ≡ OutOfSpec S4) × ((s : Sections) → Splits page.now.header (levels_in page.now.descriptor) page.now.buffer s → ⊥)) }
+    ensures ok { IfOk result (λ x. Splits page.now.header (levels_in page.now.descriptor) page.now.buffer
+        (sections x.0.now x.1.now x.2.now)) }
+    ensures refused { IfErr result (λ e. (e ≡ OutOfSpec S4) × ((s : Sections)
+        → Splits page.now.header (levels_in page.now.descriptor) page.now.buffer s → ⊥)) }
 {
     match split_by(page.header(), page.descriptor(), page.buffer()) {
         Some(parts) => Ok(parts),
@@ -137,8 +147,10 @@ pub fn split_buffer(page: &DataPage) -> Result<(&[u8], &[u8], &[u8])>
 ///
 /// `OutOfSpec(S4)`: exactly where a section of levels does not lie in the body.
 pub fn split_shown<'a>(page: &DataPageRef<'a>) -> Result<(&'a [u8], &'a [u8], &'a [u8])>
-    ensures ok { IfOk result (λ x. Splits page.now.header (levels_in page.now.descriptor) page.now.buffer (sections x.0.now x.1.now x.2.now)) }
-    ensures refused { IfErr result (λ e. (e ≡ OutOfSpec S4) × ((s : Sections) → Splits page.now.header (levels_in page.now.descriptor) page.now.buffer s → ⊥)) }
+    ensures ok { IfOk result (λ x. Splits page.now.header (levels_in page.now.descriptor) page.now.buffer
+        (sections x.0.now x.1.now x.2.now)) }
+    ensures refused { IfErr result (λ e. (e ≡ OutOfSpec S4) × ((s : Sections)
+        → Splits page.now.header (levels_in page.now.descriptor) page.now.buffer s → ⊥)) }
 {
     match split_by(page.header(), page.descriptor(), page.buffer()) {
         Some(parts) => Ok(parts),

@@ -80,7 +80,10 @@ fn count_next(
     block: &mut PairBlock,
     level: usize,
 ) -> Option<Result<usize>>
-    ensures { MatchOption result (pairs.old ≡ []) (λ r. MatchResult r (λ n. (n + present_in level pairs.new ≡ present_in level pairs.old) × (HasFault pairs.new → HasFault pairs.old) × (length pairs.new < length pairs.old)) (λ e. (e ≡ OutOfSpec S4) × HasFault pairs.old)) }
+    ensures { MatchOption result (pairs.old ≡ [])
+        (λ r. MatchResult r (λ n. (n + present_in level pairs.new ≡ present_in level pairs.old)
+        × (HasFault pairs.new → HasFault pairs.old) × (length pairs.new < length pairs.old)) (λ e. (e ≡ OutOfSpec S4)
+        × HasFault pairs.old)) }
 {
     if let Some((_, copied, copies)) = pairs.next_copies(usize::MAX) {
         return Some(Ok(count_copies(copies, copied, level)));

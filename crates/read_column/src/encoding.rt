@@ -20,7 +20,8 @@ pub enum ValueEncoding {
 
 // The encoding of this number; none where it is not known.
 fn numbered(encoding: i32) -> Option<ValueEncoding>
-    ensures { MatchOption result (encoding_numbered encoding ≡ None) (λ known. encoding_numbered encoding ≡ Some (encoding_by known)) }
+    ensures { MatchOption result (encoding_numbered encoding ≡ None) (λ known. encoding_numbered encoding
+        ≡ Some (encoding_by known)) }
 {
     match encoding {
         0 => Some(ValueEncoding::Plain),

@@ -98,8 +98,10 @@ impl Entries {
 fn next_place<L: LeafReader>(leaf: &L, body: &[u8], start: usize) -> Result<Place>
     requires own { in_bytes (λ text. L.stored leaf.now text 0) ≡ true }
     requires within { start ≤ length body.now }
-    ensures ok { IfOk result (λ p. (p.start ≡ start) × IsPlaceIn (length body.now) p × (v : Value) × IsValue (λ text. L.stored leaf.now text 0) (text_at body.now p) v) }
-    ensures err { IfErr result (λ e. ((e ≡ OutOfSpec S6) × (L.stored leaf.now (drop start body.now) 0 ≡ [])) ⊎ ((e ≡ OutOfSpec S7) × BeginsOutside (λ text. L.stored leaf.now text 0) (drop start body.now))) }
+    ensures ok { IfOk result (λ p. (p.start ≡ start) × IsPlaceIn (length body.now) p × (v : Value)
+        × IsValue (λ text. L.stored leaf.now text 0) (text_at body.now p) v) }
+    ensures err { IfErr result (λ e. ((e ≡ OutOfSpec S6) × (L.stored leaf.now (drop start body.now) 0 ≡ []))
+        ⊎ ((e ≡ OutOfSpec S7) × BeginsOutside (λ text. L.stored leaf.now text 0) (drop start body.now))) }
 {
     match leaf.value_size(&body[start..]) {
         Ok(size) => Ok(Place {

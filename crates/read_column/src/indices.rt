@@ -60,7 +60,9 @@ fn take_copies<'a>(
     requires some { 0 < runs.old.left }
     requires fits { width ≤ 32 }
     requires run { IsRepeatedRun width runs.old.bytes.now value.now count rest.now }
-    ensures ok { IfOk result (λ all. LaysRun entries.now all width runs.old.left runs.old.bytes.now runs.new.left runs.new.bytes.now values.old.items values.new.items) }
+    ensures ok { IfOk result
+        (λ all. LaysRun entries.now all width runs.old.left runs.old.bytes.now runs.new.left runs.new.bytes.now
+        values.old.items values.new.items) }
     ensures rest { runs.new.bytes.now ≡ rest.now }
     ensures err { IfErr result (λ e. e ≡ Memory) }
 {
@@ -83,7 +85,9 @@ fn take_packed<'a>(
     requires wide { 0 < width }
     requires fits { width ≤ 32 }
     requires run { IsPackedRun width runs.old.bytes.now body.now rest.now }
-    ensures ok { IfOk result (λ all. LaysRun entries.now all width runs.old.left runs.old.bytes.now runs.new.left runs.new.bytes.now values.old.items values.new.items) }
+    ensures ok { IfOk result
+        (λ all. LaysRun entries.now all width runs.old.left runs.old.bytes.now runs.new.left runs.new.bytes.now
+        values.old.items values.new.items) }
     ensures rest { runs.new.bytes.now ≡ rest.now }
     ensures err { IfErr result (λ e. e ≡ Memory) }
 {
@@ -103,7 +107,9 @@ fn take_run(
     requires some { 0 < runs.old.left }
     requires wide { 0 < width }
     requires fits { width ≤ 32 }
-    ensures ok { IfOk result (λ all. LaysRun entries.now all width runs.old.left runs.old.bytes.now runs.new.left runs.new.bytes.now values.old.items values.new.items) }
+    ensures ok { IfOk result
+        (λ all. LaysRun entries.now all width runs.old.left runs.old.bytes.now runs.new.left runs.new.bytes.now
+        values.old.items values.new.items) }
     ensures shorter { IfOk result (λ all. IsTrue all → length runs.new.bytes.now < length runs.old.bytes.now) }
     ensures err { IfErr result (λ e. e ≡ Memory) }
 {

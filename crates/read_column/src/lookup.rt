@@ -33,7 +33,8 @@ fn skip(bytes: &[u8], count: usize) -> &[u8]
 #[inline(always)]
 fn short_at<'a>(body: &'a [u8], places: &[Place], index: usize) -> Option<(&'a [u8], usize)>
     requires { All (IsPadded (length body.now)) places.now }
-    ensures { MatchOption result (Unit {0}) (λ s. (s.1 ≤ 32) × (32 ≤ length s.0.now) × (slice_get (map (text_at body.now) places.now) index ≡ Some (take s.1 s.0.now))) }
+    ensures { MatchOption result (Unit {0}) (λ s. (s.1 ≤ 32) × (32 ≤ length s.0.now)
+        × (slice_get (map (text_at body.now) places.now) index ≡ Some (take s.1 s.0.now))) }
 {
     if places.len() <= index {
         return None;
@@ -110,7 +111,8 @@ pub fn put_short(
 #[inline(always)]
 fn even_at<'a, const N: usize>(body: &'a [u8], places: &[Place], index: usize) -> Option<&'a [u8]>
     requires { AreEven N body.now (map (text_at body.now) places.now) }
-    ensures { MatchOption result (Unit {0}) (λ text. (N ≤ length text.now) × (slice_get (map (text_at body.now) places.now) index ≡ Some (take N text.now))) }
+    ensures { MatchOption result (Unit {0}) (λ text. (N ≤ length text.now)
+        × (slice_get (map (text_at body.now) places.now) index ≡ Some (take N text.now))) }
 {
     if places.len() <= index {
         return None;
@@ -174,7 +176,8 @@ fn push_short(
     count: usize,
 ) -> Result<usize>
     requires { count ≤ 32 }
-    ensures ok { IfOk result (λ n. (n ≤ count) × ((text : List ℕ) × (values.new.items ≡ values.old.items ++ text) × AreLaidAs entries.now (take n indices.now) text)) }
+    ensures ok { IfOk result (λ n. (n ≤ count) × ((text : List ℕ) × (values.new.items ≡ values.old.items ++ text)
+        × AreLaidAs entries.now (take n indices.now) text)) }
     ensures err { IfErr result (λ e. e ≡ Memory) }
 {
     let (n, size) = entries.put_short(places, indices, count);
@@ -218,7 +221,8 @@ pub fn push_packed(
     count: usize,
 ) -> Result<bool>
     requires { width ≤ 32 }
-    ensures ok { IfOk result (λ all. Lays entries.now (unpacked width count body.now) all values.old.items values.new.items) }
+    ensures ok { IfOk result (λ all. Lays entries.now
+        (unpacked width count body.now) all values.old.items values.new.items) }
     ensures err { IfErr result (λ e. e ≡ Memory) }
 {
     let mut rest = body;

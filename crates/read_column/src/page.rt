@@ -64,7 +64,8 @@ fn says_runs(maximum: usize, encoding: Option<i32>) -> bool
 
 // Both levels are: version 2 knows no other form.
 fn say_runs(max_repetition: usize, max_definition: usize, header: &DataPageHeader) -> bool
-    ensures { IsTrue result ↔ SayRuns (record { repetition = max_repetition; definition = max_definition }) (typed_view (T.Data header.now)) }
+    ensures { IsTrue result ↔ SayRuns (record { repetition = max_repetition; definition = max_definition })
+        (typed_view (T.Data header.now)) }
 {
     match header {
         DataPageHeader::V1(header) => both_say_runs(max_repetition, max_definition, header),
@@ -74,7 +75,8 @@ fn say_runs(max_repetition: usize, max_definition: usize, header: &DataPageHeade
 
 // Of version 1.
 fn both_say_runs(max_repetition: usize, max_definition: usize, header: &DataPageHeaderV1) -> bool
-    ensures { IsTrue result ↔ (SaysRuns max_repetition header.now.repetition_level_encoding × SaysRuns max_definition header.now.definition_level_encoding) }
+    ensures { IsTrue result ↔ (SaysRuns max_repetition header.now.repetition_level_encoding
+        × SaysRuns max_definition header.now.definition_level_encoding) }
 {
     says_runs(max_repetition, header.repetition_level_encoding)
         && says_runs(max_definition, header.definition_level_encoding)
@@ -96,7 +98,8 @@ fn greatest_levels(page: &DataPageRef<'_>) -> (usize, usize)
 
 // So many bytes, and those behind them.
 fn front(bytes: &[u8], size: usize) -> Option<(&[u8], &[u8])>
-    ensures { MatchOption result (length bytes.now < size) (λ x. (length x.0.now ≡ size) × (bytes.now ≡ x.0.now ++ x.1.now)) }
+    ensures { MatchOption result (length bytes.now < size) (λ x. (length x.0.now ≡ size)
+        × (bytes.now ≡ x.0.now ++ x.1.now)) }
 {
     if bytes.len() < size {
         return None;
@@ -110,7 +113,8 @@ fn split_at<'a>(
     repetition_length: usize,
     definition_length: usize,
 ) -> Option<(&'a [u8], &'a [u8], &'a [u8])>
-    ensures { MatchOption result ((s : Sections) → IsSplit2 repetition_length definition_length body.now s → ⊥) (λ x. IsSplit2 repetition_length definition_length body.now (sections x.0.now x.1.now x.2.now)) }
+    ensures { MatchOption result ((s : Sections) → IsSplit2 repetition_length definition_length body.now s
+        → ⊥) (λ x. IsSplit2 repetition_length definition_length body.now (sections x.0.now x.1.now x.2.now)) }
 {
     let Some((repetition, behind)) = front(body, repetition_length) else {
         return None;
@@ -127,8 +131,12 @@ fn cut_v2<'a>(
     header: &DataPageHeaderV2,
 ) -> Result<(&'a [u8], &'a [u8], &'a [u8])>
     requires { page.now.header ≡ V2 header.now }
-    ensures ok { IfOk result (λ x. IsCutInto (raw_page page.now) (levels_in page.now.descriptor) (sections x.0.now x.1.now x.2.now)) }
-    ensures err { IfErr result (λ e. (e ≡ OutOfSpec S4) × ((l : Leaf) → leaf_repetition l ≡ natural_part page.now.descriptor.max_rep_level → leaf_definition l ≡ natural_part page.now.descriptor.max_def_level → (s : Sections) → IsSplit l (raw_page page.now).header page.now.buffer s → ⊥)) }
+    ensures ok { IfOk result (λ x. IsCutInto (raw_page page.now) (levels_in page.now.descriptor)
+        (sections x.0.now x.1.now x.2.now)) }
+    ensures err { IfErr result (λ e. (e ≡ OutOfSpec S4) × ((l : Leaf)
+        → leaf_repetition l ≡ natural_part page.now.descriptor.max_rep_level
+        → leaf_definition l ≡ natural_part page.now.descriptor.max_def_level → (s : Sections)
+        → IsSplit l (raw_page page.now).header page.now.buffer s → ⊥)) }
 {
     let repetition_length = natural(header.repetition_levels_byte_length);
     let definition_length = natural(header.definition_levels_byte_length);
@@ -144,8 +152,12 @@ fn cut_v1<'a>(
     _header: &DataPageHeaderV1,
 ) -> Result<(&'a [u8], &'a [u8], &'a [u8])>
     requires { page.now.header ≡ V1 _header.now }
-    ensures ok { IfOk result (λ x. IsCutInto (raw_page page.now) (levels_in page.now.descriptor) (sections x.0.now x.1.now x.2.now)) }
-    ensures err { IfErr result (λ e. (e ≡ OutOfSpec S4) × ((l : Leaf) → leaf_repetition l ≡ natural_part page.now.descriptor.max_rep_level → leaf_definition l ≡ natural_part page.now.descriptor.max_def_level → (s : Sections) → IsSplit l (raw_page page.now).header page.now.buffer s → ⊥)) }
+    ensures ok { IfOk result (λ x. IsCutInto (raw_page page.now) (levels_in page.now.descriptor)
+        (sections x.0.now x.1.now x.2.now)) }
+    ensures err { IfErr result (λ e. (e ≡ OutOfSpec S4) × ((l : Leaf)
+        → leaf_repetition l ≡ natural_part page.now.descriptor.max_rep_level
+        → leaf_definition l ≡ natural_part page.now.descriptor.max_def_level → (s : Sections)
+        → IsSplit l (raw_page page.now).header page.now.buffer s → ⊥)) }
 {
     splits_are_of_pages();
     let _counted = page.header();
@@ -154,8 +166,12 @@ fn cut_v1<'a>(
 
 // The sections of a page.
 fn cut<'a>(page: &DataPageRef<'a>) -> Result<(&'a [u8], &'a [u8], &'a [u8])>
-    ensures ok { IfOk result (λ x. IsCutInto (raw_page page.now) (levels_in page.now.descriptor) (sections x.0.now x.1.now x.2.now)) }
-    ensures err { IfErr result (λ e. (e ≡ OutOfSpec S4) × ((l : Leaf) → leaf_repetition l ≡ natural_part page.now.descriptor.max_rep_level → leaf_definition l ≡ natural_part page.now.descriptor.max_def_level → (s : Sections) → IsSplit l (raw_page page.now).header page.now.buffer s → ⊥)) }
+    ensures ok { IfOk result (λ x. IsCutInto (raw_page page.now) (levels_in page.now.descriptor)
+        (sections x.0.now x.1.now x.2.now)) }
+    ensures err { IfErr result (λ e. (e ≡ OutOfSpec S4) × ((l : Leaf)
+        → leaf_repetition l ≡ natural_part page.now.descriptor.max_rep_level
+        → leaf_definition l ≡ natural_part page.now.descriptor.max_def_level → (s : Sections)
+        → IsSplit l (raw_page page.now).header page.now.buffer s → ⊥)) }
 {
     match page.header() {
         DataPageHeader::V1(header) => cut_v1(page, header),
@@ -203,7 +219,8 @@ impl<'a> OpenPage<'a> {
     ///
     /// S4 where a greatest level has more than 32 bits.
     pub fn pairs(&self) -> Result<NestedPage<'a>>
-        ensures { MatchResult result (ArePairsIn self.now) (λ e. (e ≡ OutOfSpec S4) × ((2 ^ 32 ≤ self.now.max_repetition) ⊎ (2 ^ 32 ≤ self.now.max_definition))) }
+        ensures { MatchResult result (ArePairsIn self.now) (λ e. (e ≡ OutOfSpec S4)
+            × ((2 ^ 32 ≤ self.now.max_repetition) ⊎ (2 ^ 32 ≤ self.now.max_definition))) }
     {
         NestedPage::try_new(
             self.repetitions,
@@ -220,7 +237,8 @@ impl<'a> OpenPage<'a> {
     ///
     /// S4 where a greatest level has more than 32 bits.
     pub fn pairs_and_first(&self) -> Result<(NestedPage<'a>, bool)>
-        ensures { MatchResult result (λ x. ArePairsIn self.now x.0 × (x.1 ≡ first_goes_on x.0)) (λ e. (e ≡ OutOfSpec S4) × ((2 ^ 32 ≤ self.now.max_repetition) ⊎ (2 ^ 32 ≤ self.now.max_definition))) }
+        ensures { MatchResult result (λ x. ArePairsIn self.now x.0 × (x.1 ≡ first_goes_on x.0)) (λ e. (e ≡ OutOfSpec S4)
+            × ((2 ^ 32 ≤ self.now.max_repetition) ⊎ (2 ^ 32 ≤ self.now.max_definition))) }
     {
         let mut first = match self.pairs() {
             Ok(first) => first,
@@ -240,8 +258,10 @@ impl<'a> OpenPage<'a> {
     /// S4 where a pair cannot be read.
     pub fn present(&self) -> Result<usize>
         requires { IsSized self.now }
-        ensures ok { (items : List Item) → ArePairsIn self.now items → IfOk result (λ n. n ≡ present_in self.now.max_definition items) }
-        ensures err { (items : List Item) → ArePairsIn self.now items → IfErr result (λ e. (e ≡ OutOfSpec S4) × HasFault items) }
+        ensures ok { (items : List Item) → ArePairsIn self.now items
+            → IfOk result (λ n. n ≡ present_in self.now.max_definition items) }
+        ensures err { (items : List Item) → ArePairsIn self.now items
+            → IfErr result (λ e. (e ≡ OutOfSpec S4) × HasFault items) }
     {
         match self.pairs() {
             Ok(pairs) => count_present(pairs, self.max_definition),
@@ -274,7 +294,8 @@ pub struct PagePairs<'a> {
 ///
 /// Those of `open_page`.
 pub fn open_pairs<'a>(page: &DataPageRef<'a>, own: bool, deltas: Deltas) -> Result<PagePairs<'a>>
-    ensures ok { IfOk result (λ x. IsOpenPage own deltas (raw_page page.now) (levels_in page.now.descriptor) x.open × ArePairsIn x.open x.pairs × (x.goes_on ≡ first_goes_on x.pairs)) }
+    ensures ok { IfOk result (λ x. IsOpenPage own deltas (raw_page page.now) (levels_in page.now.descriptor) x.open
+        × ArePairsIn x.open x.pairs × (x.goes_on ≡ first_goes_on x.pairs)) }
     ensures err { IfErr result (CannotOpen own deltas (raw_page page.now) (levels_in page.now.descriptor)) }
 {
     let open = match open_page(page, own, deltas) {

@@ -100,7 +100,8 @@ impl<L: LeafReader> Queue<L> {
         chunk_size: Option<usize>,
         num_rows: usize,
     ) -> Result<Option<Self>>
-        ensures ok { IfOk result (λ o. MatchOption o (ends_in_leaf parts.items ≡ false) (λ q. q ≡ begun_queue q.width parts.items chunk_size num_rows)) }
+        ensures ok { IfOk result (λ o. MatchOption o (ends_in_leaf parts.items ≡ false) (λ q. q
+            ≡ begun_queue q.width parts.items chunk_size num_rows)) }
         ensures suits { IfOk result (λ o. IsSuited (L.suits leaf.now) o) }
         ensures err { IfErr result (λ e. e ≡ Memory) }
     {
@@ -161,8 +162,11 @@ impl<L: LeafReader> Queue<L> {
         bytes: &mut PlainBytes<'b>,
     ) -> Result<Self>
         requires suits { L.suits leaf.now self.width }
-        ensures ok { IfOk result (λ q. ExtendsLast self q page.old page.new (L.stored leaf.now bytes.old.values.now bytes.old.bit) (L.stored leaf.now bytes.new.values.now bytes.new.bit)) }
-        ensures err { IfErr result (Refuses L.byte_limit (self.rows - count self.state) page.old (L.stored leaf.now bytes.old.values.now bytes.old.bit) self.state self.leaf) }
+        ensures ok { IfOk result (λ q. ExtendsLast self q page.old page.new
+            (L.stored leaf.now bytes.old.values.now bytes.old.bit)
+            (L.stored leaf.now bytes.new.values.now bytes.new.bit)) }
+        ensures err { IfErr result (Refuses L.byte_limit (self.rows - count self.state) page.old
+            (L.stored leaf.now bytes.old.values.now bytes.old.bit) self.state self.leaf) }
     {
         let Queue {
             alloc,
@@ -226,7 +230,9 @@ impl<L: LeafReader> Queue<L> {
 
     /// The first whole piece.
     pub fn pop(&mut self) -> Option<(NestedState, L::Values)>
-        ensures { MatchOption result ((self.old.whole ≡ []) × (self.new ≡ self.old)) (λ p. (self.old ≡ record self.new { whole = (p.0, L.slots p.1) ∷ self.new.whole }) × (L.width p.1 ≡ self.old.width)) }
+        ensures { MatchOption result ((self.old.whole ≡ []) × (self.new ≡ self.old))
+            (λ p. (self.old ≡ record self.new { whole = (p.0, L.slots p.1) ∷ self.new.whole })
+            × (L.width p.1 ≡ self.old.width)) }
     {
         self.whole.pop_front()
     }

@@ -76,8 +76,12 @@ fn take_entries<L: LeafReader>(
     entries: &mut Option<Entries>,
     began: bool,
 ) -> Result<()>
-    ensures ok { OnOk result ((began ≡ false) × (entries.old ≡ None) × (texts : Texts) × (entries.new ≡ Some texts) × HoldsEntries (λ text. L.stored leaf.now text 0) page.now.num_values page.now.buffer.now texts) }
-    ensures err { IfErr result (λ e. (e ≡ Memory) ⊎ ((e ≡ OutOfSpec S3) × ((began ≡ true) ⊎ IsTrue (is_some entries.old))) ⊎ ((began ≡ false) × (entries.old ≡ None) × CannotHold (λ text. L.stored leaf.now text 0) page.now.num_values page.now.buffer.now e)) }
+    ensures ok { OnOk result ((began ≡ false) × (entries.old ≡ None) × (texts : Texts) × (entries.new ≡ Some texts)
+        × HoldsEntries (λ text. L.stored leaf.now text 0) page.now.num_values page.now.buffer.now texts) }
+    ensures err { IfErr result (λ e. (e ≡ Memory) ⊎ ((e ≡ OutOfSpec S3)
+        × ((began ≡ true) ⊎ IsTrue (is_some entries.old)))
+        ⊎ ((began ≡ false) × (entries.old ≡ None)
+        × CannotHold (λ text. L.stored leaf.now text 0) page.now.num_values page.now.buffer.now e)) }
 {
     if began {
         return Err(Error::OutOfSpec(S::S3));
@@ -105,10 +109,17 @@ fn take_next<I: Pages, L: LeafReader>(
     queue: Queue<L>,
 ) -> Result<(Queue<L>, bool)>
     requires suits { L.suits leaf.now queue.width }
-    ensures ok { (o : ColumnOpening) (pieces : List (List Triple)) (others : List Outcome) → IsReading (λ text. L.stored leaf.now text 0) L.byte_limit o pieces (reading (foreseen (I.outcomes pages.old) others) (means entries.old deltas) queue began.old) → IfOk result (λ x. Steps (λ text. L.stored leaf.now text 0) L.byte_limit o pieces x.1 x.0 (foreseen (I.outcomes pages.new) others) (means entries.new deltas) began.new) }
+    ensures ok { (o : ColumnOpening) (pieces : List (List Triple)) (others : List Outcome)
+        → IsReading (λ text. L.stored leaf.now text 0) L.byte_limit o pieces
+        (reading (foreseen (I.outcomes pages.old) others) (means entries.old deltas) queue began.old)
+        → IfOk result (λ x. Steps (λ text. L.stored leaf.now text 0) L.byte_limit o pieces x.1 x.0
+        (foreseen (I.outcomes pages.new) others) (means entries.new deltas) began.new) }
     ensures less { IfOk result (λ x. IsTrue x.1 → length (I.outcomes pages.new) < length (I.outcomes pages.old)) }
     ensures behind { IfOk result (λ x. FollowsGiven (I.outcomes pages.old) (I.outcomes pages.new)) }
-    ensures err { (o : ColumnOpening) (pieces : List (List Triple)) (others : List Outcome) → IsReading (λ text. L.stored leaf.now text 0) L.byte_limit o pieces (reading (foreseen (I.outcomes pages.old) others) (means entries.old deltas) queue began.old) → IfErr result (λ e. SourceFails e (I.outcomes pages.old) ⊎ RefusesPiece o e) }
+    ensures err { (o : ColumnOpening) (pieces : List (List Triple)) (others : List Outcome)
+        → IsReading (λ text. L.stored leaf.now text 0) L.byte_limit o pieces
+        (reading (foreseen (I.outcomes pages.old) others) (means entries.old deltas) queue began.old)
+        → IfErr result (λ e. SourceFails e (I.outcomes pages.old) ⊎ RefusesPiece o e) }
     ensures suits { IfOk result (λ x. L.suits leaf.now x.0.width) }
 {
     items_are_counted();
@@ -145,9 +156,16 @@ fn fill<I: Pages, L: LeafReader>(
     queue: Queue<L>,
 ) -> Result<Queue<L>>
     requires suits { L.suits leaf.now queue.width }
-    ensures ok { (o : ColumnOpening) (pieces : List (List Triple)) (others : List Outcome) → IsReading (λ text. L.stored leaf.now text 0) L.byte_limit o pieces (reading (foreseen (I.outcomes pages.old) others) (means entries.old deltas) queue began.old) → IfOk result (λ q. IsFilled (λ text. L.stored leaf.now text 0) L.byte_limit o pieces q (foreseen (I.outcomes pages.new) others) (means entries.new deltas) began.new) }
+    ensures ok { (o : ColumnOpening) (pieces : List (List Triple)) (others : List Outcome)
+        → IsReading (λ text. L.stored leaf.now text 0) L.byte_limit o pieces
+        (reading (foreseen (I.outcomes pages.old) others) (means entries.old deltas) queue began.old)
+        → IfOk result (λ q. IsFilled (λ text. L.stored leaf.now text 0) L.byte_limit o pieces q
+        (foreseen (I.outcomes pages.new) others) (means entries.new deltas) began.new) }
     ensures behind { IfOk result (λ q. FollowsGiven (I.outcomes pages.old) (I.outcomes pages.new)) }
-    ensures err { (o : ColumnOpening) (pieces : List (List Triple)) (others : List Outcome) → IsReading (λ text. L.stored leaf.now text 0) L.byte_limit o pieces (reading (foreseen (I.outcomes pages.old) others) (means entries.old deltas) queue began.old) → IfErr result (λ e. SourceFails e (I.outcomes pages.old) ⊎ RefusesPiece o e) }
+    ensures err { (o : ColumnOpening) (pieces : List (List Triple)) (others : List Outcome)
+        → IsReading (λ text. L.stored leaf.now text 0) L.byte_limit o pieces
+        (reading (foreseen (I.outcomes pages.old) others) (means entries.old deltas) queue began.old)
+        → IfErr result (λ e. SourceFails e (I.outcomes pages.old) ⊎ RefusesPiece o e) }
     ensures suits { IfOk result (λ q. L.suits leaf.now q.width) }
 {
     let mut queue = queue;
@@ -180,8 +198,15 @@ impl<I: Pages, L: LeafReader> ColumnReader<I, L> {
         chunk_size: Option<usize>,
         num_rows: usize,
     ) -> Result<Self>
-        ensures ok { (o : ColumnOpening) (stored : List ℕ → List Stored) (limit : ℕ) → IsReadable o stored limit → o.leaf.physical ≡ physical_view physical_type → o.outcomes ≡ I.outcomes pages → IsWay nested.items (thin o.column.way) → o.rows ≡ num_rows → o.chunk_size ≡ chunk_size → IfOk result (λ r. IsReading stored limit o [] r) }
-        ensures foreseen { (o : ColumnOpening) (stored : List ℕ → List Stored) (limit : ℕ) (others : List Outcome) → IsReadable o stored limit → o.leaf.physical ≡ physical_view physical_type → o.outcomes ≡ foreseen (I.outcomes pages) others → IsWay nested.items (thin o.column.way) → o.rows ≡ num_rows → o.chunk_size ≡ chunk_size → IfOk result (λ r. IsReading stored limit o [] (foreseeing others r)) }
+        ensures ok { (o : ColumnOpening) (stored : List ℕ → List Stored) (limit : ℕ) → IsReadable o stored limit
+            → o.leaf.physical ≡ physical_view physical_type → o.outcomes ≡ I.outcomes pages
+            → IsWay nested.items (thin o.column.way) → o.rows ≡ num_rows → o.chunk_size ≡ chunk_size
+            → IfOk result (λ r. IsReading stored limit o [] r) }
+        ensures foreseen { (o : ColumnOpening) (stored : List ℕ → List Stored) (limit : ℕ) (others : List Outcome)
+            → IsReadable o stored limit → o.leaf.physical ≡ physical_view physical_type
+            → o.outcomes ≡ foreseen (I.outcomes pages) others → IsWay nested.items (thin o.column.way)
+            → o.rows ≡ num_rows → o.chunk_size ≡ chunk_size → IfOk result
+            (λ r. IsReading stored limit o [] (foreseeing others r)) }
         ensures suits { IfOk result (λ r. IsSuited (L.suits leaf.now) r.queue) }
         ensures err { IfErr result (λ e. e ≡ Memory) }
     {
@@ -208,8 +233,15 @@ impl<I: Pages, L: LeafReader> ColumnReader<I, L> {
     /// of version 2 than its header states; V1 where a piece passes the offsets of its array; `Memory`.
     pub fn next_piece(&mut self, leaf: &L) -> Option<Result<(NestedState, L::Values)>>
         requires suits { IsSuited (L.suits leaf.now) self.old.queue }
-        ensures gives { (o : ColumnOpening) (pieces : List (List Triple)) → IsReading (λ text. L.stored leaf.now text 0) L.byte_limit o pieces self.old → GivesPiece (IsReading (λ text. L.stored leaf.now text 0) L.byte_limit) (λ v ts. IsPiece o.column.way ts v.0 (L.slots v.1)) o pieces result self.new }
-        ensures foreseen { (o : ColumnOpening) (pieces : List (List Triple)) (others : List Outcome) → IsReading (λ text. L.stored leaf.now text 0) L.byte_limit o pieces (foreseeing others self.old) → GivesForeseen (λ o ps r. IsReading (λ text. L.stored leaf.now text 0) L.byte_limit o ps (foreseeing others r)) (λ v ts. IsPiece o.column.way ts v.0 (L.slots v.1)) o pieces self.old.outcomes result self.new }
+        ensures gives { (o : ColumnOpening) (pieces : List (List Triple))
+            → IsReading (λ text. L.stored leaf.now text 0) L.byte_limit o pieces self.old
+            → GivesPiece (IsReading (λ text. L.stored leaf.now text 0) L.byte_limit)
+            (λ v ts. IsPiece o.column.way ts v.0 (L.slots v.1)) o pieces result self.new }
+        ensures foreseen { (o : ColumnOpening) (pieces : List (List Triple)) (others : List Outcome)
+            → IsReading (λ text. L.stored leaf.now text 0) L.byte_limit o pieces (foreseeing others self.old)
+            → GivesForeseen (λ o ps r. IsReading (λ text. L.stored leaf.now text 0) L.byte_limit o ps
+            (foreseeing others r)) (λ v ts. IsPiece o.column.way ts v.0
+            (L.slots v.1)) o pieces self.old.outcomes result self.new }
         ensures suits { IsSuited (L.suits leaf.now) self.new.queue }
         ensures suited { GivesSuited (λ v. L.suits leaf.now (L.width v)) result }
     {

@@ -29,7 +29,9 @@ use std::alloc::Global;
 
 // No pair is left.
 fn no_more(page: &mut NestedPage<'_>) -> Result<()>
-    ensures { MatchResult result (λ _. page.old ≡ []) (λ e. ((e ≡ OutOfSpec S9) × ((p : Pair) × (is : List Item) × (page.old ≡ Ok p ∷ is))) ⊎ ((e ≡ OutOfSpec S4) × ((is : List Item) × (page.old ≡ fault ∷ is)))) }
+    ensures { MatchResult result (λ _. page.old ≡ []) (λ e. ((e ≡ OutOfSpec S9)
+        × ((p : Pair) × (is : List Item) × (page.old ≡ Ok p ∷ is)))
+        ⊎ ((e ≡ OutOfSpec S4) × ((is : List Item) × (page.old ≡ fault ∷ is)))) }
 {
     match page.next_run(1) {
         None => Ok(()),
@@ -50,8 +52,14 @@ pub fn take_pairs<'a, 'b, L: LeafReader>(
     bytes: &mut PlainBytes<'b>,
 ) -> Result<Queue<L>>
     requires suits { L.suits leaf.now queue.width }
-    ensures ok { (w : Way) (before : ℕ) (whole : List (List Triple)) (last : List Triple) → IsQueued w before whole last queue → BeginsPair page.old → IfOk result (λ q. TakesPage queue.chunk_size w before (joined whole ++ last) q page.old (L.stored leaf.now bytes.old.values.now bytes.old.bit)) }
-    ensures err { (w : Way) (before : ℕ) (whole : List (List Triple)) (last : List Triple) → IsQueued w before whole last queue → BeginsPair page.old → IfErr result (λ e. (e ≡ Memory) ⊎ StopsPage L.byte_limit queue.chunk_size w before (joined whole ++ last) page.old (L.stored leaf.now bytes.old.values.now bytes.old.bit) e) }
+    ensures ok { (w : Way) (before : ℕ) (whole : List (List Triple)) (last : List Triple)
+        → IsQueued w before whole last queue → BeginsPair page.old
+        → IfOk result (λ q. TakesPage queue.chunk_size w before (joined whole ++ last) q page.old
+        (L.stored leaf.now bytes.old.values.now bytes.old.bit)) }
+    ensures err { (w : Way) (before : ℕ) (whole : List (List Triple)) (last : List Triple)
+        → IsQueued w before whole last queue → BeginsPair page.old
+        → IfErr result (λ e. (e ≡ Memory) ⊎ StopsPage L.byte_limit queue.chunk_size w before
+        (joined whole ++ last) page.old (L.stored leaf.now bytes.old.values.now bytes.old.bit) e) }
     ensures suits { IfOk result (λ q. L.suits leaf.now q.width) }
 {
     let mut queue = queue;
@@ -100,8 +108,15 @@ fn take_values<L: LeafReader>(
     is_first: bool,
 ) -> Result<Queue<L>>
     requires suits { L.suits leaf.now queue.width }
-    ensures ok { (w : Way) (before : ℕ) (whole : List (List Triple)) (last : List Triple) → IsQueued w before whole last queue → opened.entry.goes_on ≡ first_goes_on opened.entry.pairs → IfOk result (λ q. TakesRows (λ text. L.stored leaf.now text 0) queue.chunk_size w before (joined whole ++ last) q (typed_view (T.Data header.now)) opened.entry.pairs values.now) }
-    ensures err { (w : Way) (before : ℕ) (whole : List (List Triple)) (last : List Triple) → IsQueued w before whole last queue → opened.entry.goes_on ≡ first_goes_on opened.entry.pairs → IfErr result (λ e. (e ≡ Memory) ⊎ RefusesRows (λ text. L.stored leaf.now text 0) L.byte_limit is_first queue.chunk_size w before (joined whole ++ last) (typed_view (T.Data header.now)) opened.entry.pairs values.now e) }
+    ensures ok { (w : Way) (before : ℕ) (whole : List (List Triple)) (last : List Triple)
+        → IsQueued w before whole last queue → opened.entry.goes_on ≡ first_goes_on opened.entry.pairs
+        → IfOk result (λ q. TakesRows (λ text. L.stored leaf.now text 0) queue.chunk_size w before
+        (joined whole ++ last) q (typed_view (T.Data header.now)) opened.entry.pairs values.now) }
+    ensures err { (w : Way) (before : ℕ) (whole : List (List Triple)) (last : List Triple)
+        → IsQueued w before whole last queue → opened.entry.goes_on ≡ first_goes_on opened.entry.pairs
+        → IfErr result (λ e. (e ≡ Memory)
+        ⊎ RefusesRows (λ text. L.stored leaf.now text 0) L.byte_limit is_first queue.chunk_size w before
+        (joined whole ++ last) (typed_view (T.Data header.now)) opened.entry.pairs values.now e) }
     ensures suits { IfOk result (λ q. L.suits leaf.now q.width) }
 {
     if opened.goes_on {
@@ -127,7 +142,8 @@ fn values_at(
     section: &[u8],
     count: usize,
 ) -> Result<Vec<u8>>
-    ensures ok { IfOk result (λ values. (texts : Texts) × (entries.now ≡ Some texts) × IsLaid texts (indices_in count section.now) values.items) }
+    ensures ok { IfOk result (λ values. (texts : Texts) × (entries.now ≡ Some texts)
+        × IsLaid texts (indices_in count section.now) values.items) }
     ensures err { IfErr result (λ e. (e ≡ Memory) ⊎ ((e ≡ OutOfSpec S3) × (entries.now ≡ None))) }
 {
     match entries {
@@ -139,8 +155,10 @@ fn values_at(
 // The values of a page of deltas, as plain bytes.
 fn turned_values(alloc: Global, deltas: Deltas, page: &OpenPage<'_>) -> Result<Vec<u8>>
     requires { IsSized page.now }
-    ensures ok { (items : List Item) → ArePairsIn page.now items → IfOk result (λ values. AreTurnedIn deltas page.now items values.items) }
-    ensures err { (items : List Item) → ArePairsIn page.now items → IfErr result (λ e. (e ≡ Memory) ⊎ AreNotTurned deltas page.now items e) }
+    ensures ok { (items : List Item) → ArePairsIn page.now items
+        → IfOk result (λ values. AreTurnedIn deltas page.now items values.items) }
+    ensures err { (items : List Item) → ArePairsIn page.now items
+        → IfErr result (λ e. (e ≡ Memory) ⊎ AreNotTurned deltas page.now items e) }
 {
     match page.present() {
         Ok(count) => plain_deltas(alloc, deltas, page.values, count),
@@ -156,8 +174,10 @@ fn laid_values(
     page: &OpenPage<'_>,
 ) -> Result<Option<Vec<u8>>>
     requires { IsSized page.now }
-    ensures ok { (items : List Item) → ArePairsIn page.now items → IfOk result (λ laid. AreLaid (means entries.now deltas) page.now items laid) }
-    ensures err { (items : List Item) → ArePairsIn page.now items → IfErr result (λ e. (e ≡ Memory) ⊎ AreNotLaid (means entries.now deltas) page.now items e) }
+    ensures ok { (items : List Item) → ArePairsIn page.now items
+        → IfOk result (λ laid. AreLaid (means entries.now deltas) page.now items laid) }
+    ensures err { (items : List Item) → ArePairsIn page.now items
+        → IfErr result (λ e. (e ≡ Memory) ⊎ AreNotLaid (means entries.now deltas) page.now items e) }
 {
     let laid = match page.encoding {
         ValueEncoding::Plain => return Ok(None),
@@ -187,8 +207,15 @@ pub fn take_page<L: LeafReader>(
     is_first: bool,
 ) -> Result<Queue<L>>
     requires suits { L.suits leaf.now queue.width }
-    ensures ok { (w : Way) (before : ℕ) (whole : List (List Triple)) (last : List Triple) → IsQueued w before whole last queue → IfOk result (λ q. TakesAll (λ text. L.stored leaf.now text 0) (means entries.now deltas) queue.chunk_size w before (joined whole ++ last) q (raw_page page.now) (levels_in page.now.descriptor)) }
-    ensures err { (w : Way) (before : ℕ) (whole : List (List Triple)) (last : List Triple) → IsQueued w before whole last queue → IfErr result (λ e. (e ≡ Memory) ⊎ RefusesPage (λ text. L.stored leaf.now text 0) (means entries.now deltas) L.byte_limit is_first queue.chunk_size w before (joined whole ++ last) (raw_page page.now) (levels_in page.now.descriptor) e) }
+    ensures ok { (w : Way) (before : ℕ) (whole : List (List Triple)) (last : List Triple)
+        → IsQueued w before whole last queue → IfOk result
+        (λ q. TakesAll (λ text. L.stored leaf.now text 0) (means entries.now deltas) queue.chunk_size w before
+        (joined whole ++ last) q (raw_page page.now) (levels_in page.now.descriptor)) }
+    ensures err { (w : Way) (before : ℕ) (whole : List (List Triple)) (last : List Triple)
+        → IsQueued w before whole last queue → IfErr result (λ e. (e ≡ Memory)
+        ⊎ RefusesPage (λ text. L.stored leaf.now text 0)
+        (means entries.now deltas) L.byte_limit is_first queue.chunk_size w before (joined whole ++ last)
+        (raw_page page.now) (levels_in page.now.descriptor) e) }
     ensures suits { IfOk result (λ q. L.suits leaf.now q.width) }
 {
     let opened = match open_pairs(page, leaf.stands_in_bytes(), deltas) {

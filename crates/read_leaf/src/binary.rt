@@ -65,8 +65,10 @@ fn lay_out<O: Offset, K: StringKind>(
     fault: Option<Error>,
 ) -> Result<()>
     requires whole { sum lengths.now ≡ list_length strings.now }
-    ensures ok { OnOk result ((fault ≡ None) × (is_each K.allows (cut_off lengths.now strings.now) ≡ true) × (offsets.new.0 ≡ offsets.old.0 ++ places_from (last_place offsets.old.0) lengths.now)) }
-    ensures err { IfErr result (λ e. CannotLay O.limit K.allows offsets.old.0 strings.now lengths.now fault e × (offsets.new.0 ≡ offsets.old.0)) }
+    ensures ok { OnOk result ((fault ≡ None) × (is_each K.allows (cut_off lengths.now strings.now) ≡ true)
+        × (offsets.new.0 ≡ offsets.old.0 ++ places_from (last_place offsets.old.0) lengths.now)) }
+    ensures err { IfErr result (λ e. CannotLay O.limit K.allows offsets.old.0 strings.now lengths.now fault e
+        × (offsets.new.0 ≡ offsets.old.0)) }
 {
     if !K::are_values(strings, lengths) {
         return Err(Error::OutOfSpec(S::S7));
@@ -105,7 +107,10 @@ impl<O: Offset> Binary<O> {
     /// V1 where the bytes of all strings are more than the offset type counts; `Memory`. The strings are then as before.
     pub fn push(&mut self, string: &[u8]) -> Result<()>
         ensures ok { OnOk result (self.new ≡ self.old ++ string.now ∷ []) }
-        ensures err { IfErr result (λ e. ((e ≡ Error.Memory) ⊎ ((e ≡ Error.Overflow V.V1) × (0 < O.limit) × (O.limit ≤ total_bytes self.old + list_length string.now))) × (self.new ≡ self.old)) }
+        ensures err { IfErr result (λ e. ((e ≡ Error.Memory)
+            ⊎
+            ((e ≡ Error.Overflow V.V1) × (0 < O.limit) × (O.limit ≤ total_bytes self.old + list_length string.now)))
+            × (self.new ≡ self.old)) }
     {
         self.push_front(string, string.len())
     }
@@ -118,7 +123,9 @@ impl<O: Offset> Binary<O> {
     pub fn push_front(&mut self, bytes: &[u8], count: usize) -> Result<()>
         requires { count ≤ list_length bytes.now }
         ensures ok { OnOk result (self.new ≡ self.old ++ take count bytes.now ∷ []) }
-        ensures err { IfErr result (λ e. ((e ≡ Error.Memory) ⊎ ((e ≡ Error.Overflow V.V1) × (0 < O.limit) × (O.limit ≤ total_bytes self.old + count))) × (self.new ≡ self.old)) }
+        ensures err { IfErr result (λ e. ((e ≡ Error.Memory)
+            ⊎ ((e ≡ Error.Overflow V.V1) × (0 < O.limit) × (O.limit ≤ total_bytes self.old + count)))
+            × (self.new ≡ self.old)) }
     {
         // That the last offset fits says that some do.
         let _end = self.offsets.last().to_usize();
@@ -146,8 +153,10 @@ impl<O: Offset> Binary<O> {
         count: usize,
     ) -> Result<&'a [u8]>
         requires few { count ≤ 64 }
-        ensures ok { IfOk result (λ rest. TookStrings K.allows (word_bits valid count) text.now rest.now self.old self.new) }
-        ensures err { IfErr result (λ e. CannotTake O.limit (ones (word_bits valid count)) (stored_strings K.allows text.now) self.old e × (self.new ≡ self.old)) }
+        ensures ok { IfOk result (λ rest. TookStrings K.allows
+            (word_bits valid count) text.now rest.now self.old self.new) }
+        ensures err { IfErr result (λ e. CannotTake O.limit (ones (word_bits valid count))
+            (stored_strings K.allows text.now) self.old e × (self.new ≡ self.old)) }
     {
         let mut lengths = [0; 64];
         self.push_stretch::<K>(&mut lengths[..count], text, valid)
@@ -161,8 +170,10 @@ impl<O: Offset> Binary<O> {
         valid: u64,
     ) -> Result<&'a [u8]>
         requires few { list_length lengths.old ≤ 64 }
-        ensures ok { IfOk result (λ rest. TookStrings K.allows (word_bits valid (list_length lengths.old)) text.now rest.now self.old self.new) }
-        ensures err { IfErr result (λ e. CannotTake O.limit (ones (word_bits valid (list_length lengths.old))) (stored_strings K.allows text.now) self.old e × (self.new ≡ self.old)) }
+        ensures ok { IfOk result (λ rest. TookStrings K.allows (word_bits valid
+            (list_length lengths.old)) text.now rest.now self.old self.new) }
+        ensures err { IfErr result (λ e. CannotTake O.limit (ones (word_bits valid (list_length lengths.old)))
+            (stored_strings K.allows text.now) self.old e × (self.new ≡ self.old)) }
     {
         let before = self.values.len();
         let taken = take_plain(&mut self.values, lengths, text, valid);
@@ -207,9 +218,13 @@ impl<O: Offset> Binary<O> {
     ) -> Result<()>
         requires can { I.can_next lengths }
         requires ends { IsFinite (I.remaining lengths) }
-        ensures ok { OnOk result ((ns : List ℕ) × Drains I.next_gives lengths ns × (sum ns ≤ list_length values.old.now) × (self.new ≡ self.old ++ cut_off ns values.old.now) × (values.new.now ≡ drop (sum ns) values.old.now)) }
+        ensures ok { OnOk result ((ns : List ℕ) × Drains I.next_gives lengths ns × (sum ns ≤ list_length values.old.now)
+            × (self.new ≡ self.old ++ cut_off ns values.old.now) × (values.new.now ≡ drop (sum ns) values.old.now)) }
         ensures kept { OnErr result ((self.new ≡ self.old) × (values.new.now ≡ values.old.now)) }
-        ensures err { IfErr result (λ e. (e ≡ Error.Memory) ⊎ ((e ≡ Error.OutOfSpec S.S6) × (ns : List ℕ) × Drains I.next_gives lengths ns × (list_length values.old.now < sum ns)) ⊎ ((e ≡ Error.Overflow V.V1) × (ns : List ℕ) × Drains I.next_gives lengths ns × (O.limit ≤ total_bytes self.old + sum ns))) }
+        ensures err { IfErr result (λ e. (e ≡ Error.Memory) ⊎ ((e ≡ Error.OutOfSpec S.S6) × (ns : List ℕ)
+            × Drains I.next_gives lengths ns × (list_length values.old.now < sum ns))
+            ⊎ ((e ≡ Error.Overflow V.V1) × (ns : List ℕ) × Drains I.next_gives lengths ns
+            × (O.limit ≤ total_bytes self.old + sum ns))) }
     {
         let lengths = collect_lengths(*self.values.allocator(), lengths)?;
         let Some(total) = sum_within(&lengths, values.len()) else {

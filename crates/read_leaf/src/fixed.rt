@@ -55,8 +55,10 @@ fn take_value<'a, T: FixedValue>(
     bytes: &'a [u8],
     size: usize,
 ) -> Result<&'a [u8]>
-    ensures ok { IfOk result (λ rest. TookValues (stored_fixed T.loaded size) (true ∷ []) bytes.now rest.now (map T.held values.old.items) (map T.held values.new.items)) }
-    ensures err { IfErr result (λ e. (slots : List Slot) → CannotDecode 0 1 (stored_fixed T.loaded size bytes.now) slots e) }
+    ensures ok { IfOk result (λ rest. TookValues (stored_fixed T.loaded size) (true ∷ []) bytes.now rest.now
+        (map T.held values.old.items) (map T.held values.new.items)) }
+    ensures err { IfErr result (λ e. (slots : List Slot) → CannotDecode 0 1
+        (stored_fixed T.loaded size bytes.now) slots e) }
     ensures kept { list_length values.old.items ≤ list_length values.new.items }
 {
     if size == 0 {
@@ -81,8 +83,10 @@ fn take_slot<'a, T: FixedValue>(
     size: usize,
     is_valid: bool,
 ) -> Result<&'a [u8]>
-    ensures ok { IfOk result (λ rest. TookValues (stored_fixed T.loaded size) (is_valid ∷ []) bytes.now rest.now (map T.held values.old.items) (map T.held values.new.items)) }
-    ensures err { IfErr result (λ e. (slots : List Slot) → CannotDecode 0 (ones (is_valid ∷ [])) (stored_fixed T.loaded size bytes.now) slots e) }
+    ensures ok { IfOk result (λ rest. TookValues (stored_fixed T.loaded size) (is_valid ∷ []) bytes.now rest.now
+        (map T.held values.old.items) (map T.held values.new.items)) }
+    ensures err { IfErr result (λ e. (slots : List Slot) → CannotDecode 0 (ones (is_valid ∷ []))
+        (stored_fixed T.loaded size bytes.now) slots e) }
     ensures kept { list_length values.old.items ≤ list_length values.new.items }
 {
     if is_valid {
@@ -101,8 +105,10 @@ fn take_slots<'a, T: FixedValue>(
     valid: u64,
     count: usize,
 ) -> Result<&'a [u8]>
-    ensures ok { IfOk result (λ rest. TookValues (stored_fixed T.loaded size) (word_bits valid count) bytes.now rest.now (map T.held values.old.items) (map T.held values.new.items)) }
-    ensures err { IfErr result (λ e. (slots : List Slot) → CannotDecode 0 (ones (word_bits valid count)) (stored_fixed T.loaded size bytes.now) slots e) }
+    ensures ok { IfOk result (λ rest. TookValues (stored_fixed T.loaded size) (word_bits valid count) bytes.now rest.now
+        (map T.held values.old.items) (map T.held values.new.items)) }
+    ensures err { IfErr result (λ e. (slots : List Slot) → CannotDecode 0 (ones (word_bits valid count))
+        (stored_fixed T.loaded size bytes.now) slots e) }
     ensures kept { list_length values.old.items ≤ list_length values.new.items }
 {
     let mut rest = bytes;
@@ -126,8 +132,11 @@ fn decode_slots<'a, T: FixedValue>(
     count: usize,
 ) -> Result<()>
     requires few { count ≤ 64 }
-    ensures ok { OnOk result (DecodesMixed (word_bits valid count) (stored_fixed T.loaded size state.old.values.now) (stored_fixed T.loaded size state.new.values.now) (value_slots (map T.held decoded.old.0) decoded.old.1) (value_slots (map T.held decoded.new.0) decoded.new.1)) }
-    ensures err { IfErr result (CannotDecode 0 (ones (word_bits valid count)) (stored_fixed T.loaded size state.old.values.now) (value_slots (map T.held decoded.old.0) decoded.old.1)) }
+    ensures ok { OnOk result (DecodesMixed (word_bits valid count) (stored_fixed T.loaded size state.old.values.now)
+        (stored_fixed T.loaded size state.new.values.now) (value_slots (map T.held decoded.old.0) decoded.old.1)
+        (value_slots (map T.held decoded.new.0) decoded.new.1)) }
+    ensures err { IfErr result (CannotDecode 0 (ones (word_bits valid count))
+        (stored_fixed T.loaded size state.old.values.now) (value_slots (map T.held decoded.old.0) decoded.old.1)) }
 {
     let before = decoded.validity.len();
     decoded.values.truncate(before);
@@ -167,8 +176,12 @@ impl<'a, T: FixedValue> NestedDecoder<'a> for FixedDecoder<T> {
         decoded: &mut NumberValues<T>,
         count: usize,
     ) -> Result<()>
-        ensures ok { OnOk result (Decodes count (stored_fixed T.loaded self.now.size state.old.values.now) (stored_fixed T.loaded self.now.size state.new.values.now) (value_slots (map T.held decoded.old.0) decoded.old.1) (value_slots (map T.held decoded.new.0) decoded.new.1)) }
-        ensures err { IfErr result (CannotDecode 0 count (stored_fixed T.loaded self.now.size state.old.values.now) (value_slots (map T.held decoded.old.0) decoded.old.1)) }
+        ensures ok { OnOk result (Decodes count (stored_fixed T.loaded self.now.size state.old.values.now)
+            (stored_fixed T.loaded self.now.size state.new.values.now)
+            (value_slots (map T.held decoded.old.0) decoded.old.1)
+            (value_slots (map T.held decoded.new.0) decoded.new.1)) }
+        ensures err { IfErr result (CannotDecode 0 count (stored_fixed T.loaded self.now.size state.old.values.now)
+            (value_slots (map T.held decoded.old.0) decoded.old.1)) }
     {
         let mut left = count;
         while left > 0 {
@@ -183,7 +196,8 @@ impl<'a, T: FixedValue> NestedDecoder<'a> for FixedDecoder<T> {
     }
 
     fn push_null(&self, decoded: &mut NumberValues<T>, count: usize) -> Result<()>
-        ensures ok { OnOk result (value_slots (map T.held decoded.new.0) decoded.new.1 ≡ value_slots (map T.held decoded.old.0) decoded.old.1 ++ replicate count null) }
+        ensures ok { OnOk result (value_slots (map T.held decoded.new.0) decoded.new.1
+            ≡ value_slots (map T.held decoded.old.0) decoded.old.1 ++ replicate count null) }
         ensures err { IfErr result (λ e. e ≡ Error.Memory) }
     {
         let before = decoded.validity.len();
@@ -212,8 +226,14 @@ impl<'a, T: FixedValue> NestedDecoder<'a> for FixedDecoder<T> {
         count: usize,
     ) -> Result<()>
         requires few { count ≤ 64 }
-        ensures ok { OnOk result (DecodesMixed (word_bits valid count) (stored_fixed T.loaded self.now.size state.old.values.now) (stored_fixed T.loaded self.now.size state.new.values.now) (value_slots (map T.held decoded.old.0) decoded.old.1) (value_slots (map T.held decoded.new.0) decoded.new.1)) }
-        ensures err { IfErr result (CannotDecode 0 (ones (word_bits valid count)) (stored_fixed T.loaded self.now.size state.old.values.now) (value_slots (map T.held decoded.old.0) decoded.old.1)) }
+        ensures ok { OnOk result (DecodesMixed (word_bits valid count)
+            (stored_fixed T.loaded self.now.size state.old.values.now)
+            (stored_fixed T.loaded self.now.size state.new.values.now)
+            (value_slots (map T.held decoded.old.0) decoded.old.1)
+            (value_slots (map T.held decoded.new.0) decoded.new.1)) }
+        ensures err { IfErr result (CannotDecode 0 (ones (word_bits valid count))
+            (stored_fixed T.loaded self.now.size state.old.values.now)
+            (value_slots (map T.held decoded.old.0) decoded.old.1)) }
     {
         decode_slots(state, decoded, self.size, valid, count)
     }

@@ -87,7 +87,9 @@ impl FixedBytesValues {
     // So many strings more.
     fn push_strings(&mut self, strings: &[u8], count: usize) -> Result<()>
         requires { list_length strings.now ≡ self.old.0 * count }
-        ensures ok { OnOk result (chunk_slots self.new.0 self.new.1.0 self.new.1.1 ≡ chunk_slots self.old.0 self.old.1.0 self.old.1.1 ++ map value (chunks_values self.old.0 count strings.now)) }
+        ensures ok { OnOk result (chunk_slots self.new.0 self.new.1.0 self.new.1.1
+            ≡ chunk_slots self.old.0 self.old.1.0 self.old.1.1
+            ++ map value (chunks_values self.old.0 count strings.now)) }
         ensures err { IfErr result (λ e. e ≡ Error.Memory) }
         ensures size { self.new.0 ≡ self.old.0 }
     {
@@ -98,7 +100,8 @@ impl FixedBytesValues {
 
     // So many nulls more.
     fn push_blanks(&mut self, count: usize) -> Result<()>
-        ensures ok { OnOk result (chunk_slots self.new.0 self.new.1.0 self.new.1.1 ≡ chunk_slots self.old.0 self.old.1.0 self.old.1.1 ++ replicate count null) }
+        ensures ok { OnOk result (chunk_slots self.new.0 self.new.1.0 self.new.1.1
+            ≡ chunk_slots self.old.0 self.old.1.0 self.old.1.1 ++ replicate count null) }
         ensures err { IfErr result (λ e. e ≡ Error.Memory) }
         ensures size { self.new.0 ≡ self.old.0 }
     {
@@ -123,7 +126,9 @@ fn are_there(bytes: &[u8], size: usize, count: usize) -> bool
 
 // So many strings at the front, and the bytes behind them; none where fewer stand there.
 fn split_strings(bytes: &[u8], size: usize, count: usize) -> Option<(&[u8], &[u8])>
-    ensures { MatchOption result (list_length (stored_fixed loaded_bytes size bytes.now) < count) (λ s. (list_length s.0.now ≡ size * count) × (stored_fixed loaded_bytes size bytes.now ≡ map Some (chunks_values size count s.0.now) ++ stored_fixed loaded_bytes size s.1.now)) }
+    ensures { MatchOption result (list_length (stored_fixed loaded_bytes size bytes.now) < count)
+        (λ s. (list_length s.0.now ≡ size * count) × (stored_fixed loaded_bytes size bytes.now
+        ≡ map Some (chunks_values size count s.0.now) ++ stored_fixed loaded_bytes size s.1.now)) }
 {
     if !are_there(bytes, size, count) {
         return None;
@@ -146,8 +151,14 @@ fn push_run<'a>(
     count: usize,
 ) -> Result<()>
     requires { decoded.old.0 ≡ decoder.now.size }
-    ensures ok { OnOk result (DecodesMixed (replicate count is_valid) (stored_fixed loaded_bytes decoder.now.size state.old.values.now) (stored_fixed loaded_bytes decoder.now.size state.new.values.now) (chunk_slots decoded.old.0 decoded.old.1.0 decoded.old.1.1) (chunk_slots decoded.new.0 decoded.new.1.0 decoded.new.1.1)) }
-    ensures err { IfErr result (CannotDecode 0 (ones (replicate count is_valid)) (stored_fixed loaded_bytes decoder.now.size state.old.values.now) (chunk_slots decoded.old.0 decoded.old.1.0 decoded.old.1.1)) }
+    ensures ok { OnOk result (DecodesMixed (replicate count is_valid)
+        (stored_fixed loaded_bytes decoder.now.size state.old.values.now)
+        (stored_fixed loaded_bytes decoder.now.size state.new.values.now)
+        (chunk_slots decoded.old.0 decoded.old.1.0 decoded.old.1.1)
+        (chunk_slots decoded.new.0 decoded.new.1.0 decoded.new.1.1)) }
+    ensures err { IfErr result (CannotDecode 0 (ones (replicate count is_valid))
+        (stored_fixed loaded_bytes decoder.now.size state.old.values.now)
+        (chunk_slots decoded.old.0 decoded.old.1.0 decoded.old.1.1)) }
     ensures suits { decoded.new.0 ≡ decoder.now.size }
 {
     if is_valid {
@@ -181,8 +192,12 @@ impl<'a> NestedDecoder<'a> for FixedBytesDecoder {
         count: usize,
     ) -> Result<()>
         requires suits { decoded.old.0 ≡ self.now.size }
-        ensures ok { OnOk result (Decodes count (stored_fixed loaded_bytes self.now.size state.old.values.now) (stored_fixed loaded_bytes self.now.size state.new.values.now) (chunk_slots decoded.old.0 decoded.old.1.0 decoded.old.1.1) (chunk_slots decoded.new.0 decoded.new.1.0 decoded.new.1.1)) }
-        ensures err { IfErr result (CannotDecode 0 count (stored_fixed loaded_bytes self.now.size state.old.values.now) (chunk_slots decoded.old.0 decoded.old.1.0 decoded.old.1.1)) }
+        ensures ok { OnOk result (Decodes count (stored_fixed loaded_bytes self.now.size state.old.values.now)
+            (stored_fixed loaded_bytes self.now.size state.new.values.now)
+            (chunk_slots decoded.old.0 decoded.old.1.0 decoded.old.1.1)
+            (chunk_slots decoded.new.0 decoded.new.1.0 decoded.new.1.1)) }
+        ensures err { IfErr result (CannotDecode 0 count (stored_fixed loaded_bytes self.now.size state.old.values.now)
+            (chunk_slots decoded.old.0 decoded.old.1.0 decoded.old.1.1)) }
         ensures suits { decoded.new.0 ≡ self.now.size }
     {
         let Some((strings, rest)) = split_strings(state.values, self.size, count) else {
@@ -199,7 +214,8 @@ impl<'a> NestedDecoder<'a> for FixedBytesDecoder {
 
     fn push_null(&self, decoded: &mut FixedBytesValues, count: usize) -> Result<()>
         requires suits { decoded.old.0 ≡ self.now.size }
-        ensures ok { OnOk result (chunk_slots decoded.new.0 decoded.new.1.0 decoded.new.1.1 ≡ chunk_slots decoded.old.0 decoded.old.1.0 decoded.old.1.1 ++ replicate count null) }
+        ensures ok { OnOk result (chunk_slots decoded.new.0 decoded.new.1.0 decoded.new.1.1
+            ≡ chunk_slots decoded.old.0 decoded.old.1.0 decoded.old.1.1 ++ replicate count null) }
         ensures err { IfErr result (λ e. e ≡ Error.Memory) }
         ensures suits { decoded.new.0 ≡ self.now.size }
     {
@@ -215,8 +231,14 @@ impl<'a> NestedDecoder<'a> for FixedBytesDecoder {
     ) -> Result<()>
         requires few { count ≤ 64 }
         requires suits { decoded.old.0 ≡ self.now.size }
-        ensures ok { OnOk result (DecodesMixed (word_bits valid count) (stored_fixed loaded_bytes self.now.size state.old.values.now) (stored_fixed loaded_bytes self.now.size state.new.values.now) (chunk_slots decoded.old.0 decoded.old.1.0 decoded.old.1.1) (chunk_slots decoded.new.0 decoded.new.1.0 decoded.new.1.1)) }
-        ensures err { IfErr result (CannotDecode 0 (ones (word_bits valid count)) (stored_fixed loaded_bytes self.now.size state.old.values.now) (chunk_slots decoded.old.0 decoded.old.1.0 decoded.old.1.1)) }
+        ensures ok { OnOk result (DecodesMixed (word_bits valid count)
+            (stored_fixed loaded_bytes self.now.size state.old.values.now)
+            (stored_fixed loaded_bytes self.now.size state.new.values.now)
+            (chunk_slots decoded.old.0 decoded.old.1.0 decoded.old.1.1)
+            (chunk_slots decoded.new.0 decoded.new.1.0 decoded.new.1.1)) }
+        ensures err { IfErr result (CannotDecode 0 (ones (word_bits valid count))
+            (stored_fixed loaded_bytes self.now.size state.old.values.now)
+            (chunk_slots decoded.old.0 decoded.old.1.0 decoded.old.1.1)) }
         ensures suits { decoded.new.0 ≡ self.now.size }
     {
         let mut bits = valid;

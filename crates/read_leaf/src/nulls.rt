@@ -25,7 +25,8 @@ pub struct NullDecoder;
 // Why so many values cannot be decoded: bytes are missing, or a number stands there.
 fn reason_of(bytes: &[u8], count: usize) -> Error
     requires { 0 < count }
-    ensures { (slots : List Slot) → CannotDecode 1 count (stored_numbers (λ z. None) spelled_32 4 bytes.now) slots result }
+    ensures { (slots : List Slot) → CannotDecode 1 count
+        (stored_numbers (λ z. None) spelled_32 4 bytes.now) slots result }
 {
     if bytes.len() / 4 < count {
         Error::OutOfSpec(S::S6)
@@ -56,8 +57,11 @@ impl<'a> NestedDecoder<'a> for NullDecoder {
         _decoded: &mut NullValues,
         count: usize,
     ) -> Result<()>
-        ensures ok { OnOk result (Decodes count (stored_numbers (λ z. None) spelled_32 4 state.old.values.now) (stored_numbers (λ z. None) spelled_32 4 state.new.values.now) (replicate _decoded.old.count null) (replicate _decoded.new.count null)) }
-        ensures err { IfErr result (CannotDecode 1 count (stored_numbers (λ z. None) spelled_32 4 state.old.values.now) (replicate _decoded.old.count null)) }
+        ensures ok { OnOk result (Decodes count (stored_numbers (λ z. None) spelled_32 4 state.old.values.now)
+            (stored_numbers (λ z. None) spelled_32 4 state.new.values.now) (replicate _decoded.old.count null)
+            (replicate _decoded.new.count null)) }
+        ensures err { IfErr result (CannotDecode 1 count (stored_numbers (λ z. None) spelled_32 4 state.old.values.now)
+            (replicate _decoded.old.count null)) }
     {
         if count == 0 {
             return Ok(());
@@ -66,7 +70,8 @@ impl<'a> NestedDecoder<'a> for NullDecoder {
     }
 
     fn push_null(&self, decoded: &mut NullValues, count: usize) -> Result<()>
-        ensures ok { OnOk result (replicate decoded.new.count null ≡ replicate decoded.old.count null ++ replicate count null) }
+        ensures ok { OnOk result (replicate decoded.new.count null
+            ≡ replicate decoded.old.count null ++ replicate count null) }
         ensures err { IfErr result (λ e. e ≡ Error.Memory) }
     {
         match decoded.count.checked_add(count) {
@@ -86,8 +91,12 @@ impl<'a> NestedDecoder<'a> for NullDecoder {
         count: usize,
     ) -> Result<()>
         requires few { count ≤ 64 }
-        ensures ok { OnOk result (DecodesMixed (word_bits valid count) (stored_numbers (λ z. None) spelled_32 4 state.old.values.now) (stored_numbers (λ z. None) spelled_32 4 state.new.values.now) (replicate decoded.old.count null) (replicate decoded.new.count null)) }
-        ensures err { IfErr result (CannotDecode 1 (ones (word_bits valid count)) (stored_numbers (λ z. None) spelled_32 4 state.old.values.now) (replicate decoded.old.count null)) }
+        ensures ok { OnOk result (DecodesMixed (word_bits valid count)
+            (stored_numbers (λ z. None) spelled_32 4 state.old.values.now)
+            (stored_numbers (λ z. None) spelled_32 4 state.new.values.now) (replicate decoded.old.count null)
+            (replicate decoded.new.count null)) }
+        ensures err { IfErr result (CannotDecode 1 (ones (word_bits valid count))
+            (stored_numbers (λ z. None) spelled_32 4 state.old.values.now) (replicate decoded.old.count null)) }
     {
         let wanted = count_set(valid, count);
         if wanted == 0 {

@@ -56,7 +56,8 @@ fn first_number(text: &[u8]) -> u32
 
 // How long the string at the front is, and the bytes behind its length, of which it is the first; none where any of them is cut.
 fn take_length(text: &[u8]) -> Option<(usize, &[u8])>
-    ensures { MatchOption result (string_at text.now ≡ None) (λ s. (s.0 ≤ list_length s.1.now) × (string_at text.now ≡ Some (take s.0 s.1.now, drop s.0 s.1.now))) }
+    ensures { MatchOption result (string_at text.now ≡ None) (λ s. (s.0 ≤ list_length s.1.now)
+        × (string_at text.now ≡ Some (take s.0 s.1.now, drop s.0 s.1.now))) }
 {
     if text.len() < 4 {
         return None;
@@ -72,7 +73,8 @@ fn take_length(text: &[u8]) -> Option<(usize, &[u8])>
 // The same where the string is short, and as many bytes stand there as a short string may have.
 #[inline(always)]
 fn take_short_length(text: &[u8]) -> Option<(usize, &[u8])>
-    ensures { MatchOption result (Unit {0}) (λ s. (s.0 ≤ 32) × (32 ≤ list_length s.1.now) × (string_at text.now ≡ Some (take s.0 s.1.now, drop s.0 s.1.now))) }
+    ensures { MatchOption result (Unit {0}) (λ s. (s.0 ≤ 32) × (32 ≤ list_length s.1.now)
+        × (string_at text.now ≡ Some (take s.0 s.1.now, drop s.0 s.1.now))) }
 {
     if text.len() < 4 + SHORT {
         return None;
@@ -114,7 +116,8 @@ fn put_next<'a>(
     is_valid: bool,
 ) -> Option<(usize, &'a [u8])>
     requires { at + 32 ≤ list_length places.old }
-    ensures { MatchOption result (places.new ≡ places.old) (λ s. (s.0 ≤ 32) × TookBytes (is_valid ∷ []) text.now s.1.now (s.0 ∷ []) (take at places.old) (take (at + s.0) places.new)) }
+    ensures { MatchOption result (places.new ≡ places.old) (λ s. (s.0 ≤ 32)
+        × TookBytes (is_valid ∷ []) text.now s.1.now (s.0 ∷ []) (take at places.old) (take (at + s.0) places.new)) }
 {
     if !is_valid {
         return Some((0, text));
@@ -140,7 +143,8 @@ fn take_short<'a>(
     requires room { 32 * list_length lengths.old ≤ list_length places.old }
     ensures within { result.count ≤ list_length lengths.old }
     ensures fits { result.size ≤ list_length places.old }
-    ensures took { TookBytes (word_bits valid result.count) text.now result.rest.now (take result.count lengths.new) [] (take result.size places.new) }
+    ensures took { TookBytes (word_bits valid result.count) text.now result.rest.now (take result.count lengths.new) []
+        (take result.size places.new) }
 {
     let mut size = 0;
     let mut rest = text;
@@ -181,7 +185,8 @@ fn append_short<'a>(
 ) -> ShortTaken<'a>
     requires few { list_length lengths.old ≤ 64 }
     ensures within { result.count ≤ list_length lengths.old }
-    ensures took { TookBytes (word_bits valid result.count) text.now result.rest.now (take result.count lengths.new) content.old.items content.new.items }
+    ensures took { TookBytes (word_bits valid result.count) text.now result.rest.now
+        (take result.count lengths.new) content.old.items content.new.items }
 {
     let room = SHORT * lengths.len();
     if !has_room(content, room, text.len()) {
@@ -200,8 +205,11 @@ fn append_short<'a>(
 
 // Appends the next string where one is wanted. Gives its length, 0 where none is, and the bytes behind it.
 fn take_one<'a>(content: &mut Vec<u8>, text: &'a [u8], is_valid: bool) -> Result<(usize, &'a [u8])>
-    ensures ok { IfOk result (λ s. TookBytes (is_valid ∷ []) text.now s.1.now (s.0 ∷ []) content.old.items content.new.items) }
-    ensures err { IfErr result (λ e. ((e ≡ Error.Memory) ⊎ ((e ≡ Error.OutOfSpec S.S6) × (is_valid ≡ true) × (string_at text.now ≡ None))) × (content.new.items ≡ content.old.items)) }
+    ensures ok { IfOk result (λ s. TookBytes (is_valid ∷ []) text.now s.1.now
+        (s.0 ∷ []) content.old.items content.new.items) }
+    ensures err { IfErr result (λ e. ((e ≡ Error.Memory)
+        ⊎ ((e ≡ Error.OutOfSpec S.S6) × (is_valid ≡ true) × (string_at text.now ≡ None)))
+        × (content.new.items ≡ content.old.items)) }
 {
     if !is_valid {
         return Ok((0, text));
@@ -224,8 +232,10 @@ fn take_each<'a>(
 ) -> Taken<'a>
     requires few { list_length lengths.old ≤ 64 }
     ensures within { result.count ≤ list_length lengths.old }
-    ensures took { TookBytes (word_bits valid result.count) text.now result.rest.now (take result.count lengths.new) content.old.items content.new.items }
-    ensures end { MatchOption result.fault (result.count ≡ list_length lengths.old) (IsFault (word_bits valid (list_length lengths.old)) text.now) }
+    ensures took { TookBytes (word_bits valid result.count) text.now result.rest.now
+        (take result.count lengths.new) content.old.items content.new.items }
+    ensures end { MatchOption result.fault (result.count ≡ list_length lengths.old)
+        (IsFault (word_bits valid (list_length lengths.old)) text.now) }
 {
     let mut rest = text;
     for count in 0..lengths.len() {
@@ -261,8 +271,10 @@ pub fn take_plain<'a>(
 ) -> Taken<'a>
     requires few { list_length lengths.old ≤ 64 }
     ensures within { result.count ≤ list_length lengths.old }
-    ensures took { TookBytes (word_bits valid result.count) text.now result.rest.now (take result.count lengths.new) content.old.items content.new.items }
-    ensures end { MatchOption result.fault (result.count ≡ list_length lengths.old) (IsFault (word_bits valid (list_length lengths.old)) text.now) }
+    ensures took { TookBytes (word_bits valid result.count) text.now result.rest.now
+        (take result.count lengths.new) content.old.items content.new.items }
+    ensures end { MatchOption result.fault (result.count ≡ list_length lengths.old)
+        (IsFault (word_bits valid (list_length lengths.old)) text.now) }
 {
     let short = append_short(content, lengths, text, valid);
     let bits = bits_behind(valid, short.count);

@@ -99,7 +99,8 @@ impl<T, P> PrimitiveDecoder<T, P> {
 // The next number as one of the leaf, where it is one.
 fn load<T: FromStored<P>, P: StoredNumber>(bytes: &[u8]) -> Option<T>
     requires { P.byte_count ≤ list_length bytes.now }
-    ensures { MatchOption result (T.loaded (P.spelled (take P.byte_count bytes.now)) ≡ None) (λ x. T.loaded (P.spelled (take P.byte_count bytes.now)) ≡ Some (T.loaded_number x)) }
+    ensures { MatchOption result (T.loaded (P.spelled (take P.byte_count bytes.now)) ≡ None)
+        (λ x. T.loaded (P.spelled (take P.byte_count bytes.now)) ≡ Some (T.loaded_number x)) }
 {
     T::from_stored(P::read(&bytes[..P::width()]))
 }
@@ -140,7 +141,8 @@ fn copy_block<T: FromStored<P>, P: StoredNumber, const N: usize>(
 ) -> bool
     requires places { list_length places.old ≡ N }
     requires enough { P.byte_count * N ≤ list_length source.now }
-    ensures { IsTrue result → TookNumbers T.loaded P.spelled P.byte_count N source.now (drop (P.byte_count * N) source.now) [] (map T.loaded_number places.new) }
+    ensures { IsTrue result → TookNumbers T.loaded P.spelled P.byte_count N source.now
+        (drop (P.byte_count * N) source.now) [] (map T.loaded_number places.new) }
 {
     let mut numbers = [T::zero(); N];
     for i in 0..N {
@@ -157,7 +159,8 @@ fn copy_block<T: FromStored<P>, P: StoredNumber, const N: usize>(
 fn fill_blocks<T: FromStored<P>, P: StoredNumber>(places: &mut [T], bytes: &[u8]) -> usize
     requires enough { P.byte_count * list_length places.old ≤ list_length bytes.now }
     ensures within { result ≤ list_length places.new }
-    ensures took { TookNumbers T.loaded P.spelled P.byte_count result bytes.now (drop (P.byte_count * result) bytes.now) [] (map T.loaded_number (take result places.new)) }
+    ensures took { TookNumbers T.loaded P.spelled P.byte_count result bytes.now
+        (drop (P.byte_count * result) bytes.now) [] (map T.loaded_number (take result places.new)) }
 {
     let mut done = 0;
     while done + 32 <= places.len() {
@@ -176,7 +179,9 @@ fn fill_singly<'a, T: FromStored<P>, P: StoredNumber>(
     bytes: &'a [u8],
 ) -> Option<&'a [u8]>
     requires enough { P.byte_count * list_length places.old ≤ list_length bytes.now }
-    ensures { MatchOption result (OneIsOutside T.loaded P.spelled P.byte_count (list_length places.old) bytes.now) (λ rest. TookNumbers T.loaded P.spelled P.byte_count (list_length places.old) bytes.now rest.now [] (map T.loaded_number places.new)) }
+    ensures { MatchOption result (OneIsOutside T.loaded P.spelled P.byte_count (list_length places.old) bytes.now)
+        (λ rest. TookNumbers T.loaded P.spelled P.byte_count (list_length places.old) bytes.now rest.now []
+        (map T.loaded_number places.new)) }
 {
     let mut rest = bytes;
     for place in places.iter_mut() {
@@ -195,7 +200,9 @@ fn fill_numbers<'a, T: FromStored<P>, P: StoredNumber>(
     bytes: &'a [u8],
 ) -> Option<&'a [u8]>
     requires enough { P.byte_count * list_length places.old ≤ list_length bytes.now }
-    ensures { MatchOption result (OneIsOutside T.loaded P.spelled P.byte_count (list_length places.old) bytes.now) (λ rest. TookNumbers T.loaded P.spelled P.byte_count (list_length places.old) bytes.now rest.now [] (map T.loaded_number places.new)) }
+    ensures { MatchOption result (OneIsOutside T.loaded P.spelled P.byte_count (list_length places.old) bytes.now)
+        (λ rest. TookNumbers T.loaded P.spelled P.byte_count (list_length places.old) bytes.now rest.now []
+        (map T.loaded_number places.new)) }
 {
     let done = fill_blocks::<T, P>(places, bytes);
     let part = &mut places[done..];
@@ -260,10 +267,13 @@ fn write_block<'a, T: FromStored<P>, P: StoredNumber>(
 ) -> Result<&'a [u8]>
     requires some { before ≤ list_length values.old.items }
     requires enough { P.byte_count * count ≤ list_length bytes.now }
-    ensures ok { IfOk result (λ rest. TookNumbers T.loaded P.spelled P.byte_count count bytes.now rest.now (map T.loaded_number (take before values.old.items)) (map T.loaded_number (take (before + count) values.new.items))) }
+    ensures ok { IfOk result (λ rest. TookNumbers T.loaded P.spelled P.byte_count count bytes.now rest.now
+        (map T.loaded_number (take before values.old.items))
+        (map T.loaded_number (take (before + count) values.new.items))) }
     ensures long { OnOk result (before + count ≤ list_length values.new.items) }
     ensures kept { before ≤ list_length values.new.items }
-    ensures err { IfErr result (λ e. (e ≡ Error.Memory) ⊎ ((e ≡ Error.OutOfSpec S.S7) × OneIsOutside T.loaded P.spelled P.byte_count count bytes.now)) }
+    ensures err { IfErr result (λ e. (e ≡ Error.Memory) ⊎ ((e ≡ Error.OutOfSpec S.S7)
+        × OneIsOutside T.loaded P.spelled P.byte_count count bytes.now)) }
 {
     make_places(values, before, count, bytes.len() / P::width(), T::zero())?;
     match fill_numbers::<T, P>(&mut values[before..before + count], bytes) {
@@ -281,7 +291,9 @@ fn append_blocks<T: FromStored<P>, P: StoredNumber, const N: usize>(
 ) -> Result<usize>
     requires some { 0 < N }
     requires enough { P.byte_count * count ≤ list_length bytes.now }
-    ensures ok { IfOk result (λ n. (n ≤ count) × TookNumbers T.loaded P.spelled P.byte_count n bytes.now (drop (P.byte_count * n) bytes.now) (map T.loaded_number values.old.items) (map T.loaded_number values.new.items)) }
+    ensures ok { IfOk result (λ n. (n ≤ count) × TookNumbers T.loaded P.spelled P.byte_count n bytes.now
+        (drop (P.byte_count * n) bytes.now) (map T.loaded_number values.old.items)
+        (map T.loaded_number values.new.items)) }
     ensures kept { list_length values.old.items ≤ list_length values.new.items }
     ensures err { IfErr result (λ e. e ≡ Error.Memory) }
 {
@@ -309,7 +321,9 @@ fn write_front<T: FromStored<P>, P: StoredNumber>(
 ) -> Result<usize>
     requires some { before ≤ list_length values.old.items }
     requires enough { P.byte_count * count ≤ list_length bytes.now }
-    ensures ok { IfOk result (λ n. (n ≤ count) × TookNumbers T.loaded P.spelled P.byte_count n bytes.now (drop (P.byte_count * n) bytes.now) (map T.loaded_number (take before values.old.items)) (map T.loaded_number (take (before + n) values.new.items)) × (before + n ≤ list_length values.new.items)) }
+    ensures ok { IfOk result (λ n. (n ≤ count) × TookNumbers T.loaded P.spelled P.byte_count n bytes.now
+        (drop (P.byte_count * n) bytes.now) (map T.loaded_number (take before values.old.items))
+        (map T.loaded_number (take (before + n) values.new.items)) × (before + n ≤ list_length values.new.items)) }
     ensures kept { before ≤ list_length values.new.items }
     ensures err { IfErr result (λ e. e ≡ Error.Memory) }
 {
@@ -333,10 +347,13 @@ fn write_numbers<'a, T: FromStored<P>, P: StoredNumber>(
 ) -> Result<&'a [u8]>
     requires some { before ≤ list_length values.old.items }
     requires enough { P.byte_count * count ≤ list_length bytes.now }
-    ensures ok { IfOk result (λ rest. TookNumbers T.loaded P.spelled P.byte_count count bytes.now rest.now (map T.loaded_number (take before values.old.items)) (map T.loaded_number (take (before + count) values.new.items))) }
+    ensures ok { IfOk result (λ rest. TookNumbers T.loaded P.spelled P.byte_count count bytes.now rest.now
+        (map T.loaded_number (take before values.old.items))
+        (map T.loaded_number (take (before + count) values.new.items))) }
     ensures long { OnOk result (before + count ≤ list_length values.new.items) }
     ensures kept { before ≤ list_length values.new.items }
-    ensures err { IfErr result (λ e. (e ≡ Error.Memory) ⊎ ((e ≡ Error.OutOfSpec S.S7) × OneIsOutside T.loaded P.spelled P.byte_count count bytes.now)) }
+    ensures err { IfErr result (λ e. (e ≡ Error.Memory) ⊎ ((e ≡ Error.OutOfSpec S.S7)
+        × OneIsOutside T.loaded P.spelled P.byte_count count bytes.now)) }
 {
     want_room(values, count, bytes.len() / P::width())?;
     let mut done = write_front::<T, P>(values, before, bytes, count)?;
@@ -360,7 +377,10 @@ fn fill_each<'a, T: FromStored<P>, P: StoredNumber>(
     valid: u64,
 ) -> Option<&'a [u8]>
     requires enough { P.byte_count * ones (word_bits valid (list_length places.old)) ≤ list_length bytes.now }
-    ensures { MatchOption result (OneIsOutside T.loaded P.spelled P.byte_count (ones (word_bits valid (list_length places.old))) bytes.now) (λ rest. TookMixed T.loaded P.spelled P.byte_count (word_bits valid (list_length places.old)) bytes.now rest.now [] (map T.loaded_number places.new)) }
+    ensures { MatchOption result (OneIsOutside T.loaded P.spelled P.byte_count
+        (ones (word_bits valid (list_length places.old))) bytes.now)
+        (λ rest. TookMixed T.loaded P.spelled P.byte_count
+        (word_bits valid (list_length places.old)) bytes.now rest.now [] (map T.loaded_number places.new)) }
 {
     let mut rest = bytes;
     let mut bits = valid;
@@ -389,7 +409,8 @@ fn spread_eight<T: FromStored<P>, P: StoredNumber>(
 ) -> bool
     requires eight { list_length places.old ≡ 8 }
     requires enough { P.byte_count * 8 ≤ list_length source.now }
-    ensures { IsTrue result → TookMixed T.loaded P.spelled P.byte_count (word_bits word 8) source.now (drop (P.byte_count * ones (word_bits word 8)) source.now) [] (map T.loaded_number places.new) }
+    ensures { IsTrue result → TookMixed T.loaded P.spelled P.byte_count (word_bits word 8) source.now
+        (drop (P.byte_count * ones (word_bits word 8)) source.now) [] (map T.loaded_number places.new) }
 {
     for i in 0..8 {
         let at = count_set(word, i);
@@ -411,7 +432,9 @@ fn spread_pairs<T: FromStored<P>, P: StoredNumber>(
 ) -> bool
     requires eight { list_length places.old ≡ 8 }
     requires enough { P.byte_count * 9 ≤ list_length source.now }
-    ensures { IsTrue result → TookMixed T.loaded P.spelled P.byte_count (word_bits word 8) (drop P.byte_count source.now) (drop (P.byte_count * ones (word_bits word 8)) (drop P.byte_count source.now)) [] (map T.loaded_number places.new) }
+    ensures { IsTrue result → TookMixed T.loaded P.spelled P.byte_count (word_bits word 8)
+        (drop P.byte_count source.now) (drop (P.byte_count * ones (word_bits word 8))
+        (drop P.byte_count source.now)) [] (map T.loaded_number places.new) }
 {
     for k in 0..4 {
         let at = count_set(word, 2 * k + 1);
@@ -438,7 +461,9 @@ fn fill_eight<T: FromStored<P>, P: StoredNumber>(
 ) -> bool
     requires eight { list_length places.old ≡ 8 }
     requires enough { P.byte_count * (at + 8) ≤ list_length bytes.now }
-    ensures { IsTrue result → TookMixed T.loaded P.spelled P.byte_count (word_bits word 8) (drop (P.byte_count * at) bytes.now) (drop (P.byte_count * (at + ones (word_bits word 8))) bytes.now) [] (map T.loaded_number places.new) }
+    ensures { IsTrue result → TookMixed T.loaded P.spelled P.byte_count (word_bits word 8)
+        (drop (P.byte_count * at) bytes.now) (drop (P.byte_count * (at + ones (word_bits word 8))) bytes.now) []
+        (map T.loaded_number places.new) }
 {
     if word % 256 == 255 {
         return copy_block::<T, P, 8>(places, skip(bytes, P::width() * at));
@@ -457,7 +482,8 @@ fn fill_fronts<'a, T: FromStored<P>, P: StoredNumber>(
 ) -> (usize, u64, &'a [u8])
     ensures within { result.0 ≤ list_length places.new }
     ensures word { result.1 ≡ valid / 2 ^ result.0 }
-    ensures took { TookMixed T.loaded P.spelled P.byte_count (word_bits valid result.0) bytes.now result.2.now [] (map T.loaded_number (take result.0 places.new)) }
+    ensures took { TookMixed T.loaded P.spelled P.byte_count (word_bits valid result.0) bytes.now result.2.now []
+        (map T.loaded_number (take result.0 places.new)) }
 {
     let mut word = valid;
     let mut eights = 0;
@@ -484,7 +510,10 @@ fn fill_mixed<'a, T: FromStored<P>, P: StoredNumber>(
     valid: u64,
 ) -> Option<&'a [u8]>
     requires enough { P.byte_count * ones (word_bits valid (list_length places.old)) ≤ list_length bytes.now }
-    ensures { MatchOption result (OneIsOutside T.loaded P.spelled P.byte_count (ones (word_bits valid (list_length places.old))) bytes.now) (λ rest. TookMixed T.loaded P.spelled P.byte_count (word_bits valid (list_length places.old)) bytes.now rest.now [] (map T.loaded_number places.new)) }
+    ensures { MatchOption result (OneIsOutside T.loaded P.spelled P.byte_count
+        (ones (word_bits valid (list_length places.old))) bytes.now)
+        (λ rest. TookMixed T.loaded P.spelled P.byte_count
+        (word_bits valid (list_length places.old)) bytes.now rest.now [] (map T.loaded_number places.new)) }
 {
     let (done, word, rest) = fill_fronts::<T, P>(places, bytes, valid);
     let part = &mut places[done..];
@@ -504,10 +533,13 @@ fn write_mixed<'a, T: FromStored<P>, P: StoredNumber>(
 ) -> Result<&'a [u8]>
     requires some { before ≤ list_length values.old.items }
     requires enough { P.byte_count * ones (word_bits valid count) ≤ list_length bytes.now }
-    ensures ok { IfOk result (λ rest. TookMixed T.loaded P.spelled P.byte_count (word_bits valid count) bytes.now rest.now (map T.loaded_number (take before values.old.items)) (map T.loaded_number (take (before + count) values.new.items))) }
+    ensures ok { IfOk result (λ rest. TookMixed T.loaded P.spelled P.byte_count
+        (word_bits valid count) bytes.now rest.now (map T.loaded_number (take before values.old.items))
+        (map T.loaded_number (take (before + count) values.new.items))) }
     ensures long { OnOk result (before + count ≤ list_length values.new.items) }
     ensures kept { before ≤ list_length values.new.items }
-    ensures err { IfErr result (λ e. (e ≡ Error.Memory) ⊎ ((e ≡ Error.OutOfSpec S.S7) × OneIsOutside T.loaded P.spelled P.byte_count (ones (word_bits valid count)) bytes.now)) }
+    ensures err { IfErr result (λ e. (e ≡ Error.Memory) ⊎ ((e ≡ Error.OutOfSpec S.S7)
+        × OneIsOutside T.loaded P.spelled P.byte_count (ones (word_bits valid count)) bytes.now)) }
 {
     make_places(values, before, count, bytes.len() / P::width(), T::zero())?;
     match fill_mixed::<T, P>(&mut values[before..before + count], bytes, valid) {
@@ -550,8 +582,14 @@ fn decode_mixed<'a, T: FromStored<P>, P: StoredNumber>(
 ) -> Result<()>
     requires few { count ≤ 64 }
     requires enough { ones (word_bits valid count) ≤ list_length state.old.values.now / P.byte_count }
-    ensures ok { OnOk result (DecodesMixed (word_bits valid count) (stored_numbers T.loaded P.spelled P.byte_count state.old.values.now) (stored_numbers T.loaded P.spelled P.byte_count state.new.values.now) (number_slots (map T.loaded_number decoded.old.0) decoded.old.1) (number_slots (map T.loaded_number decoded.new.0) decoded.new.1)) }
-    ensures err { IfErr result (CannotDecode 1 (ones (word_bits valid count)) (stored_numbers T.loaded P.spelled P.byte_count state.old.values.now) (number_slots (map T.loaded_number decoded.old.0) decoded.old.1)) }
+    ensures ok { OnOk result (DecodesMixed (word_bits valid count)
+        (stored_numbers T.loaded P.spelled P.byte_count state.old.values.now)
+        (stored_numbers T.loaded P.spelled P.byte_count state.new.values.now)
+        (number_slots (map T.loaded_number decoded.old.0) decoded.old.1)
+        (number_slots (map T.loaded_number decoded.new.0) decoded.new.1)) }
+    ensures err { IfErr result (CannotDecode 1 (ones (word_bits valid count))
+        (stored_numbers T.loaded P.spelled P.byte_count state.old.values.now)
+        (number_slots (map T.loaded_number decoded.old.0) decoded.old.1)) }
 {
     let before = decoded.validity.len();
     match write_mixed::<T, P>(&mut decoded.values, before, state.values, valid, count) {
@@ -587,8 +625,13 @@ impl<'a, T: FromStored<P>, P: StoredNumber> NestedDecoder<'a> for PrimitiveDecod
         decoded: &mut NumberValues<T>,
         count: usize,
     ) -> Result<()>
-        ensures ok { OnOk result (Decodes count (stored_numbers T.loaded P.spelled P.byte_count state.old.values.now) (stored_numbers T.loaded P.spelled P.byte_count state.new.values.now) (number_slots (map T.loaded_number decoded.old.0) decoded.old.1) (number_slots (map T.loaded_number decoded.new.0) decoded.new.1)) }
-        ensures err { IfErr result (CannotDecode 1 count (stored_numbers T.loaded P.spelled P.byte_count state.old.values.now) (number_slots (map T.loaded_number decoded.old.0) decoded.old.1)) }
+        ensures ok { OnOk result (Decodes count (stored_numbers T.loaded P.spelled P.byte_count state.old.values.now)
+            (stored_numbers T.loaded P.spelled P.byte_count state.new.values.now)
+            (number_slots (map T.loaded_number decoded.old.0) decoded.old.1)
+            (number_slots (map T.loaded_number decoded.new.0) decoded.new.1)) }
+        ensures err { IfErr result (CannotDecode 1 count
+            (stored_numbers T.loaded P.spelled P.byte_count state.old.values.now)
+            (number_slots (map T.loaded_number decoded.old.0) decoded.old.1)) }
     {
         if state.values.len() / P::width() < count {
             return Err(Error::OutOfSpec(S::S6));
@@ -608,7 +651,8 @@ impl<'a, T: FromStored<P>, P: StoredNumber> NestedDecoder<'a> for PrimitiveDecod
     }
 
     fn push_null(&self, decoded: &mut NumberValues<T>, count: usize) -> Result<()>
-        ensures ok { OnOk result (number_slots (map T.loaded_number decoded.new.0) decoded.new.1 ≡ number_slots (map T.loaded_number decoded.old.0) decoded.old.1 ++ replicate count null) }
+        ensures ok { OnOk result (number_slots (map T.loaded_number decoded.new.0) decoded.new.1
+            ≡ number_slots (map T.loaded_number decoded.old.0) decoded.old.1 ++ replicate count null) }
         ensures err { IfErr result (λ e. e ≡ Error.Memory) }
     {
         let before = decoded.validity.len();
@@ -633,8 +677,14 @@ impl<'a, T: FromStored<P>, P: StoredNumber> NestedDecoder<'a> for PrimitiveDecod
         count: usize,
     ) -> Result<()>
         requires few { count ≤ 64 }
-        ensures ok { OnOk result (DecodesMixed (word_bits valid count) (stored_numbers T.loaded P.spelled P.byte_count state.old.values.now) (stored_numbers T.loaded P.spelled P.byte_count state.new.values.now) (number_slots (map T.loaded_number decoded.old.0) decoded.old.1) (number_slots (map T.loaded_number decoded.new.0) decoded.new.1)) }
-        ensures err { IfErr result (CannotDecode 1 (ones (word_bits valid count)) (stored_numbers T.loaded P.spelled P.byte_count state.old.values.now) (number_slots (map T.loaded_number decoded.old.0) decoded.old.1)) }
+        ensures ok { OnOk result (DecodesMixed (word_bits valid count)
+            (stored_numbers T.loaded P.spelled P.byte_count state.old.values.now)
+            (stored_numbers T.loaded P.spelled P.byte_count state.new.values.now)
+            (number_slots (map T.loaded_number decoded.old.0) decoded.old.1)
+            (number_slots (map T.loaded_number decoded.new.0) decoded.new.1)) }
+        ensures err { IfErr result (CannotDecode 1 (ones (word_bits valid count))
+            (stored_numbers T.loaded P.spelled P.byte_count state.old.values.now)
+            (number_slots (map T.loaded_number decoded.old.0) decoded.old.1)) }
     {
         let wanted = count_set(valid, count);
         if wanted == count {

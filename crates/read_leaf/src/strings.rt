@@ -154,8 +154,11 @@ impl<O: Offset, K: StringKind> StringValues<O, K> {
         count: usize,
     ) -> Result<()>
         requires few { count ≤ 64 }
-        ensures ok { OnOk result (DecodesMixed (word_bits valid count) (stored_strings K.allows state.old.values.now) (stored_strings K.allows state.new.values.now) (string_slots self.old.0 self.old.1) (string_slots self.new.0 self.new.1)) }
-        ensures err { IfErr result (CannotDecode O.limit (ones (word_bits valid count)) (stored_strings K.allows state.old.values.now) (string_slots self.old.0 self.old.1)) }
+        ensures ok { OnOk result (DecodesMixed (word_bits valid count) (stored_strings K.allows state.old.values.now)
+            (stored_strings K.allows state.new.values.now) (string_slots self.old.0 self.old.1)
+            (string_slots self.new.0 self.new.1)) }
+        ensures err { IfErr result (CannotDecode O.limit (ones (word_bits valid count))
+            (stored_strings K.allows state.old.values.now) (string_slots self.old.0 self.old.1)) }
     {
         self.validity.reserve(count)?;
         match self.strings.push_plain::<K>(state.values, valid, count) {
@@ -168,7 +171,8 @@ impl<O: Offset, K: StringKind> StringValues<O, K> {
 
     // As many nulls.
     fn push_nulls(&mut self, count: usize) -> Result<()>
-        ensures ok { OnOk result (string_slots self.new.0 self.new.1 ≡ string_slots self.old.0 self.old.1 ++ replicate count null) }
+        ensures ok { OnOk result (string_slots self.new.0 self.new.1
+            ≡ string_slots self.old.0 self.old.1 ++ replicate count null) }
         ensures err { IfErr result (λ e. e ≡ Error.Memory) }
     {
         self.validity.reserve(count)?;
@@ -216,8 +220,11 @@ impl<'a, O: Offset, K: StringKind> NestedDecoder<'a> for StringDecoder<O, K> {
         decoded: &mut StringValues<O, K>,
         count: usize,
     ) -> Result<()>
-        ensures ok { OnOk result (Decodes count (stored_strings K.allows state.old.values.now) (stored_strings K.allows state.new.values.now) (string_slots decoded.old.0 decoded.old.1) (string_slots decoded.new.0 decoded.new.1)) }
-        ensures err { IfErr result (CannotDecode O.limit count (stored_strings K.allows state.old.values.now) (string_slots decoded.old.0 decoded.old.1)) }
+        ensures ok { OnOk result (Decodes count (stored_strings K.allows state.old.values.now)
+            (stored_strings K.allows state.new.values.now) (string_slots decoded.old.0 decoded.old.1)
+            (string_slots decoded.new.0 decoded.new.1)) }
+        ensures err { IfErr result (CannotDecode O.limit count (stored_strings K.allows state.old.values.now)
+            (string_slots decoded.old.0 decoded.old.1)) }
     {
         let mut left = count;
         while left > 0 {
@@ -232,7 +239,8 @@ impl<'a, O: Offset, K: StringKind> NestedDecoder<'a> for StringDecoder<O, K> {
     }
 
     fn push_null(&self, decoded: &mut StringValues<O, K>, count: usize) -> Result<()>
-        ensures ok { OnOk result (string_slots decoded.new.0 decoded.new.1 ≡ string_slots decoded.old.0 decoded.old.1 ++ replicate count null) }
+        ensures ok { OnOk result (string_slots decoded.new.0 decoded.new.1
+            ≡ string_slots decoded.old.0 decoded.old.1 ++ replicate count null) }
         ensures err { IfErr result (λ e. e ≡ Error.Memory) }
     {
         decoded.push_nulls(count)
@@ -246,8 +254,11 @@ impl<'a, O: Offset, K: StringKind> NestedDecoder<'a> for StringDecoder<O, K> {
         count: usize,
     ) -> Result<()>
         requires few { count ≤ 64 }
-        ensures ok { OnOk result (DecodesMixed (word_bits valid count) (stored_strings K.allows state.old.values.now) (stored_strings K.allows state.new.values.now) (string_slots decoded.old.0 decoded.old.1) (string_slots decoded.new.0 decoded.new.1)) }
-        ensures err { IfErr result (CannotDecode O.limit (ones (word_bits valid count)) (stored_strings K.allows state.old.values.now) (string_slots decoded.old.0 decoded.old.1)) }
+        ensures ok { OnOk result (DecodesMixed (word_bits valid count) (stored_strings K.allows state.old.values.now)
+            (stored_strings K.allows state.new.values.now) (string_slots decoded.old.0 decoded.old.1)
+            (string_slots decoded.new.0 decoded.new.1)) }
+        ensures err { IfErr result (CannotDecode O.limit (ones (word_bits valid count))
+            (stored_strings K.allows state.old.values.now) (string_slots decoded.old.0 decoded.old.1)) }
     {
         decoded.push_word(state, valid, count)
     }

@@ -117,7 +117,8 @@ fn append_truths<'a>(
 ) -> Result<&'a [u8]>
     requires within { bit + count ≤ 8 * list_length bytes.now }
     requires counted { bit + count < 2 ^ 64 }
-    ensures ok { IfOk result (λ rest. AddsTruths count bytes.now bit rest.now ((bit + count) % 8) values.old.0 values.new.0) }
+    ensures ok { IfOk result (λ rest. AddsTruths count bytes.now bit rest.now
+        ((bit + count) % 8) values.old.0 values.new.0) }
     ensures err { IfErr result (λ e. (e ≡ Error.Memory) × (values.new.0 ≡ values.old.0)) }
 {
     match values.reserve(count) {
@@ -142,7 +143,8 @@ fn from_place(word: u64, at: u32) -> u64
 fn spread_bits(source: u64, valid: u64, count: usize) -> u64
     requires few { count ≤ 64 }
     requires low { source < 2 ^ ones (word_bits valid count) }
-    ensures { word_bits result count ≡ among_nulls (word_bits valid count) (word_bits source (ones (word_bits valid count))) }
+    ensures { word_bits result count ≡ among_nulls (word_bits valid count)
+        (word_bits source (ones (word_bits valid count))) }
 {
     let mut nulls = low_bits(u64::MAX - valid, count);
     let mut word = source;
@@ -159,7 +161,8 @@ fn take_among(bytes: &[u8], bit: usize, valid: u64, count: usize) -> (u64, &[u8]
     requires few { count ≤ 64 }
     requires within { bit + ones (word_bits valid count) ≤ 8 * list_length bytes.now }
     requires counted { bit + ones (word_bits valid count) < 2 ^ 64 }
-    ensures { TookAmong (word_bits valid count) bytes.now bit result.1.now ((bit + ones (word_bits valid count)) % 8) (word_bits result.0 count) }
+    ensures { TookAmong (word_bits valid count) bytes.now bit result.1.now ((bit + ones (word_bits valid count)) % 8)
+        (word_bits result.0 count) }
 {
     let wanted = count_set(valid, count);
     let source = bits_in(bytes, bit, wanted);
@@ -178,7 +181,9 @@ fn decode_among<'a>(
     requires few { count ≤ 64 }
     requires end { end ≡ state.old.bit + ones (word_bits valid count) }
     requires within { end ≤ 8 * list_length state.old.values.now }
-    ensures ok { OnOk result (DecodesMixed (word_bits valid count) (stored_truths state.old.values.now state.old.bit) (stored_truths state.new.values.now state.new.bit) (truth_slots decoded.old.0 decoded.old.1) (truth_slots decoded.new.0 decoded.new.1)) }
+    ensures ok { OnOk result (DecodesMixed (word_bits valid count) (stored_truths state.old.values.now state.old.bit)
+        (stored_truths state.new.values.now state.new.bit) (truth_slots decoded.old.0 decoded.old.1)
+        (truth_slots decoded.new.0 decoded.new.1)) }
     ensures err { IfErr result (λ e. e ≡ Error.Memory) }
 {
     decoded.validity.reserve(count)?;
@@ -211,8 +216,11 @@ impl<'a> NestedDecoder<'a> for TruthDecoder {
         decoded: &mut TruthValues,
         count: usize,
     ) -> Result<()>
-        ensures ok { OnOk result (Decodes count (stored_truths state.old.values.now state.old.bit) (stored_truths state.new.values.now state.new.bit) (truth_slots decoded.old.0 decoded.old.1) (truth_slots decoded.new.0 decoded.new.1)) }
-        ensures err { IfErr result (CannotDecode 1 count (stored_truths state.old.values.now state.old.bit) (truth_slots decoded.old.0 decoded.old.1)) }
+        ensures ok { OnOk result (Decodes count (stored_truths state.old.values.now state.old.bit)
+            (stored_truths state.new.values.now state.new.bit) (truth_slots decoded.old.0 decoded.old.1)
+            (truth_slots decoded.new.0 decoded.new.1)) }
+        ensures err { IfErr result (CannotDecode 1 count (stored_truths state.old.values.now state.old.bit)
+            (truth_slots decoded.old.0 decoded.old.1)) }
     {
         if count == 0 {
             return Ok(());
@@ -234,7 +242,8 @@ impl<'a> NestedDecoder<'a> for TruthDecoder {
     }
 
     fn push_null(&self, decoded: &mut TruthValues, count: usize) -> Result<()>
-        ensures ok { OnOk result (truth_slots decoded.new.0 decoded.new.1 ≡ truth_slots decoded.old.0 decoded.old.1 ++ replicate count null) }
+        ensures ok { OnOk result (truth_slots decoded.new.0 decoded.new.1
+            ≡ truth_slots decoded.old.0 decoded.old.1 ++ replicate count null) }
         ensures err { IfErr result (λ e. e ≡ Error.Memory) }
     {
         decoded.validity.reserve(count)?;
@@ -253,8 +262,11 @@ impl<'a> NestedDecoder<'a> for TruthDecoder {
         count: usize,
     ) -> Result<()>
         requires few { count ≤ 64 }
-        ensures ok { OnOk result (DecodesMixed (word_bits valid count) (stored_truths state.old.values.now state.old.bit) (stored_truths state.new.values.now state.new.bit) (truth_slots decoded.old.0 decoded.old.1) (truth_slots decoded.new.0 decoded.new.1)) }
-        ensures err { IfErr result (CannotDecode 1 (ones (word_bits valid count)) (stored_truths state.old.values.now state.old.bit) (truth_slots decoded.old.0 decoded.old.1)) }
+        ensures ok { OnOk result (DecodesMixed (word_bits valid count)
+            (stored_truths state.old.values.now state.old.bit) (stored_truths state.new.values.now state.new.bit)
+            (truth_slots decoded.old.0 decoded.old.1) (truth_slots decoded.new.0 decoded.new.1)) }
+        ensures err { IfErr result (CannotDecode 1 (ones (word_bits valid count))
+            (stored_truths state.old.values.now state.old.bit) (truth_slots decoded.old.0 decoded.old.1)) }
     {
         let wanted = count_set(valid, count);
         if wanted == count {
