@@ -15,3 +15,4 @@ pub mod Listing
 pub mod Counting
 pub mod Marked
 pub mod Narrowed
+pub mod ToldBits

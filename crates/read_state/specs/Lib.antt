@@ -3,3 +3,4 @@ pub mod Marks
 pub mod Initial
 pub mod Reach
 pub mod Ticks
+pub mod Told

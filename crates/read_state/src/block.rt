@@ -9,6 +9,7 @@ ghost use Rattle.read_state.specs.Kinds.{kept_box, all_kept, starts_of, HasLongI
 ghost use Rattle.read_state.specs.Marks.{marks_of, hides_at, validities};
 ghost use Rattle.read_state.specs.Ticks.{TicksAtMost};
 
+use crate::block_levels::BlockLevels;
 use crate::boxes::NestedBox;
 use crate::kinds::Nested;
 use crate::lists::ones_of;
@@ -367,12 +368,37 @@ pub fn push_all<L: Ledger>(
     if reps.len() == 64 && parts.len() < 64 {
         let outer = outer_word(reps);
         let pushed = outer & levels_from(defs, 0);
-        let reps = narrowed_beside(reps, outer);
-        let defs = narrowed(defs);
+        let reps = BlockLevels::of_bytes(narrowed_beside(reps, outer));
+        let defs = BlockLevels::of_bytes(narrowed(defs));
         return words_to(parts, &reps, &defs, pushed, 0, 0, steps);
     }
     let hidden = [false; 64];
     block_to(parts, reps, defs, &hidden, 0, 0, steps)
+}
+
+/// Pushes 64 pairs to all parts of a state, which are few.
+///
+/// # Errors
+///
+/// `Memory`; some parts may then have the pushes.
+pub fn push_told<L: Ledger>(
+    parts: &mut [NestedBox],
+    reps: &BlockLevels,
+    defs: &BlockLevels,
+    steps: &mut Steps<L>,
+) -> Result<()>
+    requires reps { length reps.now ≡ 64 }
+    requires defs { length defs.now ≡ 64 }
+    requires parts { length parts.old < 64 }
+    requires counted { HasLongItems (all_kept parts.old) → ⊥ }
+    ensures ok { OnOk result (all_kept parts.new ≡ block (marks_of reps.now defs.now (replicate 64 false)) 0 0 (all_kept parts.old)) }
+    ensures err { IfErr result (λ e. e ≡ Error.Memory) }
+    ensures ticked { TicksAtMost (length parts.old) steps.old steps.new }
+{
+    reps.know();
+    defs.know();
+    let pushed = reps.to(0) & defs.from(0);
+    words_to(parts, reps, defs, pushed, 0, 0, steps)
 }
 
 /// Pushes so many equal pairs to all parts of a state.

@@ -5,6 +5,7 @@
 #![tactic(auto)]
 
 mod block;
+mod block_levels;
 mod boxes;
 mod init;
 mod kinds;
@@ -19,6 +20,7 @@ mod steps;
 mod stretch;
 mod words;
 
+pub use block_levels::BlockLevels;
 pub use boxes::NestedBox;
 pub use init::{InitNested, init_nested};
 pub use kinds::{

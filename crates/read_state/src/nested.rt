@@ -12,7 +12,8 @@ ghost use Rattle.read_state.specs.Kinds.{all_kept, kept_box, part_at, HasLongIte
 ghost use Rattle.read_state.specs.Marks.{marks_of};
 ghost use Rattle.read_state.specs.Ticks.{TicksAtMost};
 
-use crate::block::{push_all, push_equal};
+use crate::block::{push_all, push_equal, push_told};
+use crate::block_levels::BlockLevels;
 use crate::boxes::NestedBox;
 use crate::kinds::Nested;
 use crate::parts::{has_long_items, inside_of, leaf_len_of, lists_of, top_of};
@@ -178,6 +179,44 @@ impl NestedState {
         }
         Ok(())
     }
+
+    /// The number of parts.
+    pub fn parts(&self) -> usize
+        ensures { result ≡ list_length self.now }
+    {
+        self.nested.len()
+    }
+
+    /// Pushes a block of 64 pairs to all parts, as `push_levels` does, where its levels are told as bits or bytes. At most one step for each part.
+    ///
+    /// # Errors
+    ///
+    /// `Memory`, and V1 where with these pairs a part beneath a list has more slots than offsets of 64 bits count. Some parts may then have the
+    /// pushes.
+    pub fn push_block<L: Ledger>(
+        &mut self,
+        reps: &BlockLevels,
+        defs: &BlockLevels,
+        steps: &mut Steps<L>,
+    ) -> Result<()>
+        requires reps { list_length reps.now ≡ 64 }
+        requires defs { list_length defs.now ≡ 64 }
+        requires parts { list_length self.old < 64 }
+        ensures ok { OnOk result (self.new ≡ block (marks_of reps.now defs.now (replicate 64 false)) 0 0 self.old) }
+        ensures counted { OnOk result (HasLongItems self.new → ⊥) }
+        ensures err { IfErr result (λ e. (e ≡ Error.Memory) ⊎ ((e ≡ Error.Overflow V.V1) × HasLongItems (block (marks_of reps.now defs.now (replicate 64 false)) 0 0 self.old))) }
+        ensures ticked { TicksAtMost (list_length self.old) steps.old steps.new }
+    {
+        if has_long_items(&self.nested) {
+            return Err(Error::Overflow(V::V1));
+        }
+        push_told(&mut self.nested, reps, defs, steps)?;
+        if has_long_items(&self.nested) {
+            return Err(Error::Overflow(V::V1));
+        }
+        Ok(())
+    }
+
     /// Pushes `count` equal pairs to all parts. At most one step for each part.
     ///
     /// # Errors

@@ -6,16 +6,16 @@ ghost use Rattle.read_laws.specs.State.{Kept};
 ghost use Rattle.read_laws.specs.Step.{bit, is_list, is_struct, gain};
 ghost use Rattle.read_laws.specs.Block.{Mark, beneath, pushed_all, block};
 ghost use Rattle.read_state.specs.Kinds.{kept_box, all_kept, starts_of, HasLongItems};
-ghost use Rattle.read_state.specs.Reach.{chosen, places, AreMarked};
+ghost use Rattle.read_state.specs.Reach.{chosen, places, reached, AreMarked};
 ghost use Rattle.read_state.specs.Ticks.{TicksAtMost};
 
+use crate::block_levels::BlockLevels;
 use crate::boxes::NestedBox;
 use crate::kinds::{Nested, NestedOptional};
 use crate::lists::{ones_of, pick_bits, push_starts};
 use crate::parts::{bit, both, first_len};
 use crate::pushes::more;
 use crate::steps::Steps;
-use crate::words::{bytes_from, reached_word};
 use columns_base::{Error, Result};
 use columns_core::MutableBitmap;
 use std::sync::ledger::Ledger;
@@ -35,12 +35,12 @@ fn push_places(lengths: &mut Vec<i64>, pushed: u64, grown: u64, first: usize) ->
 
 // Pushes to a nullable part beneath `def` definition levels. Tells whether there was memory.
 #[inline(always)]
-fn push_valid(validity: &mut MutableBitmap, defs: &[u8], pushed: u64, def: usize) -> bool
+fn push_valid(validity: &mut MutableBitmap, defs: &BlockLevels, pushed: u64, def: usize) -> bool
     requires defs { length defs.now ≡ 64 }
     requires few { def + 2 < 2 ^ 8 }
     ensures { IsTrue result → validity.new.0 ≡ validity.old.0 ++ chosen (word_bits pushed 64) (map (λ d. nat_lt def d) defs.now) }
 {
-    let there = bytes_from(defs, (def + 1) as u8);
+    let there = defs.from((def + 1) as u8);
     validity
         .extend_from_word(pick_bits(pushed, there), ones_of(pushed))
         .is_ok()
@@ -49,7 +49,7 @@ fn push_valid(validity: &mut MutableBitmap, defs: &[u8], pushed: u64, def: usize
 // Pushes to a nullable list.
 fn push_list(
     list: &mut NestedOptional,
-    defs: &[u8],
+    defs: &BlockLevels,
     pushed: u64,
     grown: u64,
     def: usize,
@@ -83,7 +83,7 @@ fn push_counted(pushes: &mut usize, pushed: u64) -> bool
 // Pushes to one part, which lies beneath `def` definition levels. Tells whether there was memory.
 fn push_part(
     part: &mut NestedBox,
-    defs: &[u8],
+    defs: &BlockLevels,
     pushed: u64,
     grown: u64,
     def: usize,
@@ -103,11 +103,21 @@ fn push_part(
     }
 }
 
+// A bit for each of 64 pairs, set where it pushes to a part beneath `depth` lists and `def` definition levels. No pair lies beneath a null.
+#[inline(always)]
+fn reached_word(reps: &BlockLevels, defs: &BlockLevels, depth: u8, def: u8) -> u64
+    requires reps { length reps.now ≡ 64 }
+    requires defs { length defs.now ≡ 64 }
+    ensures { word_bits result 64 ≡ reached depth def reps.now defs.now }
+{
+    reps.to(depth) & defs.from(def)
+}
+
 // A bit for each pair that pushes to the part beneath one that `pushed` has a bit for each pair of. A struct is as long as the part beneath it; beneath
 // the last part that is no list there is none.
 fn beneath_word(
-    reps: &[u8],
-    defs: &[u8],
+    reps: &BlockLevels,
+    defs: &BlockLevels,
     pushed: u64,
     required: bool,
     last: bool,
@@ -132,8 +142,8 @@ fn beneath_word(
 // Pushes the pairs to the parts, as `words_to` does. Tells whether there was memory, so that the parts are gone through without a call for each.
 fn push_parts<L: Ledger>(
     parts: &mut [NestedBox],
-    reps: &[u8],
-    defs: &[u8],
+    reps: &BlockLevels,
+    defs: &BlockLevels,
     pushed: u64,
     depth: usize,
     def: usize,
@@ -173,8 +183,8 @@ fn push_parts<L: Ledger>(
 /// `Memory`; some parts may then have the pushes.
 pub fn words_to<L: Ledger>(
     parts: &mut [NestedBox],
-    reps: &[u8],
-    defs: &[u8],
+    reps: &BlockLevels,
+    defs: &BlockLevels,
     pushed: u64,
     depth: usize,
     def: usize,

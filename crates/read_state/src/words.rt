@@ -1,7 +1,6 @@
 //! Levels of 64 pairs, compared all at once.
 ghost use Rattle.std.specs.Prelude.{◌≡◌, ℕ, ◌+◌, ◌<◌, ◌≤◌, ◌^◌, length, map, nat_eq, nat_le, min, slice_index};
 ghost use Rattle.columns_core.specs.Bits.{word_bits};
-ghost use Rattle.read_state.specs.Reach.{reached};
 
 use std::simd::prelude::*;
 
@@ -78,8 +77,8 @@ pub fn narrowed(levels: &[u32]) -> [u8; 64]
     low.cast::<u8>().to_array()
 }
 
-// A bit for each of 64 levels in bytes, set where it is at most this one.
-fn bytes_to(levels: &[u8], most: u8) -> u64
+/// A bit for each of 64 levels in bytes, set where it is at most this one.
+pub fn bytes_to(levels: &[u8], most: u8) -> u64
     requires { length levels.now ≡ 64 }
     ensures { word_bits result 64 ≡ map (λ d. nat_le d most) levels.now }
 {
@@ -96,11 +95,11 @@ pub fn bytes_from(levels: &[u8], least: u8) -> u64
     lanes.simd_ge(Simd::<u8, 64>::splat(least)).to_bitmask()
 }
 
-/// A bit for each of 64 pairs, set where it pushes to a part beneath `depth` lists and `def` definition levels. No pair lies beneath a null.
-pub fn reached_word(reps: &[u8], defs: &[u8], depth: u8, def: u8) -> u64
-    requires reps { length reps.now ≡ 64 }
-    requires defs { length defs.now ≡ 64 }
-    ensures { word_bits result 64 ≡ reached depth def reps.now defs.now }
+/// A bit for each of 64 levels in bytes, set where it is this one.
+pub fn bytes_at(levels: &[u8], level: u8) -> u64
+    requires { length levels.now ≡ 64 }
+    ensures { word_bits result 64 ≡ map (λ d. nat_eq d level) levels.now }
 {
-    bytes_to(reps, depth) & bytes_from(defs, def)
+    let lanes = Simd::<u8, 64>::from_slice(levels);
+    lanes.simd_eq(Simd::<u8, 64>::splat(level)).to_bitmask()
 }

@@ -5,6 +5,8 @@ use Rattle.std.proofs.lemmas.List.{length-replicate}
 use Rattle.pq_numbers.specs.Bits.{digits_of}
 use Rattle.pq_runs.specs.Hybrid.{Item as LevelItem, given}
 use Rattle.columns_core.specs.Bits.{word_bits}
+use Rattle.read_laws.specs.Step.{bit}
+use Rattle.read_state.proofs.Compared.{bit-of}
 use Rattle.shredding.specs.Slot.{Slot}
 use Rattle.columns_base.specs.declared.error.Error.{Error}
 use Rattle.read_walk.specs.Gives.{Decoded, called, mixed}
@@ -32,6 +34,11 @@ zero-bits (suc n) w h =
     let low : (2 ^ suc n - 1 - w) % 2 ≡ 1 - w % 2 = omega (arith, p, h) in
     let high : (2 ^ suc n - 1 - w) / 2 ≡ 2 ^ n - 1 - w / 2 = omega (arith, p, h) in
     rw (low, high, zero-bit (w % 2) (omega arith)) (ap (λ (bs : List Bool). nat_eq (w % 2) 0 ∷ bs) (zero-bits n (w / 2) (omega (arith, p, h))))
+
+-- a word's bits as numbers
+pub word-digits : (n w : ℕ) → map bit (word_bits w n) ≡ digits_of 2 n w
+word-digits zero w = refl
+word-digits (suc n) w = rw (bit-of (w % 2) (omega arith)) (ap (λ (ds : List ℕ). w % 2 ∷ ds) (word-digits n (w / 2)))
 
 -- a bit's level is at most 1
 pub bit-level : (n m k : ℕ) → get_or (digits_of 2 n m) k 0 ≤ 1
@@ -71,3 +78,20 @@ module _ (mr md : ℕ) where
   pub flat-first : (n at r : ℕ) (ds : List ℕ) (f : Bool) (xs ys : List ℕ) (rs ds0 rs' ds' : List LevelItem) → f ≡ false → at ≡ 0 → length ds ≡ n → ((k : ℕ) → k < length ds → get_or ds k 0 ≤ md) → r ≡ 0 → rs ≡ given (replicate n r) ++ rs' → ds0 ≡ given ds ++ ds' → (a : ℕ) → block_items xs ys a at ++ behind mr md f rs ds0 ≡ pair_items (replicate n 0) ds ++ (block_items xs ys a at ++ behind mr md f rs' ds')
   flat-first n at r ds f xs ys rs ds0 rs' ds' e z size within o p q a =
       rw (e, z, p, q, o) (ap (up_to_maxima mr md) (zip-even (replicate n 0) ds rs' ds' (length-replicate n 0 ∙ sym size)) ∙ flat-within ds n (zip_items rs' ds') size within)
+
+  -- the same of other repetition levels
+  both-on : (r d : ℕ) (is : List Item) → r ≤ mr → d ≤ md → up_to_maxima mr md (Ok (r, d) ∷ is) ≡ Ok (r, d) ∷ up_to_maxima mr md is
+  both-on r d is g h =
+      let a : nat_le r mr ≡ true = elim (leb_tells r mr) [ inl e ↦ e.0 | inr e ↦ absurd (omega (arith, e.1, g)) ] in
+      let b : nat_le d md ≡ true = elim (leb_tells d md) [ inl e ↦ e.0 | inr e ↦ absurd (omega (arith, e.1, h)) ] in
+      rw (a, b) refl
+
+  both-within : (rs ds : List ℕ) (t : List Item) → length ds ≡ length rs → ((k : ℕ) → k < length rs → get_or rs k 0 ≤ mr) → ((k : ℕ) → k < length ds → get_or ds k 0 ≤ md) → up_to_maxima mr md (pair_items rs ds ++ t) ≡ pair_items rs ds ++ up_to_maxima mr md t
+  both-within [] [] t e g h = refl
+  both-within [] (d ∷ ds) t e g h = absurd (omega (arith, e))
+  both-within (r ∷ rs) [] t e g h = absurd (omega (arith, e))
+  both-within (r ∷ rs) (d ∷ ds) t e g h = both-on r d (pair_items rs ds ++ t) (g 0 (omega arith)) (h 0 (omega arith)) ∙ ap (λ (is : List Item). Ok (r, d) ∷ is) (both-within rs ds t (omega (arith, e)) (λ k l. g (suc k) (omega (arith, l))) (λ k l. h (suc k) (omega (arith, l))))
+
+  pub told-first : (at : ℕ) (rs ds : List ℕ) (f : Bool) (xs ys : List ℕ) (rs0 ds0 rs' ds' : List LevelItem) → f ≡ false → at ≡ 0 → length ds ≡ length rs → ((k : ℕ) → k < length rs → get_or rs k 0 ≤ mr) → ((k : ℕ) → k < length ds → get_or ds k 0 ≤ md) → rs0 ≡ given rs ++ rs' → ds0 ≡ given ds ++ ds' → (a : ℕ) → block_items xs ys a at ++ behind mr md f rs0 ds0 ≡ pair_items rs ds ++ (block_items xs ys a at ++ behind mr md f rs' ds')
+  told-first at rs ds f xs ys rs0 ds0 rs' ds' e z size g h p q a =
+      rw (e, z, p, q) (ap (up_to_maxima mr md) (zip-even rs ds rs' ds' (sym size)) ∙ both-within rs ds (zip_items rs' ds') size g h)

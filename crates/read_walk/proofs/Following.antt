@@ -1,5 +1,5 @@
 -- Pairs that may follow one another.
-use Rattle.std.proofs.Common.{◌≡◌, ◌⊎◌, inl, inr, ℕ, zero, suc, ◌+◌, ◌*◌, ◌/◌, ◌%◌, ◌^◌, ◌<◌, ◌≤◌, ◌==◌, Bool, true, false, true≢false, nat_eq, nat_le, bit_and, bit_or, max, Option, Some, None, List, [], ◌∷◌, map, length, replicate, drop, get_or, refl, arith, ap, sym, subst, ◌∙◌, add-one}
+use Rattle.std.proofs.Common.{◌≡◌, ◌⊎◌, inl, inr, ℕ, zero, suc, ◌+◌, ◌-◌, ◌*◌, ◌/◌, ◌%◌, ◌^◌, ◌<◌, ◌≤◌, ◌==◌, Bool, true, false, true≢false, nat_eq, nat_le, bit_and, bit_or, max, Option, Some, None, List, [], ◌∷◌, map, length, replicate, drop, get_or, refl, arith, ap, sym, subst, ◌∙◌, add-one}
 use Rattle.std.specs.Int.{bit_at, from_bool}
 use Rattle.std.proofs.lemmas.Bool.Decides.{leb_tells, eqb_tells}
 use Rattle.std.proofs.lemmas.Nat.Bits.{bit_at_lowest, bit_at-suc, bit_at_or, bit_at-lt}
@@ -12,7 +12,7 @@ use Rattle.shredding.specs.Shape.{Way, at_leaf, in_list, in_struct}
 use Rattle.shredding.specs.Shred.{max_repetition, max_definition}
 use Rattle.shredding.specs.Local.{inside}
 use Rattle.read_laws.proofs.Stretches.{up-bit}
-use Rattle.read_walk.specs.Order.{zipped, MayCome, Follows, WhyNot, OneMayNot, level_before, IsInside, PlainlyFollow, MayComeAt}
+use Rattle.read_walk.specs.Order.{zipped, last_level, MayCome, Follows, WhyNot, OneMayNot, level_before, IsInside, PlainlyFollow, MayComeAt}
 use Rattle.read_walk.specs.Pairs.{Pair}
 
 -- a list deeper down lies inside more
@@ -179,3 +179,23 @@ pub second-not : (w : Way) (before : Option ℕ) (n r d : ℕ) (e : Error) → 0
 second-not w before zero r d e h one why = absurd (omega (arith, h))
 second-not w before (suc zero) r d e h one why = absurd (one refl)
 second-not w before (suc (suc n)) r d e h one why = later-not w before (r, d) (zipped (replicate (suc n) r) (replicate (suc n) d)) e (here-not w (Some d) (r, d) (zipped (replicate n r) (replicate n d)) e why)
+
+-- pairs that follow one another have no level above its greatest
+pub follows-most : (w : Way) (before : Option ℕ) (reps defs : List ℕ) → length defs ≡ length reps → Follows w before (zipped reps defs) → (k : ℕ) → k < length reps → (get_or reps k 0 ≤ max_repetition w) × (get_or defs k 0 ≤ max_definition w)
+follows-most w before [] defs e f k h = absurd (omega (arith, h))
+follows-most w before (r ∷ reps) [] e f k h = absurd (omega (arith, e))
+follows-most w before (r ∷ reps) (d ∷ defs) e f zero h = (f.0, f.1)
+follows-most w before (r ∷ reps) (d ∷ defs) e f (suc k) h = follows-most w (Some d) reps defs (omega (arith, e)) f.3 k (omega (arith, h))
+
+-- ---- the definition level of the last pair
+last : (before : Option ℕ) (r d : ℕ) (reps defs : List ℕ) → length defs ≡ length reps → last_level before (zipped (r ∷ reps) (d ∷ defs)) ≡ Some (get_or (d ∷ defs) (length reps) 0)
+last before r d [] defs e = refl
+last before r d (s ∷ reps) [] e = absurd (omega (arith, e))
+last before r d (s ∷ reps) (f ∷ defs) e = last (Some d) s f reps defs (omega (arith, e))
+
+pub last-pair : (before : Option ℕ) (reps defs : List ℕ) (i : ℕ) → length defs ≡ length reps → 0 < length reps → i ≡ length reps - 1 → ◌≡◌ {A = Option ℕ} (Some (get_or defs i 0)) (last_level before (zipped reps defs))
+last-pair before [] defs i e h k = absurd (omega (arith, h))
+last-pair before (r ∷ reps) [] i e h k = absurd (omega (arith, e))
+last-pair before (r ∷ reps) (d ∷ defs) i e h k =
+    let m : i ≡ length reps = omega (arith, k) in
+    rw (m, last before r d reps defs (omega (arith, e))) refl

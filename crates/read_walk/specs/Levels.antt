@@ -4,6 +4,7 @@ use Rattle.pq_numbers.specs.Bits.{digits_of}
 use Rattle.read_walk.specs.LevelRuns.{runs_left, IsReading}
 use Rattle.read_walk.specs.Pairs.{Item, block_items, behind}
 use Rattle.read_walk.specs.declared.levels.Levels.{Levels}
+use Rattle.read_walk.specs.declared.runs.LevelRuns.{LevelRuns}
 
 unfoldable pub levels_left : Levels → List Item
 levels_left l = block_items l.rep_block l.def_block l.at (l.end - l.at) ++ behind l.max_rep l.max_def l.failed (runs_left l.reps) (runs_left l.defs)
@@ -24,3 +25,17 @@ pub record IsFlatNext (l : Levels) (rows : ℕ) : Type 0 where
   pub copies : 64 ≤ l.reps.copies
   pub zeros : l.reps.number ≡ 0
   pub wanted : 64 ≤ rows
+
+-- No unpacked pair is left, no fault stands behind them, and the greatest levels are not below those of a way.
+pub record IsUsedUp (l : Levels) (lists top : ℕ) : Type 0 where
+  pub used : l.end ≤ l.at
+  pub goes_on : l.failed ≡ false
+  pub rep_most : lists ≤ l.max_rep
+  pub def_most : top ≤ l.max_def
+
+-- 64 levels stand packed, of two or three bits each
+pub record ArePacked (r : LevelRuns) : Type 0 where
+  pub none : r.copies ≡ 0
+  pub there : 64 ≤ r.standing
+  pub some : 2 ≤ r.runs.num_bits
+  pub narrow : r.runs.num_bits ≤ 3

@@ -6,7 +6,7 @@ use Rattle.columns_base.specs.declared.error.S.TheVariants.{S4, S5, S10}
 use Rattle.shredding.specs.Shape.{Way}
 use Rattle.shredding.specs.Shred.{max_definition, max_repetition}
 use Rattle.shredding.specs.Local.{inside}
-use Rattle.read_laws.specs.State.{Kept}
+use Rattle.read_laws.specs.State.{Kept, kept_way}
 use Rattle.read_laws.specs.Step.{Ended}
 use Rattle.read_walk.specs.Pairs.{Pair}
 
@@ -79,3 +79,11 @@ MayComeAt w before reps defs k = MayCome w (level_before before defs k) (slice_i
 abbrev pub PlainlyFollow : Option ℕ → List ℕ → List ℕ → ℕ → ℕ → ℕ → Type 0
 PlainlyFollow before reps defs lists top floor =
     (k : ℕ) → k < length reps → (slice_index reps k ≤ lists) × (slice_index defs k ≤ top) × ((slice_index reps k ≡ 0) ⊎ ((floor ≤ slice_index defs k) × IsInside floor (level_before before defs k)))
+
+-- 64 pairs may come, to a state of fewer parts, and no level is above 255
+pub record MayTake (ks : List Kept) (top : ℕ) (before : Option ℕ) (reps defs : List ℕ) : Type 0 where
+  pub rep_size : length reps ≡ 64
+  pub def_size : length defs ≡ 64
+  pub few : length ks < 64
+  pub low : top ≤ 255
+  pub follow : Follows (kept_way ks) before (zipped reps defs)

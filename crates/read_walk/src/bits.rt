@@ -174,6 +174,78 @@ pub fn put_eights(out: &mut [u32], packed: &[u8], shift: u32, width: u32, groups
     }
 }
 
+// Eight numbers of two bits in a byte each in the front of the memory, the lowest first.
+fn put_byte_pairs(out: &mut [u8], word: u64)
+    requires { 8 ≤ length out.old }
+    ensures { out.new ≡ digits_of 4 8 word ++ drop 8 out.old }
+{
+    let all = Simd::<u16, 8>::splat((word % 65536) as u16);
+    let moved = all * Simd::<u16, 8>::from_array([16384, 4096, 1024, 256, 64, 16, 4, 1]);
+    let numbers = moved >> Simd::<u16, 8>::splat(14);
+    numbers.cast::<u8>().copy_to_slice(out);
+}
+
+// The same of three bits, four in each half of the lanes.
+fn put_byte_triples(out: &mut [u8], word: u64)
+    requires { 8 ≤ length out.old }
+    ensures { out.new ≡ digits_of 8 8 word ++ drop 8 out.old }
+{
+    let low = (word % 65536) as u16;
+    let high = (word / 4096 % 65536) as u16;
+    let all = Simd::<u16, 8>::from_array([low, low, low, low, high, high, high, high]);
+    let moved = all * Simd::<u16, 8>::from_array([8192, 1024, 128, 16, 8192, 1024, 128, 16]);
+    let numbers = moved >> Simd::<u16, 8>::splat(13);
+    numbers.cast::<u8>().copy_to_slice(out);
+}
+
+// Eight numbers of two or three bits in a byte each in the front of the memory, the lowest first.
+#[inline(always)]
+fn put_byte_eight(out: &mut [u8], word: u64, width: u32)
+    requires room { 8 ≤ length out.old }
+    requires some { 2 ≤ width }
+    requires narrow { width ≤ 3 }
+    ensures { out.new ≡ digits_of (2 ^ width) 8 word ++ drop 8 out.old }
+{
+    if width == 2 {
+        put_byte_pairs(out, word);
+    } else {
+        put_byte_triples(out, word);
+    }
+}
+
+// So many groups of eight packed numbers of two or three bits, from a bit of the first byte on, in a byte each in the front of the memory.
+#[inline(always)]
+fn put_byte_groups(out: &mut [u8], packed: &[u8], shift: u32, width: u32, groups: usize)
+    requires room { 8 * groups ≤ length out.old }
+    requires some { 2 ≤ width }
+    requires narrow { width ≤ 3 }
+    requires small { shift < 8 }
+    requires enough { shift + width * (8 * groups) ≤ 8 * length packed.now }
+    ensures { take (8 * groups) out.new ≡ digits_of (2 ^ width) (8 * groups) (number_of packed.now / 2 ^ shift) }
+{
+    for i in 0..groups {
+        let word = low_bytes(skip(packed, width as usize * i)) >> shift;
+        let part = &mut out[8 * i..];
+        put_byte_eight(part, word, width);
+    }
+}
+
+/// The same, by a loop of its own for each of the two widths.
+pub fn put_bytes(out: &mut [u8], packed: &[u8], shift: u32, width: u32, groups: usize)
+    requires room { 8 * groups ≤ length out.old }
+    requires some { 2 ≤ width }
+    requires narrow { width ≤ 3 }
+    requires small { shift < 8 }
+    requires enough { shift + width * (8 * groups) ≤ 8 * length packed.now }
+    ensures { take (8 * groups) out.new ≡ digits_of (2 ^ width) (8 * groups) (number_of packed.now / 2 ^ shift) }
+{
+    if width == 2 {
+        put_byte_groups(out, packed, shift, 2, groups);
+    } else {
+        put_byte_groups(out, packed, shift, 3, groups);
+    }
+}
+
 /// The lowest numbers of a word, in the front of the memory.
 pub fn put_few(out: &mut [u32], word: u64, width: u32, count: usize)
     requires room { count ≤ length out.old }

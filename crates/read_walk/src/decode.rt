@@ -9,7 +9,7 @@ ghost use Rattle.read_walk.specs.Values.{CannotDecode};
 use crate::block::{PairBlock, level_word};
 use crate::traits::NestedDecoder;
 use columns_base::Result;
-use read_state::{levels_at, levels_from};
+use read_state::{BlockLevels, levels_at, levels_from};
 
 // 1 for true, 0 for false.
 fn one_if(set: bool) -> u64
@@ -196,5 +196,41 @@ pub fn decode_block<'a, D: NestedDecoder<'a>>(
     ensures suits { D.suits decoder.now decoded.new }
 {
     let (valid, count) = block_word(block, floor, top);
+    decoder.push_mixed(values, decoded, valid, count)
+}
+
+// A bit for each of 64 levels from `floor` on, set where it is `top`, the lowest for the first, and how many these are.
+fn told_word(defs: &BlockLevels, floor: usize, top: usize) -> (u64, usize)
+    requires size { length defs.now ≡ 64 }
+    requires ordered { floor ≤ top }
+    requires low { top ≤ 255 }
+    ensures bits { word_bits result.0 result.1 ≡ mixed floor top defs.now }
+    ensures few { result.1 ≤ 64 }
+{
+    picked_bits(defs.from(floor as u8), defs.at(top as u8))
+}
+
+/// Decodes what 64 pairs call for whose levels are told as bits or bytes.
+///
+/// # Errors
+///
+/// Those of the decoder.
+pub fn decode_told<'a, D: NestedDecoder<'a>>(
+    values: &mut D::State,
+    decoded: &mut D::DecodedState,
+    decoder: &D,
+    defs: &BlockLevels,
+    floor: usize,
+    top: usize,
+) -> Result<()>
+    requires size { length defs.now ≡ 64 }
+    requires ordered { floor ≤ top }
+    requires low { top ≤ 255 }
+    requires suits { D.suits decoder.now decoded.old }
+    ensures ok { OnOk result (Decoded floor top defs.now (D.left decoder.now values.old) (D.left decoder.now values.new) (D.slots decoded.old) (D.slots decoded.new)) }
+    ensures err { IfErr result (CannotDecode D.byte_limit (called top defs.now) (D.left decoder.now values.old) (D.slots decoded.old)) }
+    ensures suits { D.suits decoder.now decoded.new }
+{
+    let (valid, count) = told_word(defs, floor, top);
     decoder.push_mixed(values, decoded, valid, count)
 }

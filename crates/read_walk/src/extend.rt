@@ -12,10 +12,10 @@ ghost use Rattle.read_walk.specs.Ticks.{TicksEach};
 use crate::block::PairBlock;
 use crate::order::{WayLevels, check_block, check_copies, way_levels};
 use crate::page::NestedPage;
-use crate::take::{take_all, take_copies};
+use crate::take::{take_all, take_copies, take_told};
 use crate::traits::NestedDecoder;
 use columns_base::Result;
-use read_state::{NestedState, Steps};
+use read_state::{BlockLevels, NestedState, Steps};
 use std::sync::ledger::Ledger;
 
 // Takes the pairs of a block, one or more, behind one of the definition level `before`.
@@ -140,6 +140,48 @@ fn step_block<'a, 'b, D: NestedDecoder<'b>, L: Ledger>(
     Ok(true)
 }
 
+// Takes the next pairs: 64 of them as bits or bytes where they can be had so, else a block.
+fn step_others<'a, 'b, D: NestedDecoder<'b>, L: Ledger>(
+    page: &mut NestedPage<'a>,
+    values: &mut D::State,
+    nested: &mut NestedState,
+    decoded: &mut D::DecodedState,
+    decoder: &D,
+    levels: WayLevels,
+    block: &mut PairBlock,
+    before: &mut Option<usize>,
+    rows: &mut usize,
+    steps: &mut Steps<L>,
+) -> Result<bool>
+    requires levels { AreLevels (kept_way nested.old) levels.lists levels.top levels.floor }
+    requires fits { StateFits nested.old }
+    requires ended { EndedAt before.old nested.old }
+    requires decoded { length (D.slots decoded.old) ≡ leaf_count nested.old }
+    requires suits { D.suits decoder.now decoded.old }
+    ensures ok { IfOk result (λ more. TakesStep more rows.old rows.new before.old before.new page.old page.new (D.left decoder.now values.old) (D.left decoder.now values.new) nested.old nested.new (D.slots decoded.old) (D.slots decoded.new)) }
+    ensures err { IfErr result (CannotStep D.byte_limit rows.old before.old page.old (D.left decoder.now values.old) nested.old (D.slots decoded.old)) }
+    ensures ticked { TicksAtMost (length nested.old) steps.old steps.new }
+    ensures idle { IfOk result (λ more. more ≡ false → steps.new ≡ steps.old) }
+    ensures suits { D.suits decoder.now decoded.new }
+{
+    let mut reps = BlockLevels::of_word(0);
+    let mut defs = BlockLevels::of_word(0);
+    let Some(count) = page.next_told(*rows, nested, levels, *before, &mut reps, &mut defs) else {
+        return step_block(
+            page, values, nested, decoded, decoder, levels, block, before, rows, steps,
+        );
+    };
+    match take_told(
+        values, nested, decoded, decoder, levels, *before, &reps, &defs, steps,
+    ) {
+        Ok(()) => {}
+        Err(error) => return Err(error),
+    }
+    *before = Some(defs.last());
+    *rows -= count;
+    Ok(true)
+}
+
 // The same with equal pairs at once where both levels stand in copies.
 fn step_pairs<'a, 'b, D: NestedDecoder<'b>, L: Ledger>(
     page: &mut NestedPage<'a>,
@@ -165,7 +207,7 @@ fn step_pairs<'a, 'b, D: NestedDecoder<'b>, L: Ledger>(
     ensures suits { D.suits decoder.now decoded.new }
 {
     let Some((rep, level, count)) = page.next_copies(*rows) else {
-        return step_block(
+        return step_others(
             page, values, nested, decoded, decoder, levels, block, before, rows, steps,
         );
     };

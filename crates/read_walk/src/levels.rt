@@ -1,16 +1,22 @@
 //! Level pairs in blocks of 64.
-ghost use Rattle.std.specs.Prelude.{◌≡◌, ◌⊎◌, ℕ, ◌+◌, ◌-◌, ◌<◌, ◌≤◌, ◌^◌, ◌||◌, ◌&&◌, [], true, false, length, take, drop, slice_index, Ok, Some, IfSome, IsTrue, count_by};
+ghost use Rattle.std.specs.Prelude.{◌≡◌, ◌⊎◌, ℕ, ◌+◌, ◌-◌, ◌<◌, ◌≤◌, ◌^◌, ◌||◌, ◌&&◌, ◌++◌, [], true, false, length, take, drop, slice_index, Ok, Some, IfSome, MatchOption, IsTrue, count_by};
 ghost use Rattle.pq_numbers.specs.Bits.{digits_of};
+ghost use Rattle.pq_runs.specs.Hybrid.{given};
+ghost use Rattle.read_laws.specs.State.{kept_way};
 ghost use Rattle.read_walk.specs.LevelRuns.{runs_left, IsReading, IsFilled};
-ghost use Rattle.read_walk.specs.Levels.{levels_left, IsLevels, IsFlatNext};
+ghost use Rattle.read_walk.specs.Levels.{levels_left, ArePacked, IsLevels, IsFlatNext, IsUsedUp};
+ghost use Rattle.read_walk.specs.Order.{AreLevels, MayTake};
 ghost use Rattle.read_walk.specs.Pairs.{TakesBlock, TakesCopies, TakesRun, is_within, rows_in, is_row};
 
-use crate::bits::put_word;
+use crate::bits::{put_bytes, put_word};
 use crate::block::{PairBlock, are_levels_within, fill_flat, mark_starts};
 use crate::folds::{all_bits, are_within, count_starts};
-use crate::runs::{LevelRuns, copied, drop_copies, fill, stop_runs};
+use crate::narrow::{are_bytes, narrowed};
+use crate::order::{WayLevels, may_take};
+use crate::runs::{LevelRuns, copied, drop_copies, drop_packed, fill, fill_whole, stop_runs};
 use crate::words::take_word;
 use columns_base::{Error, Result, S};
+use read_state::{BlockLevels, NestedState};
 
 /// The levels that were unpacked, from one place of a block to another, those that were not, and whether a fault stands behind the block. The
 /// repetition levels may be known as a word's bits.
@@ -247,6 +253,150 @@ fn next_flat<'a>(levels: &mut Levels<'a>, rows: usize, block: &mut PairBlock) ->
     drop_copies(&mut levels.reps, 64);
     levels.defs = runs;
     true
+}
+
+// Whether the next 64 levels stand packed, of two or three bits each.
+fn are_packed<'a>(runs: &LevelRuns<'a>) -> bool
+    ensures { IsTrue result → ArePacked runs.now }
+{
+    let width = runs.runs.num_bits;
+    if runs.copies > 0 {
+        return false;
+    }
+    if runs.standing < 64 {
+        return false;
+    }
+    if width < 2 {
+        return false;
+    }
+    if width > 3 { false } else { true }
+}
+
+// The next 64 levels, which stand packed, in a byte each.
+fn tell_packed<'a>(runs: &mut LevelRuns<'a>, told: &mut BlockLevels)
+    requires is { IsReading runs.old }
+    requires packed { ArePacked runs.old }
+    ensures is { IsReading runs.new }
+    ensures size { length told.new ≡ 64 }
+    ensures taken { runs_left runs.old ≡ given told.new ++ runs_left runs.new }
+{
+    let mut bytes = [0; 64];
+    put_bytes(&mut bytes, runs.packed, runs.shift, runs.runs.num_bits, 8);
+    drop_packed(runs, 64);
+    told.set_bytes(bytes);
+}
+
+// The next 64 levels in a byte each. False where they cannot be had so.
+fn tell_bytes<'a>(runs: &mut LevelRuns<'a>, told: &mut BlockLevels) -> bool
+    requires is { IsReading runs.old }
+    ensures is { IsReading runs.new }
+    ensures size { IsTrue result → length told.new ≡ 64 }
+    ensures taken { IsTrue result → runs_left runs.old ≡ given told.new ++ runs_left runs.new }
+{
+    if are_packed(runs) {
+        tell_packed(runs, told);
+        return true;
+    }
+    let mut block = [0; 64];
+    if !fill_whole(runs, &mut block) {
+        return false;
+    }
+    if !are_bytes(&block) {
+        return false;
+    }
+    told.set_bytes(narrowed(&block));
+    true
+}
+
+// The next 64 levels as bits or bytes. False where they cannot be had so.
+fn tell<'a>(runs: &mut LevelRuns<'a>, told: &mut BlockLevels) -> bool
+    requires is { IsReading runs.old }
+    ensures is { IsReading runs.new }
+    ensures size { IsTrue result → length told.new ≡ 64 }
+    ensures taken { IsTrue result → runs_left runs.old ≡ given told.new ++ runs_left runs.new }
+{
+    if runs.runs.num_bits > 1 {
+        return tell_bytes(runs, told);
+    }
+    match take_word(runs) {
+        Some(word) => {
+            told.set_word(word);
+            true
+        }
+        None => false,
+    }
+}
+
+// How many of 64 pairs begin a row.
+fn begun_in(reps: &BlockLevels) -> usize
+    requires { length reps.now ≡ 64 }
+    ensures { result ≡ rows_in reps.now }
+{
+    reps.at(0).count_ones() as usize
+}
+
+// Whether no unpacked pair is left, no fault stands behind them, and the greatest levels are not below those of a way. Flat levels of one bit are left to
+// the block that keeps their word.
+fn is_used_up<'a>(levels: &Levels<'a>, way: WayLevels) -> bool
+    ensures { IsTrue result → IsUsedUp levels.now way.lists way.top }
+{
+    if way.lists == 0 && levels.defs.runs.num_bits < 2 {
+        return false;
+    }
+    if levels.at < levels.end {
+        return false;
+    }
+    if levels.failed {
+        return false;
+    }
+    if levels.max_rep < way.lists {
+        return false;
+    }
+    if levels.max_def < way.top {
+        false
+    } else {
+        true
+    }
+}
+
+/// Takes the next 64 pairs as bits or bytes, where they may come and at most `rows` begin a row, and gives how many do. None, and nothing taken, where
+/// they cannot be had so.
+pub fn next_told<'a>(
+    levels: &mut Levels<'a>,
+    rows: usize,
+    nested: &NestedState,
+    way: WayLevels,
+    before: Option<usize>,
+    reps: &mut BlockLevels,
+    defs: &mut BlockLevels,
+) -> Option<usize>
+    requires is { IsLevels levels.old }
+    requires way { AreLevels (kept_way nested.now) way.lists way.top way.floor }
+    ensures is { IsLevels levels.new }
+    ensures taken { MatchOption result (levels_left levels.new ≡ levels_left levels.old) (λ begun. TakesBlock rows (levels_left levels.old) (Some (Ok begun)) reps.new defs.new (levels_left levels.new)) }
+    ensures may { IfSome result (λ begun. MayTake nested.now way.top before reps.new defs.new) }
+{
+    if !is_used_up(levels, way) {
+        return None;
+    }
+    let mut next_reps = copied(&levels.reps);
+    let mut next_defs = copied(&levels.defs);
+    if !tell(&mut next_reps, reps) {
+        return None;
+    }
+    if !tell(&mut next_defs, defs) {
+        return None;
+    }
+    let begun = begun_in(reps);
+    if begun > rows {
+        return None;
+    }
+    if !may_take(nested, way, before, reps, defs) {
+        return None;
+    }
+    levels.reps = next_reps;
+    levels.defs = next_defs;
+    Some(begun)
 }
 
 // The next pairs of the block that is unpacked.

@@ -5,14 +5,14 @@ ghost use Rattle.pq_numbers.specs.Bits.{digits_of};
 ghost use Rattle.shredding.specs.Shred.{max_definition, max_repetition};
 ghost use Rattle.shredding.specs.Local.{inside};
 ghost use Rattle.read_laws.specs.State.{kept_way};
-ghost use Rattle.read_walk.specs.Order.{zipped, Follows, MayCome, WhyNot, OneMayNot, PlainlyFollow, IsInside, level_before, MayComeAt, AreLevels};
+ghost use Rattle.read_walk.specs.Order.{zipped, Follows, MayCome, WhyNot, OneMayNot, PlainlyFollow, IsInside, level_before, MayComeAt, AreLevels, MayTake};
 
 use crate::block::{PairBlock, are_levels_within, is_flat, start_word};
 use crate::folds::{all_bits, are_from, are_within};
-use crate::narrow::{are_bytes, are_bytes_within, bytes_at, bytes_from, narrowed};
+use crate::narrow::{are_bytes, are_told_within, narrowed};
 use crate::words::zeros_of;
 use columns_base::{Error, Result, S};
-use read_state::{NestedState, levels_at, levels_from};
+use read_state::{BlockLevels, NestedState, levels_at, levels_from};
 
 /// The greatest levels of the way to a leaf, and the definition level from which pairs lie inside its innermost list.
 #[derive(Clone, Copy, Drop)]
@@ -154,24 +154,36 @@ fn reaches(before: Option<usize>, level: usize) -> bool
 }
 
 // A bit for each of 64 pairs of this definition level or a greater one behind one that is, too.
-fn inner_word(before: Option<usize>, defs: &[u8], floor: usize) -> u64
+fn inner_word(before: Option<usize>, defs: &BlockLevels, floor: usize) -> u64
     requires { length defs.now ≡ 64 }
     ensures { (k : ℕ) → k < 64 → (bit_at result k == 1) ≡ true → (floor ≤ slice_index defs.now k) × IsInside floor (level_before before defs.now k) }
 {
     if floor > 255 {
         return 0;
     }
-    let inner = bytes_from(defs, floor as u8);
+    let inner = defs.from(floor as u8);
     let behind = inner % 0x8000_0000_0000_0000 * 2 + u64::from(reaches(before, floor));
     inner & behind
+}
+
+// The same, and none where all pairs begin a row.
+#[inline(always)]
+fn inner_behind(begun: u64, before: Option<usize>, defs: &BlockLevels, floor: usize) -> u64
+    requires { length defs.now ≡ 64 }
+    ensures { (k : ℕ) → k < 64 → (bit_at result k == 1) ≡ true → (floor ≤ slice_index defs.now k) × IsInside floor (level_before before defs.now k) }
+{
+    if begun == u64::MAX {
+        return 0;
+    }
+    inner_word(before, defs, floor)
 }
 
 // A bit for each of 64 pairs that begins a row, or lies inside the innermost list behind one that does.
 fn plain_word(
     nested: &NestedState,
     before: Option<usize>,
-    reps: &[u8],
-    defs: &[u8],
+    reps: &BlockLevels,
+    defs: &BlockLevels,
     lists: usize,
     floor: usize,
 ) -> u64
@@ -182,15 +194,16 @@ fn plain_word(
     requires within { (k : ℕ) → k < 64 → slice_index reps.now k ≤ lists }
     ensures { (k : ℕ) → k < 64 → (bit_at result k == 1) ≡ true → MayComeAt (kept_way nested.now) before reps.now defs.now k }
 {
-    bytes_at(reps, 0) | inner_word(before, defs, floor)
+    let begun = reps.at(0);
+    begun | inner_behind(begun, before, defs, floor)
 }
 
 // A bit for each of 64 pairs that repeats in the list of this number and lies inside it, behind one that does.
 fn list_word(
     nested: &NestedState,
     before: Option<usize>,
-    reps: &[u8],
-    defs: &[u8],
+    reps: &BlockLevels,
+    defs: &BlockLevels,
     list: usize,
 ) -> u64
     requires reps { length reps.now ≡ 64 }
@@ -199,15 +212,15 @@ fn list_word(
     ensures { (k : ℕ) → k < 64 → (bit_at result k == 1) ≡ true → MayComeAt (kept_way nested.now) before reps.now defs.now k }
 {
     let floor = nested.inside(list);
-    bytes_at(reps, list as u8) & inner_word(before, defs, floor)
+    reps.at(list as u8) & inner_word(before, defs, floor)
 }
 
 // Whether each of 64 pairs may come: the plain ones first, and then those of one list after another, the outermost last.
 fn all_may_come(
     nested: &NestedState,
     before: Option<usize>,
-    reps: &[u8],
-    defs: &[u8],
+    reps: &BlockLevels,
+    defs: &BlockLevels,
     lists: usize,
     floor: usize,
 ) -> bool
@@ -228,12 +241,12 @@ fn all_may_come(
     known == u64::MAX
 }
 
-// Whether 64 pairs in a byte each may come, told by words of bits.
-fn bytes_follow(
+// Whether 64 pairs may come, told by words of bits.
+fn told_follow(
     nested: &NestedState,
     before: Option<usize>,
-    reps: &[u8],
-    defs: &[u8],
+    reps: &BlockLevels,
+    defs: &BlockLevels,
     lists: usize,
     top: usize,
     floor: usize,
@@ -247,10 +260,10 @@ fn bytes_follow(
     requires low { top ≤ 255 }
     ensures { IsTrue result → Follows (kept_way nested.now) before (zipped reps.now defs.now) }
 {
-    if !are_bytes_within(reps, lists as u8) {
+    if !are_told_within(reps, lists as u8) {
         return false;
     }
-    if !are_bytes_within(defs, top as u8) {
+    if !are_told_within(defs, top as u8) {
         return false;
     }
     all_may_come(nested, before, reps, defs, lists, floor)
@@ -281,9 +294,9 @@ fn may_follow(
     if !are_bytes(defs) {
         return false;
     }
-    let reps = narrowed(reps);
-    let defs = narrowed(defs);
-    bytes_follow(nested, before, &reps, &defs, lists, top, floor)
+    let reps = BlockLevels::of_bytes(narrowed(reps));
+    let defs = BlockLevels::of_bytes(narrowed(defs));
+    told_follow(nested, before, &reps, &defs, lists, top, floor)
 }
 
 // The same as `inner_word` of levels that may be above 255.
@@ -422,6 +435,33 @@ fn starts_follow(
     }
     let known = zeros_of(starts) | inner_bits(before, defs, floor);
     known == u64::MAX
+}
+
+/// Whether 64 pairs whose levels are told as bits or bytes may come behind one of the definition level `before`, and are taken so. Where the answer is
+/// no, they may come or not.
+pub fn may_take(
+    nested: &NestedState,
+    levels: WayLevels,
+    before: Option<usize>,
+    reps: &BlockLevels,
+    defs: &BlockLevels,
+) -> bool
+    requires levels { AreLevels (kept_way nested.now) levels.lists levels.top levels.floor }
+    requires reps { length reps.now ≡ 64 }
+    requires defs { length defs.now ≡ 64 }
+    ensures { IsTrue result → MayTake nested.now levels.top before reps.now defs.now }
+{
+    let (lists, top, floor) = (levels.lists, levels.top, levels.floor);
+    if nested.parts() >= 64 {
+        return false;
+    }
+    if lists > 255 {
+        return false;
+    }
+    if top > 255 {
+        return false;
+    }
+    told_follow(nested, before, reps, defs, lists, top, floor)
 }
 
 /// Whether the pairs of a block may come behind one of the definition level `before`, one after another, by the levels of the way.

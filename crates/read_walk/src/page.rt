@@ -1,15 +1,19 @@
 //! The level pairs of a page.
-ghost use Rattle.std.specs.Prelude.{◌≡◌, ◌⊎◌, ◌<◌, ◌≤◌, ◌^◌, ℕ, MatchResult};
+ghost use Rattle.std.specs.Prelude.{◌≡◌, ◌⊎◌, ◌<◌, ◌≤◌, ◌^◌, ℕ, IfSome, MatchOption, MatchResult, Ok, Some};
 ghost use Rattle.columns_base.specs.declared.error.Error.{Error};
 ghost use Rattle.columns_base.specs.declared.error.S.{S};
 ghost use Rattle.pq_numbers.specs.Bits.{IsWidth};
+ghost use Rattle.read_laws.specs.State.{kept_way};
+ghost use Rattle.read_walk.specs.Order.{AreLevels, MayTake};
 ghost use Rattle.read_walk.specs.Pairs.{page_items, TakesBlock, TakesCopies, TakesRun};
 
 use crate::block::PairBlock;
-use crate::levels::{Levels, next_block, next_copies, next_run};
+use crate::levels::{Levels, next_block, next_copies, next_run, next_told};
+use crate::order::WayLevels;
 use crate::runs::level_runs;
 use columns_base::{Error, Result, S};
 use pq_runs::get_bit_width;
+use read_state::{BlockLevels, NestedState};
 use std::marker::Model;
 
 /// The level pairs that a page still gives. Contracts see them as a list, in which S4 stands in the place of the first pair that cannot be read.
@@ -80,6 +84,24 @@ impl<'a> NestedPage<'a> {
         ensures { TakesBlock rows self.old result block.new.0 block.new.1 self.new }
     {
         next_block(&mut self.levels, rows, block)
+    }
+
+    // The next 64 pairs as bits or bytes, where they may come to a state and at most `rows` begin a row; answers how many do. None, and nothing taken,
+    // where they cannot be had so.
+    pub(crate) fn next_told(
+        &mut self,
+        rows: usize,
+        nested: &NestedState,
+        way: WayLevels,
+        before: Option<usize>,
+        reps: &mut BlockLevels,
+        defs: &mut BlockLevels,
+    ) -> Option<usize>
+        requires { AreLevels (kept_way nested.now) way.lists way.top way.floor }
+        ensures taken { MatchOption result (self.new ≡ self.old) (λ begun. TakesBlock rows self.old (Some (Ok begun)) reps.new defs.new self.new) }
+        ensures may { IfSome result (λ begun. MayTake nested.now way.top before reps.new defs.new) }
+    {
+        next_told(&mut self.levels, rows, nested, way, before, reps, defs)
     }
 
     /// The next equal pairs, as their levels and number, where both sections go on with a run of copies: at most 2^31, and of pairs that begin a

@@ -3,14 +3,14 @@ ghost use Rattle.std.specs.Prelude.{◌≡◌, ◌⊎◌, ℕ, ◌<◌, ◌≤�
 ghost use Rattle.read_laws.specs.State.{kept_way, leaf_count, StateFits};
 ghost use Rattle.read_state.specs.Ticks.{TicksAtMost};
 ghost use Rattle.read_walk.specs.Blocks.{TookBlock, CannotTake};
-ghost use Rattle.read_walk.specs.Order.{zipped, Follows, EndedAt, AreLevels};
+ghost use Rattle.read_walk.specs.Order.{zipped, Follows, EndedAt, AreLevels, MayTake};
 
 use crate::block::PairBlock;
-use crate::decode::{decode_block, decode_copies, decode_levels};
+use crate::decode::{decode_block, decode_copies, decode_levels, decode_told};
 use crate::order::{WayLevels, way_levels};
 use crate::traits::NestedDecoder;
 use columns_base::Result;
-use read_state::{NestedState, Steps};
+use read_state::{BlockLevels, NestedState, Steps};
 use std::sync::ledger::Ledger;
 
 /// Takes a block of pairs that may come behind one of the definition level `before`, by the levels of the way.
@@ -78,6 +78,39 @@ pub fn take_all<'a, D: NestedDecoder<'a>, L: Ledger>(
 {
     match decode_block(values, decoded, decoder, block, levels.floor, levels.top) {
         Ok(()) => nested.push_levels(block.reps(), block.defs(), steps),
+        Err(error) => Err(error),
+    }
+}
+
+/// The same of 64 pairs whose levels are told as bits or bytes.
+///
+/// # Errors
+///
+/// As `take_block`.
+pub fn take_told<'a, D: NestedDecoder<'a>, L: Ledger>(
+    values: &mut D::State,
+    nested: &mut NestedState,
+    decoded: &mut D::DecodedState,
+    decoder: &D,
+    levels: WayLevels,
+    before: Option<usize>,
+    reps: &BlockLevels,
+    defs: &BlockLevels,
+    steps: &mut Steps<L>,
+) -> Result<()>
+    requires levels { AreLevels (kept_way nested.old) levels.lists levels.top levels.floor }
+    requires may { MayTake nested.old levels.top before reps.now defs.now }
+    requires fits { StateFits nested.old }
+    requires ended { EndedAt before nested.old }
+    requires decoded { length (D.slots decoded.old) ≡ leaf_count nested.old }
+    requires suits { D.suits decoder.now decoded.old }
+    ensures ok { OnOk result (TookBlock before reps.now defs.now nested.old nested.new (D.slots decoded.old) (D.slots decoded.new) (D.left decoder.now values.old) (D.left decoder.now values.new)) }
+    ensures err { IfErr result (CannotTake D.byte_limit reps.now defs.now nested.old (D.left decoder.now values.old) (D.slots decoded.old)) }
+    ensures ticked { TicksAtMost (length nested.old) steps.old steps.new }
+    ensures suits { D.suits decoder.now decoded.new }
+{
+    match decode_told(values, decoded, decoder, defs, levels.floor, levels.top) {
+        Ok(()) => nested.push_block(reps, defs, steps),
         Err(error) => Err(error),
     }
 }

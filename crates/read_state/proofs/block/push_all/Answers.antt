@@ -21,4 +21,4 @@ returns-then-parts-lt64-clause-ok g c =
     let defs = c.args.defs.now in
     let size = c.requires.defs ∙ c.if-reps-eq64-2.true in
     let bits = both-reached 64 c.outer_word-outer.result c.levels_from.result 0 0 reps defs c.if-reps-eq64-2.true size c.outer_word-outer.ensures c.levels_from.ensures in
-    c.words_to.ensures.ok (marks_of reps defs (replicate 64 false)) (λ some. marked-outer _ reps defs c.narrowed_beside-reps.result c.narrowed-defs.result c.if-reps-eq64-2.true size c.narrowed_beside-reps.ensures c.narrowed-defs.ensures bits)
+    c.words_to.ensures.ok (marks_of reps defs (replicate 64 false)) (λ some. marked-outer _ reps defs c.of_bytes-reps.result c.of_bytes-defs.result c.if-reps-eq64-2.true size (c.of_bytes-reps.ensures ∙ c.narrowed_beside.ensures) (c.of_bytes-defs.ensures ∙ c.narrowed.ensures) bits)

@@ -1,7 +1,7 @@
 use Rattle.std.proofs.Common.{w8, map, nat_eq, take, arith, ap, ◌∙◌}
 use Rattle.std.proofs.lemmas.List.{take_all, length-take-le}
 use Rattle.read_state.proofs.Compared.{mask-at}
-use Rattle.read_walk.proofs.narrow.bytes_at.Goals as goal
+use Rattle.read_state.proofs.words.bytes_at.Goals as goal
 
 pub returns : goal.returns
 returns c =

@@ -1,0 +1,11 @@
+use Rattle.std.proofs.Common.{arith}
+use Rattle.read_walk.proofs.order.may_take.Goals as goal
+
+pub returns : goal.returns
+returns c e = record {
+  rep_size = c.requires.reps;
+  def_size = c.requires.defs;
+  few = omega (arith, c.parts.ensures, c.if-parts-ge64.false);
+  low = omega (arith, c.if-top-gt255.false);
+  follow = c.told_follow.ensures e;
+}
