@@ -36,7 +36,8 @@ fn hidden_by_struct(
     requires defs { length defs.now ≡ length reps.now }
     requires hidden { length reps.now ≤ length hidden.now }
     ensures size { length result ≡ 64 }
-    ensures flags { (k : ℕ) → k < length reps.now → slice_index_or result k false ≡ hides_at reps.now defs.now hidden.now depth def nullable true k }
+    ensures flags { (k : ℕ) → k < length reps.now → slice_index_or result k false
+        ≡ hides_at reps.now defs.now hidden.now depth def nullable true k }
 {
     let mut beneath = [false; 64];
     for j in 0..reps.len() {
@@ -62,7 +63,8 @@ fn hidden_beneath(
     requires defs { length defs.now ≡ length reps.now }
     requires hidden { length reps.now ≤ length hidden.now }
     ensures size { length result ≡ 64 }
-    ensures flags { (k : ℕ) → k < length reps.now → slice_index_or result k false ≡ hides_at reps.now defs.now hidden.now depth def nullable required k }
+    ensures flags { (k : ℕ) → k < length reps.now → slice_index_or result k false
+        ≡ hides_at reps.now defs.now hidden.now depth def nullable required k }
 {
     if required {
         return hidden_by_struct(reps, defs, hidden, depth, def, nullable);
@@ -81,8 +83,10 @@ fn one_if(b: bool) -> u32
 fn count_each(reps: &[u32], defs: &[u32], hidden: &[bool], depth: usize, def: usize) -> usize
     requires defs { length defs.now ≡ length reps.now }
     requires hidden { length reps.now ≤ length hidden.now }
-    ensures leaf { (n : Bool) → (c place : ℕ) → pushed_all (kept_leaf n c) place depth def (marks_of reps.now defs.now hidden.now) ≡ kept_leaf n (c + result) }
-    ensures required { (c place : ℕ) → pushed_all (kept_struct None c) place depth def (marks_of reps.now defs.now hidden.now) ≡ kept_struct None (c + result) }
+    ensures leaf { (n : Bool) → (c place : ℕ) → pushed_all (kept_leaf n c) place depth def
+        (marks_of reps.now defs.now hidden.now) ≡ kept_leaf n (c + result) }
+    ensures required { (c place : ℕ) → pushed_all (kept_struct None c) place depth def
+        (marks_of reps.now defs.now hidden.now) ≡ kept_struct None (c + result) }
 {
     let mut count = 0;
     for j in 0..reps.len() {
@@ -107,7 +111,9 @@ fn optional_each(
     requires places { first + length reps.now < 2 ^ 64 }
     requires few { def + 2 < 2 ^ 64 }
     requires deep { depth + 1 < 2 ^ 64 }
-    ensures ok { OnOk result (kept_list (Some validity.new.0) (starts_of lengths.new.items) ≡ pushed_all (kept_list (Some validity.old.0) (starts_of lengths.old.items)) first depth def (marks_of reps.now defs.now hidden.now)) }
+    ensures ok { OnOk result (kept_list (Some validity.new.0) (starts_of lengths.new.items)
+        ≡ pushed_all (kept_list (Some validity.old.0) (starts_of lengths.old.items)) first depth def
+        (marks_of reps.now defs.now hidden.now)) }
     ensures err { IfErr result (λ e. e ≡ Error.Memory) }
 {
     let mut place = first;
@@ -138,7 +144,9 @@ fn valid_each(
     requires places { first + length reps.now < 2 ^ 64 }
     requires few { def + 2 < 2 ^ 64 }
     requires deep { depth + 1 < 2 ^ 64 }
-    ensures ok { OnOk result (kept_list None (starts_of lengths.new.items) ≡ pushed_all (kept_list None (starts_of lengths.old.items)) first depth def (marks_of reps.now defs.now hidden.now)) }
+    ensures ok { OnOk result (kept_list None (starts_of lengths.new.items)
+        ≡ pushed_all (kept_list None (starts_of lengths.old.items)) first depth def
+        (marks_of reps.now defs.now hidden.now)) }
     ensures err { IfErr result (λ e. e ≡ Error.Memory) }
 {
     let mut place = first;
@@ -204,7 +212,9 @@ fn push_struct(
     requires few { length reps.now ≤ 64 }
     requires defs { length defs.now ≡ length reps.now }
     requires hidden { length reps.now ≤ length hidden.now }
-    ensures ok { OnOk result ((place : ℕ) → kept_struct (Some validity.new.0) (length validity.new.0) ≡ pushed_all (kept_struct (Some validity.old.0) (length validity.old.0)) place depth def (marks_of reps.now defs.now hidden.now)) }
+    ensures ok { OnOk result ((place : ℕ) → kept_struct (Some validity.new.0) (length validity.new.0)
+        ≡ pushed_all (kept_struct (Some validity.old.0) (length validity.old.0)) place depth def
+        (marks_of reps.now defs.now hidden.now)) }
     ensures err { IfErr result (λ e. e ≡ Error.Memory) }
 {
     let (word, count) = validity_word(reps, defs, hidden, depth, def);
@@ -227,7 +237,8 @@ fn push_part(
     requires places { is_list (kept_box part.old) ≡ true → first < 2 ^ 63 }
     requires few { def + 2 < 2 ^ 64 }
     requires deep { depth + 1 < 2 ^ 64 }
-    ensures ok { OnOk result (kept_box part.new ≡ pushed_all (kept_box part.old) first depth def (marks_of reps.now defs.now hidden.now)) }
+    ensures ok { OnOk result (kept_box part.new ≡ pushed_all (kept_box part.old) first depth def
+        (marks_of reps.now defs.now hidden.now)) }
     ensures err { IfErr result (λ e. e ≡ Error.Memory) }
 {
     match part {
@@ -260,7 +271,8 @@ fn push_part(
 fn push_only(part: &mut NestedBox, reps: &[u32], defs: &[u32]) -> Result<()>
     requires reps { length reps.now ≡ 64 }
     requires defs { length defs.now ≡ 64 }
-    ensures ok { OnOk result (kept_box part.new ≡ pushed_all (kept_box part.old) 0 0 0 (marks_of reps.now defs.now (replicate 64 false))) }
+    ensures ok { OnOk result (kept_box part.new ≡ pushed_all (kept_box part.old) 0 0 0
+        (marks_of reps.now defs.now (replicate 64 false))) }
     ensures err { IfErr result (λ e. e ≡ Error.Memory) }
 {
     match part {
@@ -289,7 +301,8 @@ fn block_to<L: Ledger>(
     requires few { def + 2 * length parts.old + 2 < 2 ^ 64 }
     requires deep { depth + length parts.old + 1 < 2 ^ 64 }
     requires counted { HasLongItems (all_kept parts.old) → ⊥ }
-    ensures ok { OnOk result (all_kept parts.new ≡ block (marks_of reps.now defs.now hidden.now) depth def (all_kept parts.old)) }
+    ensures ok { OnOk result (all_kept parts.new ≡ block (marks_of reps.now defs.now hidden.now) depth def
+        (all_kept parts.old)) }
     ensures err { IfErr result (λ e. e ≡ Error.Memory) }
     ensures ticked { TicksAtMost (length parts.old) steps.old steps.new }
 {
@@ -312,7 +325,8 @@ fn block_to<L: Ledger>(
 fn are_alike(reps: &[u32], defs: &[u32]) -> bool
     requires some { 0 < length reps.now }
     requires defs { length defs.now ≡ length reps.now }
-    ensures { IsTrue result → (reps.now ≡ replicate (length reps.now) (slice_index reps.now 0)) × (defs.now ≡ replicate (length reps.now) (slice_index defs.now 0)) }
+    ensures { IsTrue result → (reps.now ≡ replicate (length reps.now) (slice_index reps.now 0))
+        × (defs.now ≡ replicate (length reps.now) (slice_index defs.now 0)) }
 {
     let rep = reps[0];
     let def = defs[0];
@@ -342,7 +356,8 @@ pub fn push_all<L: Ledger>(
     requires defs { length defs.now ≡ length reps.now }
     requires fits { AllFit (marks_of reps.now defs.now (replicate 64 false)) (all_kept parts.old) }
     requires counted { HasLongItems (all_kept parts.old) → ⊥ }
-    ensures ok { OnOk result (all_kept parts.new ≡ block (marks_of reps.now defs.now (replicate 64 false)) 0 0 (all_kept parts.old)) }
+    ensures ok { OnOk result (all_kept parts.new ≡ block (marks_of reps.now defs.now (replicate 64 false)) 0 0
+        (all_kept parts.old)) }
     ensures err { IfErr result (λ e. e ≡ Error.Memory) }
     ensures ticked { TicksAtMost (length parts.old) steps.old steps.new }
 {
@@ -391,7 +406,8 @@ pub fn push_told<L: Ledger>(
     requires defs { length defs.now ≡ 64 }
     requires parts { length parts.old < 64 }
     requires counted { HasLongItems (all_kept parts.old) → ⊥ }
-    ensures ok { OnOk result (all_kept parts.new ≡ block (marks_of reps.now defs.now (replicate 64 false)) 0 0 (all_kept parts.old)) }
+    ensures ok { OnOk result (all_kept parts.new ≡ block (marks_of reps.now defs.now (replicate 64 false)) 0 0
+        (all_kept parts.old)) }
     ensures err { IfErr result (λ e. e ≡ Error.Memory) }
     ensures ticked { TicksAtMost (length parts.old) steps.old steps.new }
 {
@@ -414,9 +430,12 @@ pub fn push_equal<L: Ledger>(
     steps: &mut Steps<L>,
 ) -> Result<()>
     requires few { count ≤ 2 ^ 31 }
-    requires fits { AllFit (marks_of (replicate count rep) (replicate count level) (replicate count false)) (all_kept parts.old) }
+    requires fits { AllFit (marks_of (replicate count rep) (replicate count level) (replicate count false))
+        (all_kept parts.old) }
     requires counted { HasLongItems (all_kept parts.old) → ⊥ }
-    ensures ok { OnOk result (all_kept parts.new ≡ block (marks_of (replicate count rep) (replicate count level) (replicate count false)) 0 0 (all_kept parts.old)) }
+    ensures ok { OnOk result (all_kept parts.new
+        ≡ block (marks_of (replicate count rep) (replicate count level) (replicate count false)) 0 0
+        (all_kept parts.old)) }
     ensures err { IfErr result (λ e. e ≡ Error.Memory) }
     ensures ticked { TicksAtMost (length parts.old) steps.old steps.new }
 {

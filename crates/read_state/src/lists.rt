@@ -20,7 +20,8 @@ pub fn ones_of(word: u64) -> usize
 pub fn push_starts(lengths: &mut Vec<i64>, pushed: u64, grown: u64, first: usize)
     requires room { vec_len lengths.old + 64 ≤ vec_capacity lengths.old }
     requires few { first + 64 < 2 ^ 64 }
-    ensures { starts_of lengths.new.items ≡ starts_of lengths.old.items ++ places first (word_bits pushed 64) (word_bits grown 64) }
+    ensures { starts_of lengths.new.items ≡ starts_of lengths.old.items
+        ++ places first (word_bits pushed 64) (word_bits grown 64) }
 {
     let end = first + ones_of(grown);
     let alloc = *lengths.allocator();

@@ -85,7 +85,8 @@ impl NestedState {
 
     /// Takes the innermost part.
     pub fn pop(&mut self) -> Option<NestedBox>
-        ensures { MatchOption result ((self.old ≡ []) × (self.new ≡ [])) (λ part. self.old ≡ self.new ++ kept_box part ∷ []) }
+        ensures { MatchOption result ((self.old ≡ []) × (self.new ≡ [])) (λ part. self.old
+            ≡ self.new ++ kept_box part ∷ []) }
     {
         self.nested.pop()
     }
@@ -111,7 +112,8 @@ impl NestedState {
     ) -> Result<()>
         requires within { depth < list_length self.old }
         requires counted { size (part_at self.old depth) < 2 ^ 64 - 1 }
-        ensures ok { OnOk result (self.new ≡ slice_set self.old depth (pushed (part_at self.old depth) (cast_unsigned w64 length) 0 is_valid 1)) }
+        ensures ok { OnOk result (self.new ≡ slice_set self.old depth
+            (pushed (part_at self.old depth) (cast_unsigned w64 length) 0 is_valid 1)) }
         ensures err { IfErr result (λ e. (e ≡ Error.Memory) × (self.new ≡ self.old)) }
         ensures ticked { steps.new ≡ steps.old + 1 }
     {
@@ -142,7 +144,8 @@ impl NestedState {
     ) -> Result<()>
         requires within { depth < list_length self.old }
         requires fits { first + count ≤ 2 ^ 64 }
-        ensures ok { OnOk result (self.new ≡ slice_set self.old depth (pushed (part_at self.old depth) first (bit grows) is_valid count)) }
+        ensures ok { OnOk result (self.new ≡ slice_set self.old depth
+            (pushed (part_at self.old depth) first (bit grows) is_valid count)) }
         ensures err { IfErr result (λ e. (e ≡ Error.Memory) × (self.new ≡ self.old)) }
         ensures ticked { steps.new ≡ steps.old + 1 }
     {
@@ -167,7 +170,8 @@ impl NestedState {
         requires fits { AllFit (marks_of reps.now defs.now (replicate 64 false)) self.old }
         ensures ok { OnOk result (self.new ≡ block (marks_of reps.now defs.now (replicate 64 false)) 0 0 self.old) }
         ensures counted { OnOk result (HasLongItems self.new → ⊥) }
-        ensures err { IfErr result (λ e. (e ≡ Error.Memory) ⊎ ((e ≡ Error.Overflow V.V1) × HasLongItems (block (marks_of reps.now defs.now (replicate 64 false)) 0 0 self.old))) }
+        ensures err { IfErr result (λ e. (e ≡ Error.Memory) ⊎ ((e ≡ Error.Overflow V.V1)
+            × HasLongItems (block (marks_of reps.now defs.now (replicate 64 false)) 0 0 self.old))) }
         ensures ticked { TicksAtMost (list_length self.old) steps.old steps.new }
     {
         if has_long_items(&self.nested) {
@@ -204,7 +208,8 @@ impl NestedState {
         requires parts { list_length self.old < 64 }
         ensures ok { OnOk result (self.new ≡ block (marks_of reps.now defs.now (replicate 64 false)) 0 0 self.old) }
         ensures counted { OnOk result (HasLongItems self.new → ⊥) }
-        ensures err { IfErr result (λ e. (e ≡ Error.Memory) ⊎ ((e ≡ Error.Overflow V.V1) × HasLongItems (block (marks_of reps.now defs.now (replicate 64 false)) 0 0 self.old))) }
+        ensures err { IfErr result (λ e. (e ≡ Error.Memory) ⊎ ((e ≡ Error.Overflow V.V1)
+            × HasLongItems (block (marks_of reps.now defs.now (replicate 64 false)) 0 0 self.old))) }
         ensures ticked { TicksAtMost (list_length self.old) steps.old steps.new }
     {
         if has_long_items(&self.nested) {
@@ -232,9 +237,12 @@ impl NestedState {
     ) -> Result<()>
         requires few { count ≤ 2 ^ 31 }
         requires fits { AllFit (marks_of (replicate count rep) (replicate count level) (replicate count false)) self.old }
-        ensures ok { OnOk result (self.new ≡ block (marks_of (replicate count rep) (replicate count level) (replicate count false)) 0 0 self.old) }
+        ensures ok { OnOk result (self.new ≡ block
+            (marks_of (replicate count rep) (replicate count level) (replicate count false)) 0 0 self.old) }
         ensures counted { OnOk result (HasLongItems self.new → ⊥) }
-        ensures err { IfErr result (λ e. (e ≡ Error.Memory) ⊎ ((e ≡ Error.Overflow V.V1) × HasLongItems (block (marks_of (replicate count rep) (replicate count level) (replicate count false)) 0 0 self.old))) }
+        ensures err { IfErr result (λ e. (e ≡ Error.Memory) ⊎ ((e ≡ Error.Overflow V.V1)
+            × HasLongItems
+            (block (marks_of (replicate count rep) (replicate count level) (replicate count false)) 0 0 self.old))) }
         ensures ticked { TicksAtMost (list_length self.old) steps.old steps.new }
     {
         if has_long_items(&self.nested) {

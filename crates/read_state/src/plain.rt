@@ -24,7 +24,8 @@ use std::sync::ledger::Ledger;
 // was memory.
 fn push_places(lengths: &mut Vec<i64>, pushed: u64, grown: u64, first: usize) -> bool
     requires { first + 64 < 2 ^ 64 }
-    ensures { IsTrue result → starts_of lengths.new.items ≡ starts_of lengths.old.items ++ places first (word_bits pushed 64) (word_bits grown 64) }
+    ensures { IsTrue result → starts_of lengths.new.items ≡ starts_of lengths.old.items
+        ++ places first (word_bits pushed 64) (word_bits grown 64) }
 {
     if lengths.reserve(64).is_err() {
         return false;
@@ -38,7 +39,8 @@ fn push_places(lengths: &mut Vec<i64>, pushed: u64, grown: u64, first: usize) ->
 fn push_valid(validity: &mut MutableBitmap, defs: &BlockLevels, pushed: u64, def: usize) -> bool
     requires defs { length defs.now ≡ 64 }
     requires few { def + 2 < 2 ^ 8 }
-    ensures { IsTrue result → validity.new.0 ≡ validity.old.0 ++ chosen (word_bits pushed 64) (map (λ d. nat_lt def d) defs.now) }
+    ensures { IsTrue result → validity.new.0 ≡ validity.old.0 ++ chosen (word_bits pushed 64)
+        (map (λ d. nat_lt def d) defs.now) }
 {
     let there = defs.from((def + 1) as u8);
     validity
@@ -58,8 +60,10 @@ fn push_list(
     requires defs { length defs.now ≡ 64 }
     requires few { def + 2 < 2 ^ 8 }
     requires places { first + 64 < 2 ^ 64 }
-    ensures validity { IsTrue result → list.new.validity.0 ≡ list.old.validity.0 ++ chosen (word_bits pushed 64) (map (λ d. nat_lt def d) defs.now) }
-    ensures places { IsTrue result → starts_of list.new.lengths.items ≡ starts_of list.old.lengths.items ++ places first (word_bits pushed 64) (word_bits grown 64) }
+    ensures validity { IsTrue result → list.new.validity.0 ≡ list.old.validity.0
+        ++ chosen (word_bits pushed 64) (map (λ d. nat_lt def d) defs.now) }
+    ensures places { IsTrue result → starts_of list.new.lengths.items
+        ≡ starts_of list.old.lengths.items ++ places first (word_bits pushed 64) (word_bits grown 64) }
 {
     if !push_places(&mut list.lengths, pushed, grown, first) {
         return false;
@@ -92,7 +96,11 @@ fn push_part(
     requires defs { length defs.now ≡ 64 }
     requires places { is_list (kept_box part.old) ≡ true → first < 2 ^ 63 }
     requires few { def + 2 < 2 ^ 8 }
-    ensures { (ms : List Mark) (reps : List ℕ) (depth : ℕ) → AreMarked ms reps defs.now pushed depth def → (is_list (kept_box part.old) ≡ true → AreMarked (map (beneath (kept_box part.old) depth def) ms) reps defs.now grown (depth + 1) (def + gain (kept_box part.old))) → IsTrue result → kept_box part.new ≡ pushed_all (kept_box part.old) first depth def ms }
+    ensures { (ms : List Mark) (reps : List ℕ) (depth : ℕ) → AreMarked ms reps defs.now pushed depth def
+        → (is_list (kept_box part.old) ≡ true
+        → AreMarked (map (beneath (kept_box part.old) depth def) ms) reps defs.now grown (depth + 1)
+        (def + gain (kept_box part.old))) → IsTrue result → kept_box part.new
+        ≡ pushed_all (kept_box part.old) first depth def ms }
 {
     match part {
         NestedBox::Primitive(leaf) => push_counted(&mut leaf.pushes, pushed),
@@ -128,7 +136,10 @@ fn beneath_word(
     requires defs { length defs.now ≡ 64 }
     requires deep { depth < 255 }
     requires few { def < 2 ^ 8 }
-    ensures { (k : Kept) (ms : List Mark) (outer above : ℕ) → AreMarked ms reps.now defs.now pushed outer above → required ≡ is_struct k → depth ≡ outer + bit (is_list k) → def ≡ above + gain k → (required ≡ false → last ≡ false) → AreMarked (map (beneath k outer above) ms) reps.now defs.now result depth def }
+    ensures { (k : Kept) (ms : List Mark) (outer above : ℕ) → AreMarked ms reps.now defs.now pushed outer above
+        → required ≡ is_struct k → depth ≡ outer + bit (is_list k) → def ≡ above + gain k
+        → (required ≡ false → last ≡ false)
+        → AreMarked (map (beneath k outer above) ms) reps.now defs.now result depth def }
 {
     if required {
         return pushed;
@@ -154,7 +165,8 @@ fn push_parts<L: Ledger>(
     requires few { def + 2 * length parts.old + 2 < 2 ^ 8 }
     requires deep { depth + length parts.old + 1 < 2 ^ 8 }
     requires counted { HasLongItems (all_kept parts.old) → ⊥ }
-    ensures ok { (ms : List Mark) → (0 < length parts.old → AreMarked ms reps.now defs.now pushed depth def) → IsTrue result → all_kept parts.new ≡ block ms depth def (all_kept parts.old) }
+    ensures ok { (ms : List Mark) → (0 < length parts.old → AreMarked ms reps.now defs.now pushed depth def)
+        → IsTrue result → all_kept parts.new ≡ block ms depth def (all_kept parts.old) }
     ensures ticked { TicksAtMost (length parts.old) steps.old steps.new }
 {
     let Some((part, rest)) = parts.split_first_mut() else {
@@ -195,7 +207,8 @@ pub fn words_to<L: Ledger>(
     requires few { def + 2 * length parts.old + 2 < 2 ^ 8 }
     requires deep { depth + length parts.old + 1 < 2 ^ 8 }
     requires counted { HasLongItems (all_kept parts.old) → ⊥ }
-    ensures ok { (ms : List Mark) → (0 < length parts.old → AreMarked ms reps.now defs.now pushed depth def) → OnOk result (all_kept parts.new ≡ block ms depth def (all_kept parts.old)) }
+    ensures ok { (ms : List Mark) → (0 < length parts.old → AreMarked ms reps.now defs.now pushed depth def)
+        → OnOk result (all_kept parts.new ≡ block ms depth def (all_kept parts.old)) }
     ensures err { IfErr result (λ e. e ≡ Error.Memory) }
     ensures ticked { TicksAtMost (length parts.old) steps.old steps.new }
 {

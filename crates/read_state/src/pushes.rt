@@ -69,7 +69,8 @@ fn push_rising(lengths: &mut Vec<i64>, first: usize, count: usize) -> Result<()>
 /// `Memory`; the lengths are then as before.
 pub fn push_places(lengths: &mut Vec<i64>, first: usize, grows: bool, count: usize) -> Result<()>
     requires fits { first + count ≤ 2 ^ 64 }
-    ensures ok { OnOk result (starts_of lengths.new.items ≡ starts_of lengths.old.items ++ rising first (bit grows) count) }
+    ensures ok { OnOk result (starts_of lengths.new.items ≡ starts_of lengths.old.items
+        ++ rising first (bit grows) count) }
     ensures err { IfErr result (λ e. (e ≡ Error.Memory) × (lengths.new.items ≡ lengths.old.items)) }
 {
     if grows {

@@ -46,7 +46,8 @@ pub trait NumberBox: NativeType {
     ) -> Result<ArrayBox>
         requires mask { length validity ≡ length numbers.items }
         requires typed { Self.stores (base (type_view data_type)) ≡ true }
-        ensures ok { IfOk result (λ a. boxed a ≡ masked_leaf (type_view data_type) (map (Self.value (base (type_view data_type))) numbers.items) validity) }
+        ensures ok { IfOk result (λ a. boxed a ≡ masked_leaf (type_view data_type)
+            (map (Self.value (base (type_view data_type))) numbers.items) validity) }
         ensures err { IfErr result (λ e. e ≡ Memory) };
 }
 
@@ -59,7 +60,8 @@ impl NumberBox for i8 {
     ) -> Result<ArrayBox>
         requires mask { length validity ≡ length numbers.items }
         requires typed { stores_i8 (base (type_view data_type)) ≡ true }
-        ensures ok { IfOk result (λ a. boxed a ≡ masked_leaf (type_view data_type) (map (value_i8 (base (type_view data_type))) numbers.items) validity) }
+        ensures ok { IfOk result (λ a. boxed a ≡ masked_leaf (type_view data_type)
+            (map (value_i8 (base (type_view data_type))) numbers.items) validity) }
         ensures err { IfErr result (λ e. e ≡ Memory) }
     {
         match primitive_array(alloc, data_type, numbers, validity) {
@@ -78,7 +80,8 @@ impl NumberBox for i16 {
     ) -> Result<ArrayBox>
         requires mask { length validity ≡ length numbers.items }
         requires typed { stores_i16 (base (type_view data_type)) ≡ true }
-        ensures ok { IfOk result (λ a. boxed a ≡ masked_leaf (type_view data_type) (map (value_i16 (base (type_view data_type))) numbers.items) validity) }
+        ensures ok { IfOk result (λ a. boxed a ≡ masked_leaf (type_view data_type)
+            (map (value_i16 (base (type_view data_type))) numbers.items) validity) }
         ensures err { IfErr result (λ e. e ≡ Memory) }
     {
         match primitive_array(alloc, data_type, numbers, validity) {
@@ -97,7 +100,8 @@ impl NumberBox for i32 {
     ) -> Result<ArrayBox>
         requires mask { length validity ≡ length numbers.items }
         requires typed { stores_i32 (base (type_view data_type)) ≡ true }
-        ensures ok { IfOk result (λ a. boxed a ≡ masked_leaf (type_view data_type) (map (value_i32 (base (type_view data_type))) numbers.items) validity) }
+        ensures ok { IfOk result (λ a. boxed a ≡ masked_leaf (type_view data_type)
+            (map (value_i32 (base (type_view data_type))) numbers.items) validity) }
         ensures err { IfErr result (λ e. e ≡ Memory) }
     {
         match primitive_array(alloc, data_type, numbers, validity) {
@@ -116,7 +120,8 @@ impl NumberBox for i64 {
     ) -> Result<ArrayBox>
         requires mask { length validity ≡ length numbers.items }
         requires typed { stores_i64 (base (type_view data_type)) ≡ true }
-        ensures ok { IfOk result (λ a. boxed a ≡ masked_leaf (type_view data_type) (map (value_i64 (base (type_view data_type))) numbers.items) validity) }
+        ensures ok { IfOk result (λ a. boxed a ≡ masked_leaf (type_view data_type)
+            (map (value_i64 (base (type_view data_type))) numbers.items) validity) }
         ensures err { IfErr result (λ e. e ≡ Memory) }
     {
         match primitive_array(alloc, data_type, numbers, validity) {
@@ -135,7 +140,8 @@ impl NumberBox for i128 {
     ) -> Result<ArrayBox>
         requires mask { length validity ≡ length numbers.items }
         requires typed { stores_i128 (base (type_view data_type)) ≡ true }
-        ensures ok { IfOk result (λ a. boxed a ≡ masked_leaf (type_view data_type) (map (value_i128 (base (type_view data_type))) numbers.items) validity) }
+        ensures ok { IfOk result (λ a. boxed a ≡ masked_leaf (type_view data_type)
+            (map (value_i128 (base (type_view data_type))) numbers.items) validity) }
         ensures err { IfErr result (λ e. e ≡ Memory) }
     {
         match primitive_array(alloc, data_type, numbers, validity) {
@@ -154,7 +160,8 @@ impl NumberBox for u8 {
     ) -> Result<ArrayBox>
         requires mask { length validity ≡ length numbers.items }
         requires typed { stores_u8 (base (type_view data_type)) ≡ true }
-        ensures ok { IfOk result (λ a. boxed a ≡ masked_leaf (type_view data_type) (map (value_u8 (base (type_view data_type))) numbers.items) validity) }
+        ensures ok { IfOk result (λ a. boxed a ≡ masked_leaf (type_view data_type)
+            (map (value_u8 (base (type_view data_type))) numbers.items) validity) }
         ensures err { IfErr result (λ e. e ≡ Memory) }
     {
         match primitive_array(alloc, data_type, numbers, validity) {
@@ -173,7 +180,8 @@ impl NumberBox for u16 {
     ) -> Result<ArrayBox>
         requires mask { length validity ≡ length numbers.items }
         requires typed { stores_u16 (base (type_view data_type)) ≡ true }
-        ensures ok { IfOk result (λ a. boxed a ≡ masked_leaf (type_view data_type) (map (value_u16 (base (type_view data_type))) numbers.items) validity) }
+        ensures ok { IfOk result (λ a. boxed a ≡ masked_leaf (type_view data_type)
+            (map (value_u16 (base (type_view data_type))) numbers.items) validity) }
         ensures err { IfErr result (λ e. e ≡ Memory) }
     {
         match primitive_array(alloc, data_type, numbers, validity) {
@@ -192,7 +200,8 @@ impl NumberBox for u32 {
     ) -> Result<ArrayBox>
         requires mask { length validity ≡ length numbers.items }
         requires typed { stores_u32 (base (type_view data_type)) ≡ true }
-        ensures ok { IfOk result (λ a. boxed a ≡ masked_leaf (type_view data_type) (map (value_u32 (base (type_view data_type))) numbers.items) validity) }
+        ensures ok { IfOk result (λ a. boxed a ≡ masked_leaf (type_view data_type)
+            (map (value_u32 (base (type_view data_type))) numbers.items) validity) }
         ensures err { IfErr result (λ e. e ≡ Memory) }
     {
         match primitive_array(alloc, data_type, numbers, validity) {
@@ -211,7 +220,8 @@ impl NumberBox for u64 {
     ) -> Result<ArrayBox>
         requires mask { length validity ≡ length numbers.items }
         requires typed { stores_u64 (base (type_view data_type)) ≡ true }
-        ensures ok { IfOk result (λ a. boxed a ≡ masked_leaf (type_view data_type) (map (value_u64 (base (type_view data_type))) numbers.items) validity) }
+        ensures ok { IfOk result (λ a. boxed a ≡ masked_leaf (type_view data_type)
+            (map (value_u64 (base (type_view data_type))) numbers.items) validity) }
         ensures err { IfErr result (λ e. e ≡ Memory) }
     {
         match primitive_array(alloc, data_type, numbers, validity) {
@@ -230,7 +240,8 @@ impl NumberBox for DaysMs {
     ) -> Result<ArrayBox>
         requires mask { length validity ≡ length numbers.items }
         requires typed { stores_days (base (type_view data_type)) ≡ true }
-        ensures ok { IfOk result (λ a. boxed a ≡ masked_leaf (type_view data_type) (map (value_days (base (type_view data_type))) numbers.items) validity) }
+        ensures ok { IfOk result (λ a. boxed a ≡ masked_leaf (type_view data_type)
+            (map (value_days (base (type_view data_type))) numbers.items) validity) }
         ensures err { IfErr result (λ e. e ≡ Memory) }
     {
         match primitive_array(alloc, data_type, numbers, validity) {

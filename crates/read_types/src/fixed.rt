@@ -36,7 +36,8 @@ pub struct Fixed<T> {
 // How many bytes the first value has, where each has so many.
 fn first_size<T: FixedValue>(bytes: &[u8], size: usize) -> Result<usize>
     ensures ok { IfOk result (λ n. BeginsWithValue (stored_fixed T.loaded size) n bytes.now) }
-    ensures err { IfErr result (λ e. ((e ≡ OutOfSpec S6) × (stored_fixed T.loaded size bytes.now ≡ [])) ⊎ ((e ≡ OutOfSpec S7) × BeginsOutside (stored_fixed T.loaded size) bytes.now)) }
+    ensures err { IfErr result (λ e. ((e ≡ OutOfSpec S6) × (stored_fixed T.loaded size bytes.now ≡ []))
+        ⊎ ((e ≡ OutOfSpec S7) × BeginsOutside (stored_fixed T.loaded size) bytes.now)) }
 {
     if size == 0 {
         return Err(Error::OutOfSpec(S::S6));
@@ -88,14 +89,17 @@ impl<T: FixedValue> LeafReader for Fixed<T> {
 
     fn stands_in_bytes(&self) -> bool
         ensures value { result ≡ in_bytes (λ text. stored_fixed T.loaded self.now.size text) }
-        ensures bits { result ≡ false → (text : List ℕ) → AreEights (λ text. stored_fixed T.loaded self.now.size text) text }
+        ensures bits { result ≡ false → (text : List ℕ) → AreEights
+            (λ text. stored_fixed T.loaded self.now.size text) text }
     {
         has_own_bytes::<T>(self.size)
     }
 
     fn value_size(&self, bytes: &[u8]) -> Result<usize>
-        ensures ok { in_bytes (λ text. stored_fixed T.loaded self.now.size text) ≡ true → IfOk result (λ n. BeginsWithValue (λ text. stored_fixed T.loaded self.now.size text) n bytes.now) }
-        ensures err { IfErr result (λ e. ((e ≡ OutOfSpec S6) × (stored_fixed T.loaded self.now.size bytes.now ≡ [])) ⊎ ((e ≡ OutOfSpec S7) × BeginsOutside (λ text. stored_fixed T.loaded self.now.size text) bytes.now)) }
+        ensures ok { in_bytes (λ text. stored_fixed T.loaded self.now.size text) ≡ true
+            → IfOk result (λ n. BeginsWithValue (λ text. stored_fixed T.loaded self.now.size text) n bytes.now) }
+        ensures err { IfErr result (λ e. ((e ≡ OutOfSpec S6) × (stored_fixed T.loaded self.now.size bytes.now ≡ []))
+            ⊎ ((e ≡ OutOfSpec S7) × BeginsOutside (λ text. stored_fixed T.loaded self.now.size text) bytes.now)) }
     {
         first_size::<T>(bytes, self.size)
     }
@@ -111,8 +115,14 @@ impl<T: FixedValue> LeafReader for Fixed<T> {
     ) -> Result<()>
         requires fits { StateFits nested.old }
         requires decoded { length (value_slots (map T.held values.old.0) values.old.1) ≡ leaf_count nested.old }
-        ensures ok { OnOk result (Extends additional page.old page.new (stored_fixed T.loaded self.now.size bytes.old.values.now) (stored_fixed T.loaded self.now.size bytes.new.values.now) nested.old nested.new (value_slots (map T.held values.old.0) values.old.1) (value_slots (map T.held values.new.0) values.new.1)) }
-        ensures err { IfErr result (Refuses 0 additional page.old (stored_fixed T.loaded self.now.size bytes.old.values.now) nested.old (value_slots (map T.held values.old.0) values.old.1)) }
+        ensures ok { OnOk result (Extends additional page.old page.new
+            (stored_fixed T.loaded self.now.size bytes.old.values.now)
+            (stored_fixed T.loaded self.now.size bytes.new.values.now) nested.old nested.new
+            (value_slots (map T.held values.old.0) values.old.1)
+            (value_slots (map T.held values.new.0) values.new.1)) }
+        ensures err { IfErr result (Refuses 0 additional page.old
+            (stored_fixed T.loaded self.now.size bytes.old.values.now) nested.old
+            (value_slots (map T.held values.old.0) values.old.1)) }
         ensures ticked { OnOk result (TicksEach (length nested.old) page.old page.new steps.old steps.new) }
         ensures bounded { TicksAtMost (length nested.old * length page.old) steps.old steps.new }
     {
@@ -141,7 +151,8 @@ impl<T: FixedValue + NumberBox> LeafArray for Fixed<T> {
         data_type: DataType,
     ) -> Result<ArrayBox>
         requires { makes_fixed T.stores (base (type_view data_type)) ≡ true }
-        ensures ok { IfOk result (λ a. IsLeafArray (type_view data_type) (value_slots (map T.held values.0) values.1) (boxed a)) }
+        ensures ok { IfOk result (λ a. IsLeafArray (type_view data_type) (value_slots (map T.held values.0) values.1)
+            (boxed a)) }
         ensures err { IfErr result (λ e. e ≡ Memory) }
     {
         let (numbers, validity) = values.into_parts();

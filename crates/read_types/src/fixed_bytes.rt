@@ -93,14 +93,17 @@ impl LeafReader for FixedBytes {
 
     fn stands_in_bytes(&self) -> bool
         ensures value { result ≡ in_bytes (λ text. stored_fixed loaded_bytes self.now.size text) }
-        ensures bits { result ≡ false → (text : List ℕ) → AreEights (λ text. stored_fixed loaded_bytes self.now.size text) text }
+        ensures bits { result ≡ false → (text : List ℕ) → AreEights
+            (λ text. stored_fixed loaded_bytes self.now.size text) text }
     {
         has_own_bytes(self.size)
     }
 
     fn value_size(&self, bytes: &[u8]) -> Result<usize>
-        ensures ok { in_bytes (λ text. stored_fixed loaded_bytes self.now.size text) ≡ true → IfOk result (λ n. BeginsWithValue (λ text. stored_fixed loaded_bytes self.now.size text) n bytes.now) }
-        ensures err { IfErr result (λ e. ((e ≡ OutOfSpec S6) × (stored_fixed loaded_bytes self.now.size bytes.now ≡ [])) ⊎ ((e ≡ OutOfSpec S7) × BeginsOutside (λ text. stored_fixed loaded_bytes self.now.size text) bytes.now)) }
+        ensures ok { in_bytes (λ text. stored_fixed loaded_bytes self.now.size text) ≡ true
+            → IfOk result (λ n. BeginsWithValue (λ text. stored_fixed loaded_bytes self.now.size text) n bytes.now) }
+        ensures err { IfErr result (λ e. ((e ≡ OutOfSpec S6) × (stored_fixed loaded_bytes self.now.size bytes.now ≡ []))
+            ⊎ ((e ≡ OutOfSpec S7) × BeginsOutside (λ text. stored_fixed loaded_bytes self.now.size text) bytes.now)) }
     {
         chunk_size(bytes, self.size)
     }
@@ -117,8 +120,14 @@ impl LeafReader for FixedBytes {
         requires fits { StateFits nested.old }
         requires decoded { length (chunk_slots values.old.0 values.old.1.0 values.old.1.1) ≡ leaf_count nested.old }
         requires suits { values.old.0 ≡ self.now.size }
-        ensures ok { OnOk result (Extends additional page.old page.new (stored_fixed loaded_bytes self.now.size bytes.old.values.now) (stored_fixed loaded_bytes self.now.size bytes.new.values.now) nested.old nested.new (chunk_slots values.old.0 values.old.1.0 values.old.1.1) (chunk_slots values.new.0 values.new.1.0 values.new.1.1)) }
-        ensures err { IfErr result (Refuses 0 additional page.old (stored_fixed loaded_bytes self.now.size bytes.old.values.now) nested.old (chunk_slots values.old.0 values.old.1.0 values.old.1.1)) }
+        ensures ok { OnOk result (Extends additional page.old page.new
+            (stored_fixed loaded_bytes self.now.size bytes.old.values.now)
+            (stored_fixed loaded_bytes self.now.size bytes.new.values.now) nested.old nested.new
+            (chunk_slots values.old.0 values.old.1.0 values.old.1.1)
+            (chunk_slots values.new.0 values.new.1.0 values.new.1.1)) }
+        ensures err { IfErr result (Refuses 0 additional page.old
+            (stored_fixed loaded_bytes self.now.size bytes.old.values.now) nested.old
+            (chunk_slots values.old.0 values.old.1.0 values.old.1.1)) }
         ensures ticked { OnOk result (TicksEach (length nested.old) page.old page.new steps.old steps.new) }
         ensures bounded { TicksAtMost (length nested.old * length page.old) steps.old steps.new }
         ensures width { values.new.0 ≡ values.old.0 }
@@ -164,7 +173,8 @@ impl LeafArray for FixedBytes {
     ) -> Result<ArrayBox>
         requires makes { reads_chunks self.now.size (base (type_view data_type)) ≡ true }
         requires suits { values.0 ≡ self.now.size }
-        ensures ok { IfOk result (λ a. IsLeafArray (type_view data_type) (chunk_slots values.0 values.1.0 values.1.1) (boxed a)) }
+        ensures ok { IfOk result (λ a. IsLeafArray (type_view data_type) (chunk_slots values.0 values.1.0 values.1.1)
+            (boxed a)) }
         ensures err { IfErr result (λ e. e ≡ Memory) }
     {
         let (content, validity) = values.into_parts();

@@ -50,7 +50,8 @@ pub enum LeafKind {
 
 // Of the type that is stored as truth values.
 fn truth_kind(data_type: &DataType) -> Option<LeafKind>
-    ensures { MatchOption result (is_boolean (type_view data_type.now) ≡ false) (λ k. (physical_of k ≡ boolean) × (types_of k (type_view data_type.now) ≡ true) × (is_boolean (type_view data_type.now) ≡ true)) }
+    ensures { MatchOption result (is_boolean (type_view data_type.now) ≡ false) (λ k. (physical_of k ≡ boolean)
+        × (types_of k (type_view data_type.now) ≡ true) × (is_boolean (type_view data_type.now) ≡ true)) }
 {
     match data_type {
         DataType::Boolean => Some(LeafKind::Boolean),
@@ -60,7 +61,8 @@ fn truth_kind(data_type: &DataType) -> Option<LeafKind>
 
 // Of types that are stored as numbers of 32 bits.
 fn small_kind(data_type: &DataType) -> Option<LeafKind>
-    ensures { MatchOption result (reads_small (type_view data_type.now) ≡ false) (λ k. (physical_of k ≡ int32) × (types_of k (type_view data_type.now) ≡ true) × (reads_small (type_view data_type.now) ≡ true)) }
+    ensures { MatchOption result (reads_small (type_view data_type.now) ≡ false) (λ k. (physical_of k ≡ int32)
+        × (types_of k (type_view data_type.now) ≡ true) × (reads_small (type_view data_type.now) ≡ true)) }
 {
     match data_type {
         DataType::Int8 => Some(LeafKind::Int8),
@@ -80,7 +82,8 @@ fn small_kind(data_type: &DataType) -> Option<LeafKind>
 
 // Of types that are stored as numbers of 64 bits.
 fn wide_kind(data_type: &DataType) -> Option<LeafKind>
-    ensures { MatchOption result (reads_wide (type_view data_type.now) ≡ false) (λ k. (physical_of k ≡ int64) × (types_of k (type_view data_type.now) ≡ true) × (reads_wide (type_view data_type.now) ≡ true)) }
+    ensures { MatchOption result (reads_wide (type_view data_type.now) ≡ false) (λ k. (physical_of k ≡ int64)
+        × (types_of k (type_view data_type.now) ≡ true) × (reads_wide (type_view data_type.now) ≡ true)) }
 {
     match data_type {
         DataType::UInt32 => Some(LeafKind::WideUInt32),
@@ -98,7 +101,8 @@ fn wide_kind(data_type: &DataType) -> Option<LeafKind>
 
 // Of types that are stored as byte strings.
 fn string_kind(data_type: &DataType) -> Option<LeafKind>
-    ensures { MatchOption result (reads_string (type_view data_type.now) ≡ false) (λ k. (physical_of k ≡ byte_array) × (types_of k (type_view data_type.now) ≡ true) × (reads_string (type_view data_type.now) ≡ true)) }
+    ensures { MatchOption result (reads_string (type_view data_type.now) ≡ false) (λ k. (physical_of k ≡ byte_array)
+        × (types_of k (type_view data_type.now) ≡ true) × (reads_string (type_view data_type.now) ≡ true)) }
 {
     match data_type {
         DataType::Utf8 => Some(LeafKind::Utf8),
@@ -111,7 +115,8 @@ fn string_kind(data_type: &DataType) -> Option<LeafKind>
 
 // Of intervals, which are stored as twelve bytes.
 fn interval_kind(data_type: &DataType) -> Option<LeafKind>
-    ensures { MatchOption result (reads_interval (type_view data_type.now) ≡ false) (λ k. (physical_of k ≡ fixed 12) × (types_of k (type_view data_type.now) ≡ true) × (reads_interval (type_view data_type.now) ≡ true)) }
+    ensures { MatchOption result (reads_interval (type_view data_type.now) ≡ false) (λ k. (physical_of k ≡ fixed 12)
+        × (types_of k (type_view data_type.now) ≡ true) × (reads_interval (type_view data_type.now) ≡ true)) }
 {
     match data_type {
         DataType::Interval(IntervalUnit::YearMonth) => Some(LeafKind::Months),
@@ -123,7 +128,8 @@ fn interval_kind(data_type: &DataType) -> Option<LeafKind>
 // Of decimals, which are stored as one to sixteen bytes.
 fn decimal_kind(data_type: &DataType, size: usize) -> Option<LeafKind>
     requires { (nat_le 1 size && nat_le size 16) ≡ true }
-    ensures { MatchOption result (reads_decimal (type_view data_type.now) ≡ false) (λ k. (physical_of k ≡ fixed size) × (types_of k (type_view data_type.now) ≡ true) × (reads_decimal (type_view data_type.now) ≡ true)) }
+    ensures { MatchOption result (reads_decimal (type_view data_type.now) ≡ false) (λ k. (physical_of k ≡ fixed size)
+        × (types_of k (type_view data_type.now) ≡ true) × (reads_decimal (type_view data_type.now) ≡ true)) }
 {
     match data_type {
         DataType::Decimal(_, _) => Some(LeafKind::FixedDecimal(size)),
@@ -147,7 +153,9 @@ fn holds_chunks(size: usize) -> bool
 
 // Of byte strings of one size, which are stored as they are.
 fn chunk_kind(data_type: &DataType, size: usize) -> Option<LeafKind>
-    ensures { MatchOption result (reads_chunks size (type_view data_type.now) ≡ false) (λ k. (physical_of k ≡ fixed size) × (types_of k (type_view data_type.now) ≡ true) × (reads_chunks size (type_view data_type.now) ≡ true)) }
+    ensures { MatchOption result (reads_chunks size (type_view data_type.now) ≡ false)
+        (λ k. (physical_of k ≡ fixed size) × (types_of k (type_view data_type.now) ≡ true)
+        × (reads_chunks size (type_view data_type.now) ≡ true)) }
 {
     match data_type {
         DataType::FixedSizeBinary(length) => {
@@ -165,7 +173,8 @@ fn chunk_kind(data_type: &DataType, size: usize) -> Option<LeafKind>
 
 // Of types that are stored as so many bytes.
 fn fixed_kind(data_type: &DataType, size: usize) -> Option<LeafKind>
-    ensures { MatchOption result (reads_fixed size (type_view data_type.now) ≡ false) (λ k. (physical_of k ≡ fixed size) × (types_of k (type_view data_type.now) ≡ true) × (reads_fixed size (type_view data_type.now) ≡ true)) }
+    ensures { MatchOption result (reads_fixed size (type_view data_type.now) ≡ false) (λ k. (physical_of k ≡ fixed size)
+        × (types_of k (type_view data_type.now) ≡ true) × (reads_fixed size (type_view data_type.now) ≡ true)) }
 {
     match data_type {
         DataType::Interval(_) => {
@@ -188,7 +197,10 @@ fn fixed_kind(data_type: &DataType, size: usize) -> Option<LeafKind>
 impl LeafKind {
     /// How a leaf of this type under this physical type is read; none where it is not read yet.
     pub fn of(data_type: &DataType, physical_type: PhysicalType) -> Option<LeafKind>
-        ensures { MatchOption result (is_read (base (type_view data_type.now)) (physical_view physical_type) ≡ false) (λ k. (physical_of k ≡ physical_view physical_type) × (types_of k (base (type_view data_type.now)) ≡ true) × (is_read (base (type_view data_type.now)) (physical_view physical_type) ≡ true)) }
+        ensures { MatchOption result (is_read (base (type_view data_type.now)) (physical_view physical_type) ≡ false)
+            (λ k. (physical_of k ≡ physical_view physical_type)
+            × (types_of k (base (type_view data_type.now)) ≡ true)
+            × (is_read (base (type_view data_type.now)) (physical_view physical_type) ≡ true)) }
     {
         match physical_type {
             PhysicalType::Boolean => truth_kind(data_type.base()),

@@ -35,7 +35,8 @@ pub struct Nulls;
 // Why no value begins here: the bytes are cut, or a number stands there.
 #[tactic(auto, using(crate::proofs::NullsRead::nothing_whole, crate::proofs::NullsRead::nothing_there))]
 fn reason_of(bytes: &[u8]) -> Error
-    ensures { ((result ≡ OutOfSpec S6) × (stored_numbers (λ z. None) spelled_32 4 bytes.now ≡ [])) ⊎ ((result ≡ OutOfSpec S7) × BeginsOutside (stored_numbers (λ z. None) spelled_32 4) bytes.now) }
+    ensures { ((result ≡ OutOfSpec S6) × (stored_numbers (λ z. None) spelled_32 4 bytes.now ≡ []))
+        ⊎ ((result ≡ OutOfSpec S7) × BeginsOutside (stored_numbers (λ z. None) spelled_32 4) bytes.now) }
 {
     if bytes.len() < 4 {
         Error::OutOfSpec(S::S6)
@@ -82,15 +83,18 @@ impl LeafReader for Nulls {
 
     fn stands_in_bytes(&self) -> bool
         ensures value { result ≡ in_bytes (λ text. stored_numbers (λ z. None) spelled_32 4 text) }
-        ensures bits { result ≡ false → (text : List ℕ) → AreEights (λ text. stored_numbers (λ z. None) spelled_32 4 text) text }
+        ensures bits { result ≡ false → (text : List ℕ) → AreEights
+            (λ text. stored_numbers (λ z. None) spelled_32 4 text) text }
     {
         has_own_bytes()
     }
 
     // No value stands anywhere.
     fn value_size(&self, bytes: &[u8]) -> Result<usize>
-        ensures ok { in_bytes (λ text. stored_numbers (λ z. None) spelled_32 4 text) ≡ true → IfOk result (λ n. BeginsWithValue (λ text. stored_numbers (λ z. None) spelled_32 4 text) n bytes.now) }
-        ensures err { IfErr result (λ e. ((e ≡ OutOfSpec S6) × (stored_numbers (λ z. None) spelled_32 4 bytes.now ≡ [])) ⊎ ((e ≡ OutOfSpec S7) × BeginsOutside (λ text. stored_numbers (λ z. None) spelled_32 4 text) bytes.now)) }
+        ensures ok { in_bytes (λ text. stored_numbers (λ z. None) spelled_32 4 text) ≡ true
+            → IfOk result (λ n. BeginsWithValue (λ text. stored_numbers (λ z. None) spelled_32 4 text) n bytes.now) }
+        ensures err { IfErr result (λ e. ((e ≡ OutOfSpec S6) × (stored_numbers (λ z. None) spelled_32 4 bytes.now ≡ []))
+            ⊎ ((e ≡ OutOfSpec S7) × BeginsOutside (λ text. stored_numbers (λ z. None) spelled_32 4 text) bytes.now)) }
     {
         Err(reason_of(bytes))
     }
@@ -106,8 +110,13 @@ impl LeafReader for Nulls {
     ) -> Result<()>
         requires fits { StateFits nested.old }
         requires decoded { length (replicate values.old.count null) ≡ leaf_count nested.old }
-        ensures ok { OnOk result (Extends additional page.old page.new (stored_numbers (λ z. None) spelled_32 4 bytes.old.values.now) (stored_numbers (λ z. None) spelled_32 4 bytes.new.values.now) nested.old nested.new (replicate values.old.count null) (replicate values.new.count null)) }
-        ensures err { IfErr result (Refuses 1 additional page.old (stored_numbers (λ z. None) spelled_32 4 bytes.old.values.now) nested.old (replicate values.old.count null)) }
+        ensures ok { OnOk result (Extends additional page.old page.new
+            (stored_numbers (λ z. None) spelled_32 4 bytes.old.values.now)
+            (stored_numbers (λ z. None) spelled_32 4 bytes.new.values.now) nested.old nested.new
+            (replicate values.old.count null) (replicate values.new.count null)) }
+        ensures err { IfErr result (Refuses 1 additional page.old
+            (stored_numbers (λ z. None) spelled_32 4 bytes.old.values.now) nested.old
+            (replicate values.old.count null)) }
         ensures ticked { OnOk result (TicksEach (length nested.old) page.old page.new steps.old steps.new) }
         ensures bounded { TicksAtMost (length nested.old * length page.old) steps.old steps.new }
     {

@@ -45,7 +45,8 @@ impl<T, P> Numbers<T, P> {
 // The number of `T` at the front of the bytes, if it is one.
 fn first_of<T: FromStored<P>, P: StoredNumber>(bytes: &[u8]) -> Option<T>
     requires { P.byte_count ≤ length bytes.now }
-    ensures { MatchOption result (T.loaded (P.spelled (take P.byte_count bytes.now)) ≡ None) (λ x. T.loaded (P.spelled (take P.byte_count bytes.now)) ≡ Some (T.loaded_number x)) }
+    ensures { MatchOption result (T.loaded (P.spelled (take P.byte_count bytes.now)) ≡ None)
+        (λ x. T.loaded (P.spelled (take P.byte_count bytes.now)) ≡ Some (T.loaded_number x)) }
 {
     T::from_stored(P::read(&bytes[..P::width()]))
 }
@@ -53,7 +54,9 @@ fn first_of<T: FromStored<P>, P: StoredNumber>(bytes: &[u8]) -> Option<T>
 // How many bytes the first number has.
 fn number_size<T: FromStored<P>, P: StoredNumber>(bytes: &[u8]) -> Result<usize>
     ensures ok { IfOk result (λ n. BeginsWithValue (stored_numbers T.loaded P.spelled P.byte_count) n bytes.now) }
-    ensures err { IfErr result (λ e. ((e ≡ OutOfSpec S6) × (stored_numbers T.loaded P.spelled P.byte_count bytes.now ≡ [])) ⊎ ((e ≡ OutOfSpec S7) × BeginsOutside (stored_numbers T.loaded P.spelled P.byte_count) bytes.now)) }
+    ensures err { IfErr result (λ e. ((e ≡ OutOfSpec S6)
+        × (stored_numbers T.loaded P.spelled P.byte_count bytes.now ≡ []))
+        ⊎ ((e ≡ OutOfSpec S7) × BeginsOutside (stored_numbers T.loaded P.spelled P.byte_count) bytes.now)) }
 {
     if bytes.len() < P::width() {
         return Err(Error::OutOfSpec(S::S6));
@@ -100,14 +103,21 @@ impl<T: FromStored<P>, P: StoredNumber> LeafReader for Numbers<T, P> {
 
     fn stands_in_bytes(&self) -> bool
         ensures value { result ≡ in_bytes (λ text. stored_numbers T.loaded P.spelled P.byte_count text) }
-        ensures bits { result ≡ false → (text : List ℕ) → AreEights (λ text. stored_numbers T.loaded P.spelled P.byte_count text) text }
+        ensures bits { result ≡ false → (text : List ℕ) → AreEights
+            (λ text. stored_numbers T.loaded P.spelled P.byte_count text) text }
     {
         has_own_bytes::<T, P>()
     }
 
     fn value_size(&self, bytes: &[u8]) -> Result<usize>
-        ensures ok { in_bytes (λ text. stored_numbers T.loaded P.spelled P.byte_count text) ≡ true → IfOk result (λ n. BeginsWithValue (λ text. stored_numbers T.loaded P.spelled P.byte_count text) n bytes.now) }
-        ensures err { IfErr result (λ e. ((e ≡ OutOfSpec S6) × (stored_numbers T.loaded P.spelled P.byte_count bytes.now ≡ [])) ⊎ ((e ≡ OutOfSpec S7) × BeginsOutside (λ text. stored_numbers T.loaded P.spelled P.byte_count text) bytes.now)) }
+        ensures ok { in_bytes (λ text. stored_numbers T.loaded P.spelled P.byte_count text) ≡ true
+            → IfOk result (λ n. BeginsWithValue
+            (λ text. stored_numbers T.loaded P.spelled P.byte_count text) n bytes.now) }
+        ensures err { IfErr result (λ e. ((e ≡ OutOfSpec S6)
+            × (stored_numbers T.loaded P.spelled P.byte_count bytes.now ≡ []))
+            ⊎
+            ((e ≡ OutOfSpec S7) × BeginsOutside
+            (λ text. stored_numbers T.loaded P.spelled P.byte_count text) bytes.now)) }
     {
         number_size::<T, P>(bytes)
     }
@@ -123,8 +133,14 @@ impl<T: FromStored<P>, P: StoredNumber> LeafReader for Numbers<T, P> {
     ) -> Result<()>
         requires fits { StateFits nested.old }
         requires decoded { length (number_slots (map T.loaded_number values.old.0) values.old.1) ≡ leaf_count nested.old }
-        ensures ok { OnOk result (Extends additional page.old page.new (stored_numbers T.loaded P.spelled P.byte_count bytes.old.values.now) (stored_numbers T.loaded P.spelled P.byte_count bytes.new.values.now) nested.old nested.new (number_slots (map T.loaded_number values.old.0) values.old.1) (number_slots (map T.loaded_number values.new.0) values.new.1)) }
-        ensures err { IfErr result (Refuses 1 additional page.old (stored_numbers T.loaded P.spelled P.byte_count bytes.old.values.now) nested.old (number_slots (map T.loaded_number values.old.0) values.old.1)) }
+        ensures ok { OnOk result (Extends additional page.old page.new
+            (stored_numbers T.loaded P.spelled P.byte_count bytes.old.values.now)
+            (stored_numbers T.loaded P.spelled P.byte_count bytes.new.values.now) nested.old nested.new
+            (number_slots (map T.loaded_number values.old.0) values.old.1)
+            (number_slots (map T.loaded_number values.new.0) values.new.1)) }
+        ensures err { IfErr result (Refuses 1 additional page.old
+            (stored_numbers T.loaded P.spelled P.byte_count bytes.old.values.now) nested.old
+            (number_slots (map T.loaded_number values.old.0) values.old.1)) }
         ensures ticked { OnOk result (TicksEach (length nested.old) page.old page.new steps.old steps.new) }
         ensures bounded { TicksAtMost (length nested.old * length page.old) steps.old steps.new }
     {
@@ -150,7 +166,8 @@ impl<T: FromStored<P> + NumberBox, P: StoredNumber> LeafArray for Numbers<T, P> 
         data_type: DataType,
     ) -> Result<ArrayBox>
         requires { makes_numbers T.stores (base (type_view data_type)) ≡ true }
-        ensures ok { IfOk result (λ a. IsLeafArray (type_view data_type) (number_slots (map T.loaded_number values.0) values.1) (boxed a)) }
+        ensures ok { IfOk result (λ a. IsLeafArray (type_view data_type)
+            (number_slots (map T.loaded_number values.0) values.1) (boxed a)) }
         ensures err { IfErr result (λ e. e ≡ Memory) }
     {
         let (numbers, validity) = values.into_parts();

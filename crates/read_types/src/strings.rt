@@ -50,7 +50,8 @@ impl<O, K> Strings<O, K> {
 
 // The number in the first four bytes; none where they are cut.
 fn first_length(bytes: &[u8]) -> Option<usize>
-    ensures { MatchOption result (length bytes.now < 4) (λ n. (4 ≤ length bytes.now) × (n ≡ number_of (take 4 bytes.now))) }
+    ensures { MatchOption result (length bytes.now < 4) (λ n. (4 ≤ length bytes.now)
+        × (n ≡ number_of (take 4 bytes.now))) }
 {
     match bytes {
         [a, b, c, d, ..] => Some(u32::from_le_bytes([*a, *b, *c, *d]) as usize),
@@ -69,7 +70,8 @@ fn skip(bytes: &[u8], count: usize) -> &[u8]
 // How many bytes the first string has, with those of its length.
 fn string_size<K: StringKind>(bytes: &[u8]) -> Result<usize>
     ensures ok { IfOk result (λ n. BeginsWithValue (stored_strings K.allows) n bytes.now) }
-    ensures err { IfErr result (λ e. ((e ≡ OutOfSpec S6) × (stored_strings K.allows bytes.now ≡ [])) ⊎ ((e ≡ OutOfSpec S7) × BeginsOutside (stored_strings K.allows) bytes.now)) }
+    ensures err { IfErr result (λ e. ((e ≡ OutOfSpec S6) × (stored_strings K.allows bytes.now ≡ []))
+        ⊎ ((e ≡ OutOfSpec S7) × BeginsOutside (stored_strings K.allows) bytes.now)) }
 {
     let Some(count) = first_length(bytes) else {
         return Err(Error::OutOfSpec(S::S6));
@@ -125,8 +127,10 @@ impl<O: Offset, K: StringKind> LeafReader for Strings<O, K> {
     }
 
     fn value_size(&self, bytes: &[u8]) -> Result<usize>
-        ensures ok { in_bytes (λ text. stored_strings K.allows text) ≡ true → IfOk result (λ n. BeginsWithValue (λ text. stored_strings K.allows text) n bytes.now) }
-        ensures err { IfErr result (λ e. ((e ≡ OutOfSpec S6) × (stored_strings K.allows bytes.now ≡ [])) ⊎ ((e ≡ OutOfSpec S7) × BeginsOutside (λ text. stored_strings K.allows text) bytes.now)) }
+        ensures ok { in_bytes (λ text. stored_strings K.allows text) ≡ true
+            → IfOk result (λ n. BeginsWithValue (λ text. stored_strings K.allows text) n bytes.now) }
+        ensures err { IfErr result (λ e. ((e ≡ OutOfSpec S6) × (stored_strings K.allows bytes.now ≡ []))
+            ⊎ ((e ≡ OutOfSpec S7) × BeginsOutside (λ text. stored_strings K.allows text) bytes.now)) }
     {
         string_size::<K>(bytes)
     }
@@ -142,8 +146,11 @@ impl<O: Offset, K: StringKind> LeafReader for Strings<O, K> {
     ) -> Result<()>
         requires fits { StateFits nested.old }
         requires decoded { length (string_slots values.old.0 values.old.1) ≡ leaf_count nested.old }
-        ensures ok { OnOk result (Extends additional page.old page.new (stored_strings K.allows bytes.old.values.now) (stored_strings K.allows bytes.new.values.now) nested.old nested.new (string_slots values.old.0 values.old.1) (string_slots values.new.0 values.new.1)) }
-        ensures err { IfErr result (Refuses O.limit additional page.old (stored_strings K.allows bytes.old.values.now) nested.old (string_slots values.old.0 values.old.1)) }
+        ensures ok { OnOk result (Extends additional page.old page.new (stored_strings K.allows bytes.old.values.now)
+            (stored_strings K.allows bytes.new.values.now) nested.old nested.new
+            (string_slots values.old.0 values.old.1) (string_slots values.new.0 values.new.1)) }
+        ensures err { IfErr result (Refuses O.limit additional page.old
+            (stored_strings K.allows bytes.old.values.now) nested.old (string_slots values.old.0 values.old.1)) }
         ensures ticked { OnOk result (TicksEach (length nested.old) page.old page.new steps.old steps.new) }
         ensures bounded { TicksAtMost (length nested.old * length page.old) steps.old steps.new }
     {
@@ -201,7 +208,8 @@ fn text_array<O: Offset>(
     data_type: DataType,
 ) -> Result<Utf8Array<O>>
     requires { is_text O.large (base (type_view data_type)) ≡ true }
-    ensures ok { IfOk result (λ a. IsLeafArray (type_view data_type) (string_slots values.0 values.1) (leaf_array a.0 (pieces_values a.1.0 a.1.1.0) a.1.1.1)) }
+    ensures ok { IfOk result (λ a. IsLeafArray (type_view data_type) (string_slots values.0 values.1)
+        (leaf_array a.0 (pieces_values a.1.0 a.1.1.0) a.1.1.1)) }
     ensures err { IfErr result (λ e. e ≡ Memory) }
 {
     let (strings, validity) = values.into_parts();
@@ -289,7 +297,8 @@ fn string_array<O: Offset>(
     data_type: DataType,
 ) -> Result<BinaryArray<O>>
     requires { is_binary O.large (base (type_view data_type)) ≡ true }
-    ensures ok { IfOk result (λ a. IsLeafArray (type_view data_type) (string_slots values.0 values.1) (leaf_array a.0 (pieces_values a.1.0 a.1.1.0) a.1.1.1)) }
+    ensures ok { IfOk result (λ a. IsLeafArray (type_view data_type) (string_slots values.0 values.1)
+        (leaf_array a.0 (pieces_values a.1.0 a.1.1.0) a.1.1.1)) }
     ensures err { IfErr result (λ e. e ≡ Memory) }
 {
     let (strings, validity) = values.into_parts();

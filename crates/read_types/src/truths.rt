@@ -43,7 +43,8 @@ fn is_in_bytes() -> bool
 // The byte of the first value, which seven more share.
 #[tactic(auto, using(crate::proofs::TruthBytes::no_value_alone))]
 fn eighth_of(bytes: &[u8]) -> Result<usize>
-    ensures ok { IfOk result (λ n. in_bytes (λ text. stored_truths text 0) ≡ true → BeginsWithValue (λ text. stored_truths text 0) n bytes.now) }
+    ensures ok { IfOk result (λ n. in_bytes (λ text. stored_truths text 0) ≡ true
+        → BeginsWithValue (λ text. stored_truths text 0) n bytes.now) }
     ensures none { IfErr result (λ e. ⊥) }
 {
     Ok(bytes.len().min(1))
@@ -83,8 +84,10 @@ impl LeafReader for Truths {
 
     // A byte has eight values.
     fn value_size(&self, bytes: &[u8]) -> Result<usize>
-        ensures ok { in_bytes (λ text. stored_truths text 0) ≡ true → IfOk result (λ n. BeginsWithValue (λ text. stored_truths text 0) n bytes.now) }
-        ensures err { IfErr result (λ e. ((e ≡ OutOfSpec S6) × (stored_truths bytes.now 0 ≡ [])) ⊎ ((e ≡ OutOfSpec S7) × BeginsOutside (λ text. stored_truths text 0) bytes.now)) }
+        ensures ok { in_bytes (λ text. stored_truths text 0) ≡ true
+            → IfOk result (λ n. BeginsWithValue (λ text. stored_truths text 0) n bytes.now) }
+        ensures err { IfErr result (λ e. ((e ≡ OutOfSpec S6) × (stored_truths bytes.now 0 ≡ []))
+            ⊎ ((e ≡ OutOfSpec S7) × BeginsOutside (λ text. stored_truths text 0) bytes.now)) }
     {
         eighth_of(bytes)
     }
@@ -100,8 +103,12 @@ impl LeafReader for Truths {
     ) -> Result<()>
         requires fits { StateFits nested.old }
         requires decoded { length (truth_slots values.old.0 values.old.1) ≡ leaf_count nested.old }
-        ensures ok { OnOk result (Extends additional page.old page.new (stored_truths bytes.old.values.now bytes.old.bit) (stored_truths bytes.new.values.now bytes.new.bit) nested.old nested.new (truth_slots values.old.0 values.old.1) (truth_slots values.new.0 values.new.1)) }
-        ensures err { IfErr result (Refuses 1 additional page.old (stored_truths bytes.old.values.now bytes.old.bit) nested.old (truth_slots values.old.0 values.old.1)) }
+        ensures ok { OnOk result (Extends additional page.old page.new
+            (stored_truths bytes.old.values.now bytes.old.bit)
+            (stored_truths bytes.new.values.now bytes.new.bit) nested.old nested.new
+            (truth_slots values.old.0 values.old.1) (truth_slots values.new.0 values.new.1)) }
+        ensures err { IfErr result (Refuses 1 additional page.old
+            (stored_truths bytes.old.values.now bytes.old.bit) nested.old (truth_slots values.old.0 values.old.1)) }
         ensures ticked { OnOk result (TicksEach (length nested.old) page.old page.new steps.old steps.new) }
         ensures bounded { TicksAtMost (length nested.old * length page.old) steps.old steps.new }
     {

@@ -22,7 +22,8 @@ fn one_if(set: bool) -> u64
 fn add_level(word: u64, count: usize, level: usize, floor: usize, top: usize) -> (u64, usize)
     requires below { word < 2 ^ count }
     requires few { count < 64 }
-    ensures bits { (levels : List ℕ) → word_bits word count ≡ mixed floor top levels → word_bits result.0 result.1 ≡ mixed floor top (level ∷ levels) }
+    ensures bits { (levels : List ℕ) → word_bits word count ≡ mixed floor top levels
+        → word_bits result.0 result.1 ≡ mixed floor top (level ∷ levels) }
     ensures below { result.0 < 2 ^ result.1 }
     ensures few { result.1 ≤ count + 1 }
 {
@@ -116,8 +117,10 @@ pub fn decode_copies<'a, D: NestedDecoder<'a>>(
 ) -> Result<()>
     requires ordered { floor ≤ top }
     requires suits { D.suits decoder.now decoded.old }
-    ensures ok { OnOk result (Decoded floor top (replicate count level) (D.left decoder.now values.old) (D.left decoder.now values.new) (D.slots decoded.old) (D.slots decoded.new)) }
-    ensures err { IfErr result (CannotDecode D.byte_limit (called top (replicate count level)) (D.left decoder.now values.old) (D.slots decoded.old)) }
+    ensures ok { OnOk result (Decoded floor top (replicate count level) (D.left decoder.now values.old)
+        (D.left decoder.now values.new) (D.slots decoded.old) (D.slots decoded.new)) }
+    ensures err { IfErr result (CannotDecode D.byte_limit (called top (replicate count level))
+        (D.left decoder.now values.old) (D.slots decoded.old)) }
     ensures suits { D.suits decoder.now decoded.new }
 {
     if level == top {
@@ -144,8 +147,10 @@ pub fn decode_levels<'a, D: NestedDecoder<'a>>(
 ) -> Result<()>
     requires ordered { floor ≤ top }
     requires suits { D.suits decoder.now decoded.old }
-    ensures ok { OnOk result (Decoded floor top defs.now (D.left decoder.now values.old) (D.left decoder.now values.new) (D.slots decoded.old) (D.slots decoded.new)) }
-    ensures err { IfErr result (CannotDecode D.byte_limit (called top defs.now) (D.left decoder.now values.old) (D.slots decoded.old)) }
+    ensures ok { OnOk result (Decoded floor top defs.now (D.left decoder.now values.old) (D.left decoder.now values.new)
+        (D.slots decoded.old) (D.slots decoded.new)) }
+    ensures err { IfErr result (CannotDecode D.byte_limit (called top defs.now) (D.left decoder.now values.old)
+        (D.slots decoded.old)) }
     ensures suits { D.suits decoder.now decoded.new }
 {
     let mut at = 0;
@@ -191,8 +196,10 @@ pub fn decode_block<'a, D: NestedDecoder<'a>>(
     requires ordered { floor ≤ top }
     requires few { length block.now.1 ≤ 64 }
     requires suits { D.suits decoder.now decoded.old }
-    ensures ok { OnOk result (Decoded floor top block.now.1 (D.left decoder.now values.old) (D.left decoder.now values.new) (D.slots decoded.old) (D.slots decoded.new)) }
-    ensures err { IfErr result (CannotDecode D.byte_limit (called top block.now.1) (D.left decoder.now values.old) (D.slots decoded.old)) }
+    ensures ok { OnOk result (Decoded floor top block.now.1 (D.left decoder.now values.old)
+        (D.left decoder.now values.new) (D.slots decoded.old) (D.slots decoded.new)) }
+    ensures err { IfErr result (CannotDecode D.byte_limit (called top block.now.1) (D.left decoder.now values.old)
+        (D.slots decoded.old)) }
     ensures suits { D.suits decoder.now decoded.new }
 {
     let (valid, count) = block_word(block, floor, top);
@@ -227,8 +234,10 @@ pub fn decode_told<'a, D: NestedDecoder<'a>>(
     requires ordered { floor ≤ top }
     requires low { top ≤ 255 }
     requires suits { D.suits decoder.now decoded.old }
-    ensures ok { OnOk result (Decoded floor top defs.now (D.left decoder.now values.old) (D.left decoder.now values.new) (D.slots decoded.old) (D.slots decoded.new)) }
-    ensures err { IfErr result (CannotDecode D.byte_limit (called top defs.now) (D.left decoder.now values.old) (D.slots decoded.old)) }
+    ensures ok { OnOk result (Decoded floor top defs.now (D.left decoder.now values.old) (D.left decoder.now values.new)
+        (D.slots decoded.old) (D.slots decoded.new)) }
+    ensures err { IfErr result (CannotDecode D.byte_limit (called top defs.now) (D.left decoder.now values.old)
+        (D.slots decoded.old)) }
     ensures suits { D.suits decoder.now decoded.new }
 {
     let (valid, count) = told_word(defs, floor, top);

@@ -36,8 +36,12 @@ fn walk_block<'a, D: NestedDecoder<'a>, L: Ledger>(
     requires ended { EndedAt before nested.old }
     requires decoded { length (D.slots decoded.old) ≡ leaf_count nested.old }
     requires suits { D.suits decoder.now decoded.old }
-    ensures ok { OnOk result (Follows (kept_way nested.old) before (zipped block.now.0 block.now.1) × TookBlock before block.now.0 block.now.1 nested.old nested.new (D.slots decoded.old) (D.slots decoded.new) (D.left decoder.now values.old) (D.left decoder.now values.new)) }
-    ensures err { IfErr result (λ e. OneMayNot (kept_way nested.old) before (zipped block.now.0 block.now.1) e ⊎ CannotTake D.byte_limit block.now.0 block.now.1 nested.old (D.left decoder.now values.old) (D.slots decoded.old) e) }
+    ensures ok { OnOk result (Follows (kept_way nested.old) before (zipped block.now.0 block.now.1)
+        × TookBlock before block.now.0 block.now.1 nested.old nested.new (D.slots decoded.old) (D.slots decoded.new)
+        (D.left decoder.now values.old) (D.left decoder.now values.new)) }
+    ensures err { IfErr result (λ e. OneMayNot (kept_way nested.old) before (zipped block.now.0 block.now.1) e
+        ⊎ CannotTake D.byte_limit block.now.0 block.now.1 nested.old (D.left decoder.now values.old)
+        (D.slots decoded.old) e) }
     ensures ticked { TicksAtMost (length nested.old) steps.old steps.new }
     ensures suits { D.suits decoder.now decoded.new }
 {
@@ -80,8 +84,14 @@ fn walk_copies<'a, D: NestedDecoder<'a>, L: Ledger>(
     requires ended { EndedAt before nested.old }
     requires decoded { length (D.slots decoded.old) ≡ leaf_count nested.old }
     requires suits { D.suits decoder.now decoded.old }
-    ensures ok { OnOk result (Follows (kept_way nested.old) before (zipped (replicate count rep) (replicate count level)) × TookBlock before (replicate count rep) (replicate count level) nested.old nested.new (D.slots decoded.old) (D.slots decoded.new) (D.left decoder.now values.old) (D.left decoder.now values.new)) }
-    ensures err { IfErr result (λ e. OneMayNot (kept_way nested.old) before (zipped (replicate count rep) (replicate count level)) e ⊎ CannotTake D.byte_limit (replicate count rep) (replicate count level) nested.old (D.left decoder.now values.old) (D.slots decoded.old) e) }
+    ensures ok { OnOk result (Follows (kept_way nested.old) before
+        (zipped (replicate count rep) (replicate count level))
+        × TookBlock before (replicate count rep) (replicate count level) nested.old nested.new (D.slots decoded.old)
+        (D.slots decoded.new) (D.left decoder.now values.old) (D.left decoder.now values.new)) }
+    ensures err { IfErr result (λ e. OneMayNot (kept_way nested.old) before
+        (zipped (replicate count rep) (replicate count level)) e
+        ⊎ CannotTake D.byte_limit (replicate count rep) (replicate count level) nested.old
+        (D.left decoder.now values.old) (D.slots decoded.old) e) }
     ensures ticked { TicksAtMost (length nested.old) steps.old steps.new }
     ensures suits { D.suits decoder.now decoded.new }
 {
@@ -118,8 +128,11 @@ fn step_block<'a, 'b, D: NestedDecoder<'b>, L: Ledger>(
     requires ended { EndedAt before.old nested.old }
     requires decoded { length (D.slots decoded.old) ≡ leaf_count nested.old }
     requires suits { D.suits decoder.now decoded.old }
-    ensures ok { IfOk result (λ more. TakesStep more rows.old rows.new before.old before.new page.old page.new (D.left decoder.now values.old) (D.left decoder.now values.new) nested.old nested.new (D.slots decoded.old) (D.slots decoded.new)) }
-    ensures err { IfErr result (CannotStep D.byte_limit rows.old before.old page.old (D.left decoder.now values.old) nested.old (D.slots decoded.old)) }
+    ensures ok { IfOk result (λ more. TakesStep more rows.old rows.new before.old before.new page.old page.new
+        (D.left decoder.now values.old) (D.left decoder.now values.new) nested.old nested.new (D.slots decoded.old)
+        (D.slots decoded.new)) }
+    ensures err { IfErr result (CannotStep D.byte_limit rows.old before.old page.old
+        (D.left decoder.now values.old) nested.old (D.slots decoded.old)) }
     ensures ticked { TicksAtMost (length nested.old) steps.old steps.new }
     ensures idle { IfOk result (λ more. more ≡ false → steps.new ≡ steps.old) }
     ensures suits { D.suits decoder.now decoded.new }
@@ -158,8 +171,11 @@ fn step_others<'a, 'b, D: NestedDecoder<'b>, L: Ledger>(
     requires ended { EndedAt before.old nested.old }
     requires decoded { length (D.slots decoded.old) ≡ leaf_count nested.old }
     requires suits { D.suits decoder.now decoded.old }
-    ensures ok { IfOk result (λ more. TakesStep more rows.old rows.new before.old before.new page.old page.new (D.left decoder.now values.old) (D.left decoder.now values.new) nested.old nested.new (D.slots decoded.old) (D.slots decoded.new)) }
-    ensures err { IfErr result (CannotStep D.byte_limit rows.old before.old page.old (D.left decoder.now values.old) nested.old (D.slots decoded.old)) }
+    ensures ok { IfOk result (λ more. TakesStep more rows.old rows.new before.old before.new page.old page.new
+        (D.left decoder.now values.old) (D.left decoder.now values.new) nested.old nested.new (D.slots decoded.old)
+        (D.slots decoded.new)) }
+    ensures err { IfErr result (CannotStep D.byte_limit rows.old before.old page.old
+        (D.left decoder.now values.old) nested.old (D.slots decoded.old)) }
     ensures ticked { TicksAtMost (length nested.old) steps.old steps.new }
     ensures idle { IfOk result (λ more. more ≡ false → steps.new ≡ steps.old) }
     ensures suits { D.suits decoder.now decoded.new }
@@ -200,8 +216,11 @@ fn step_pairs<'a, 'b, D: NestedDecoder<'b>, L: Ledger>(
     requires ended { EndedAt before.old nested.old }
     requires decoded { length (D.slots decoded.old) ≡ leaf_count nested.old }
     requires suits { D.suits decoder.now decoded.old }
-    ensures ok { IfOk result (λ more. TakesStep more rows.old rows.new before.old before.new page.old page.new (D.left decoder.now values.old) (D.left decoder.now values.new) nested.old nested.new (D.slots decoded.old) (D.slots decoded.new)) }
-    ensures err { IfErr result (CannotStep D.byte_limit rows.old before.old page.old (D.left decoder.now values.old) nested.old (D.slots decoded.old)) }
+    ensures ok { IfOk result (λ more. TakesStep more rows.old rows.new before.old before.new page.old page.new
+        (D.left decoder.now values.old) (D.left decoder.now values.new) nested.old nested.new (D.slots decoded.old)
+        (D.slots decoded.new)) }
+    ensures err { IfErr result (CannotStep D.byte_limit rows.old before.old page.old
+        (D.left decoder.now values.old) nested.old (D.slots decoded.old)) }
     ensures ticked { TicksAtMost (length nested.old) steps.old steps.new }
     ensures idle { IfOk result (λ more. more ≡ false → steps.new ≡ steps.old) }
     ensures suits { D.suits decoder.now decoded.new }
@@ -243,8 +262,10 @@ pub fn extend_levels<'a, 'b, D: NestedDecoder<'b>, L: Ledger>(
     requires fits { StateFits nested.old }
     requires decoded { length (D.slots decoded.old) ≡ leaf_count nested.old }
     requires suits { D.suits decoder.now decoded.old }
-    ensures ok { OnOk result (Extends additional page.old page.new (D.left decoder.now values.old) (D.left decoder.now values.new) nested.old nested.new (D.slots decoded.old) (D.slots decoded.new)) }
-    ensures err { IfErr result (Refuses D.byte_limit additional page.old (D.left decoder.now values.old) nested.old (D.slots decoded.old)) }
+    ensures ok { OnOk result (Extends additional page.old page.new (D.left decoder.now values.old)
+        (D.left decoder.now values.new) nested.old nested.new (D.slots decoded.old) (D.slots decoded.new)) }
+    ensures err { IfErr result (Refuses D.byte_limit additional page.old (D.left decoder.now values.old) nested.old
+        (D.slots decoded.old)) }
     ensures ticked { OnOk result (TicksEach (length nested.old) page.old page.new steps.old steps.new) }
     ensures bounded { TicksAtMost (length nested.old * length page.old) steps.old steps.new }
     ensures suits { D.suits decoder.now decoded.new }

@@ -57,8 +57,10 @@ fn first_above(reps: &[u32], defs: &[u32], end: usize, max_rep: usize, max_def: 
     requires reps { end ≤ length reps.now }
     requires defs { end ≤ length defs.now }
     ensures within { result ≤ end }
-    ensures before { (k : ℕ) → k < result → is_within max_rep max_def (slice_index reps.now k, slice_index defs.now k) ≡ true }
-    ensures next { result < end → is_within max_rep max_def (slice_index reps.now result, slice_index defs.now result) ≡ false }
+    ensures before { (k : ℕ) → k < result → is_within max_rep max_def (slice_index reps.now k, slice_index defs.now k)
+        ≡ true }
+    ensures next { result < end → is_within max_rep max_def (slice_index reps.now result, slice_index defs.now result)
+        ≡ false }
 {
     for i in 0..end {
         if !is_within(reps[i] as usize, defs[i] as usize, max_rep, max_def) {
@@ -93,8 +95,10 @@ fn count_within(
     requires defs { end ≤ length defs.now }
     requires known { IfSome starts (λ word. reps.now ≡ digits_of 2 64 word) }
     ensures within { result ≤ end }
-    ensures before { (k : ℕ) → k < result → is_within max_rep max_def (slice_index reps.now k, slice_index defs.now k) ≡ true }
-    ensures next { result < end → is_within max_rep max_def (slice_index reps.now result, slice_index defs.now result) ≡ false }
+    ensures before { (k : ℕ) → k < result → is_within max_rep max_def (slice_index reps.now k, slice_index defs.now k)
+        ≡ true }
+    ensures next { result < end → is_within max_rep max_def (slice_index reps.now result, slice_index defs.now result)
+        ≡ false }
 {
     if are_starts_within(reps, end, max_rep, starts) {
         if are_within(part_of(defs, 0, end), max_def) {
@@ -237,7 +241,8 @@ fn is_flat_next<'a>(levels: &Levels<'a>, rows: usize) -> bool
 fn next_flat<'a>(levels: &mut Levels<'a>, rows: usize, block: &mut PairBlock) -> bool
     requires is { IsLevels levels.old }
     ensures is { IsLevels levels.new }
-    ensures taken { IsTrue result → TakesBlock rows (levels_left levels.old) (Some (Ok 64)) block.new.0 block.new.1 (levels_left levels.new) }
+    ensures taken { IsTrue result → TakesBlock rows (levels_left levels.old) (Some (Ok 64)) block.new.0 block.new.1
+        (levels_left levels.new) }
     ensures same { result ≡ false → levels_left levels.new ≡ levels_left levels.old }
 {
     if !is_flat_next(levels, rows) {
@@ -373,7 +378,9 @@ pub fn next_told<'a>(
     requires is { IsLevels levels.old }
     requires way { AreLevels (kept_way nested.now) way.lists way.top way.floor }
     ensures is { IsLevels levels.new }
-    ensures taken { MatchOption result (levels_left levels.new ≡ levels_left levels.old) (λ begun. TakesBlock rows (levels_left levels.old) (Some (Ok begun)) reps.new defs.new (levels_left levels.new)) }
+    ensures taken { MatchOption result (levels_left levels.new ≡ levels_left levels.old)
+        (λ begun. TakesBlock rows (levels_left levels.old) (Some (Ok begun)) reps.new defs.new
+        (levels_left levels.new)) }
     ensures may { IfSome result (λ begun. MayTake nested.now way.top before reps.new defs.new) }
 {
     if !is_used_up(levels, way) {
@@ -457,7 +464,8 @@ fn alike(reps: &[u32], defs: &[u32], at: usize, end: usize) -> usize
     requires defs { end ≤ length defs.now }
     ensures some { 0 < result }
     ensures within { at + result ≤ end }
-    ensures alike { (k : ℕ) → k < result → (slice_index reps.now (at + k) ≡ slice_index reps.now at) × (slice_index defs.now (at + k) ≡ slice_index defs.now at) }
+    ensures alike { (k : ℕ) → k < result → (slice_index reps.now (at + k) ≡ slice_index reps.now at)
+        × (slice_index defs.now (at + k) ≡ slice_index defs.now at) }
 {
     let rep = reps[at];
     let def = defs[at];

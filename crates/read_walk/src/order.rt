@@ -63,7 +63,8 @@ fn check_pair(
     requires lists { lists ≡ max_repetition (kept_way nested.now) }
     requires top { top ≡ max_definition (kept_way nested.now) }
     requires floor { floor ≡ inside (kept_way nested.now) lists }
-    ensures ok { OnOk result ((rep ≤ max_repetition (kept_way nested.now)) × (level ≤ max_definition (kept_way nested.now)) × MayCome (kept_way nested.now) before (rep, level)) }
+    ensures ok { OnOk result ((rep ≤ max_repetition (kept_way nested.now))
+        × (level ≤ max_definition (kept_way nested.now)) × MayCome (kept_way nested.now) before (rep, level)) }
     ensures err { IfErr result (WhyNot (kept_way nested.now) before (rep, level)) }
 {
     if rep > lists {
@@ -129,8 +130,10 @@ pub fn check_copies(
 ) -> Result<()>
     requires levels { AreLevels (kept_way nested.now) levels.lists levels.top levels.floor }
     requires some { 0 < count }
-    ensures ok { OnOk result (Follows (kept_way nested.now) before (zipped (replicate count rep) (replicate count level))) }
-    ensures err { IfErr result (OneMayNot (kept_way nested.now) before (zipped (replicate count rep) (replicate count level))) }
+    ensures ok { OnOk result (Follows (kept_way nested.now) before
+        (zipped (replicate count rep) (replicate count level))) }
+    ensures err { IfErr result (OneMayNot (kept_way nested.now) before
+        (zipped (replicate count rep) (replicate count level))) }
 {
     let (lists, top, floor) = (levels.lists, levels.top, levels.floor);
     match check_pair(nested, before, rep, level, lists, top, floor) {
@@ -156,7 +159,8 @@ fn reaches(before: Option<usize>, level: usize) -> bool
 // A bit for each of 64 pairs of this definition level or a greater one behind one that is, too.
 fn inner_word(before: Option<usize>, defs: &BlockLevels, floor: usize) -> u64
     requires { length defs.now ≡ 64 }
-    ensures { (k : ℕ) → k < 64 → (bit_at result k == 1) ≡ true → (floor ≤ slice_index defs.now k) × IsInside floor (level_before before defs.now k) }
+    ensures { (k : ℕ) → k < 64 → (bit_at result k == 1) ≡ true → (floor ≤ slice_index defs.now k)
+        × IsInside floor (level_before before defs.now k) }
 {
     if floor > 255 {
         return 0;
@@ -170,7 +174,8 @@ fn inner_word(before: Option<usize>, defs: &BlockLevels, floor: usize) -> u64
 #[inline(always)]
 fn inner_behind(begun: u64, before: Option<usize>, defs: &BlockLevels, floor: usize) -> u64
     requires { length defs.now ≡ 64 }
-    ensures { (k : ℕ) → k < 64 → (bit_at result k == 1) ≡ true → (floor ≤ slice_index defs.now k) × IsInside floor (level_before before defs.now k) }
+    ensures { (k : ℕ) → k < 64 → (bit_at result k == 1) ≡ true → (floor ≤ slice_index defs.now k)
+        × IsInside floor (level_before before defs.now k) }
 {
     if begun == u64::MAX {
         return 0;
@@ -192,7 +197,8 @@ fn plain_word(
     requires lists { lists ≡ max_repetition (kept_way nested.now) }
     requires floor { floor ≡ inside (kept_way nested.now) lists }
     requires within { (k : ℕ) → k < 64 → slice_index reps.now k ≤ lists }
-    ensures { (k : ℕ) → k < 64 → (bit_at result k == 1) ≡ true → MayComeAt (kept_way nested.now) before reps.now defs.now k }
+    ensures { (k : ℕ) → k < 64 → (bit_at result k == 1) ≡ true
+        → MayComeAt (kept_way nested.now) before reps.now defs.now k }
 {
     let begun = reps.at(0);
     begun | inner_behind(begun, before, defs, floor)
@@ -209,7 +215,8 @@ fn list_word(
     requires reps { length reps.now ≡ 64 }
     requires defs { length defs.now ≡ 64 }
     requires few { list ≤ 255 }
-    ensures { (k : ℕ) → k < 64 → (bit_at result k == 1) ≡ true → MayComeAt (kept_way nested.now) before reps.now defs.now k }
+    ensures { (k : ℕ) → k < 64 → (bit_at result k == 1) ≡ true
+        → MayComeAt (kept_way nested.now) before reps.now defs.now k }
 {
     let floor = nested.inside(list);
     reps.at(list as u8) & inner_word(before, defs, floor)
@@ -302,7 +309,8 @@ fn may_follow(
 // The same as `inner_word` of levels that may be above 255.
 fn inner_bits(before: Option<usize>, defs: &[u32], floor: usize) -> u64
     requires { length defs.now ≡ 64 }
-    ensures { (k : ℕ) → k < 64 → (bit_at result k == 1) ≡ true → (floor ≤ slice_index defs.now k) × IsInside floor (level_before before defs.now k) }
+    ensures { (k : ℕ) → k < 64 → (bit_at result k == 1) ≡ true → (floor ≤ slice_index defs.now k)
+        × IsInside floor (level_before before defs.now k) }
 {
     if floor >= 0x1_0000_0000 {
         return 0;
@@ -326,7 +334,8 @@ fn plain_bits(
     requires lists { lists ≡ max_repetition (kept_way nested.now) }
     requires floor { floor ≡ inside (kept_way nested.now) lists }
     requires within { (k : ℕ) → k < 64 → slice_index reps.now k ≤ lists }
-    ensures { (k : ℕ) → k < 64 → (bit_at result k == 1) ≡ true → MayComeAt (kept_way nested.now) before reps.now defs.now k }
+    ensures { (k : ℕ) → k < 64 → (bit_at result k == 1) ≡ true
+        → MayComeAt (kept_way nested.now) before reps.now defs.now k }
 {
     levels_at(reps, 0) | inner_bits(before, defs, floor)
 }

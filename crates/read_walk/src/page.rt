@@ -48,7 +48,9 @@ impl<'a> NestedPage<'a> {
         max_definition: usize,
         count: usize,
     ) -> Result<Self>
-        ensures { MatchResult result (λ items. (v w : ℕ) → IsWidth max_repetition v → IsWidth max_definition w → items ≡ page_items max_repetition v max_definition w count repetitions.now definitions.now) (λ e. (e ≡ Error.OutOfSpec S.S4) × ((2 ^ 32 ≤ max_repetition) ⊎ (2 ^ 32 ≤ max_definition))) }
+        ensures { MatchResult result (λ items. (v w : ℕ) → IsWidth max_repetition v → IsWidth max_definition w
+            → items ≡ page_items max_repetition v max_definition w count repetitions.now definitions.now)
+            (λ e. (e ≡ Error.OutOfSpec S.S4) × ((2 ^ 32 ≤ max_repetition) ⊎ (2 ^ 32 ≤ max_definition))) }
     {
         let rep_width = get_bit_width(max_repetition as u64);
         let def_width = get_bit_width(max_definition as u64);
@@ -98,7 +100,8 @@ impl<'a> NestedPage<'a> {
         defs: &mut BlockLevels,
     ) -> Option<usize>
         requires { AreLevels (kept_way nested.now) way.lists way.top way.floor }
-        ensures taken { MatchOption result (self.new ≡ self.old) (λ begun. TakesBlock rows self.old (Some (Ok begun)) reps.new defs.new self.new) }
+        ensures taken { MatchOption result (self.new ≡ self.old) (λ begun. TakesBlock rows self.old
+            (Some (Ok begun)) reps.new defs.new self.new) }
         ensures may { IfSome result (λ begun. MayTake nested.now way.top before reps.new defs.new) }
     {
         next_told(&mut self.levels, rows, nested, way, before, reps, defs)

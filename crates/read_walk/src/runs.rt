@@ -60,7 +60,8 @@ fn standing_in(body: &[u8], width: u32, left: usize) -> usize
 
 // The next run; none where no run stands.
 fn next_run<'a>(runs: &mut Decoder<'a>) -> Option<Run<'a>>
-    ensures gives { MatchOption result (NoRun runs.old.num_bits runs.old.values.now) (λ run. IsRun runs.old.num_bits runs.old.values.now run runs.new.values.now) }
+    ensures gives { MatchOption result (NoRun runs.old.num_bits runs.old.values.now)
+        (λ run. IsRun runs.old.num_bits runs.old.values.now run runs.new.values.now) }
     ensures bits { runs.new.num_bits ≡ runs.old.num_bits }
     ensures shorter { OnSome result (length runs.new.values.now < length runs.old.values.now) }
 {
@@ -129,8 +130,10 @@ fn end<'a>(levels: &mut LevelRuns<'a>)
 fn find<'a>(levels: &mut LevelRuns<'a>) -> Result<()>
     requires is { IsReading levels.old }
     requires some { 0 < levels.old.left }
-    ensures found { OnOk result (IsReading levels.new × (runs_left levels.new ≡ runs_left levels.old) × (0 < levels.new.copies + levels.new.standing)) }
-    ensures failed { IfErr result (λ e. IsReading levels.new × (runs_left levels.old ≡ Err e ∷ []) × (runs_left levels.new ≡ [])) }
+    ensures found { OnOk result (IsReading levels.new × (runs_left levels.new ≡ runs_left levels.old)
+        × (0 < levels.new.copies + levels.new.standing)) }
+    ensures failed { IfErr result (λ e. IsReading levels.new × (runs_left levels.old ≡ Err e ∷ [])
+        × (runs_left levels.new ≡ [])) }
 {
     while levels.copies == 0 && levels.standing == 0 {
         let mut runs = Decoder::new(levels.runs.values, levels.runs.num_bits);
@@ -197,8 +200,10 @@ fn begin_short<'a>(levels: &mut LevelRuns<'a>)
 pub fn begin<'a>(levels: &mut LevelRuns<'a>) -> Result<()>
     requires is { IsReading levels.old }
     requires some { 0 < levels.old.left }
-    ensures found { OnOk result (IsReading levels.new × (runs_left levels.new ≡ runs_left levels.old) × (0 < levels.new.copies + levels.new.standing)) }
-    ensures failed { IfErr result (λ e. IsReading levels.new × (runs_left levels.old ≡ Err e ∷ []) × (runs_left levels.new ≡ [])) }
+    ensures found { OnOk result (IsReading levels.new × (runs_left levels.new ≡ runs_left levels.old)
+        × (0 < levels.new.copies + levels.new.standing)) }
+    ensures failed { IfErr result (λ e. IsReading levels.new × (runs_left levels.old ≡ Err e ∷ [])
+        × (runs_left levels.new ≡ [])) }
 {
     if levels.copies > 0 {
         return Ok(());
@@ -260,7 +265,8 @@ pub fn drop_packed<'a>(levels: &mut LevelRuns<'a>, count: usize)
     requires within { count ≤ levels.old.standing }
     requires short { count ≤ 64 }
     ensures is { IsReading levels.new }
-    ensures left { runs_left levels.old ≡ given (digits_of (2 ^ levels.old.runs.num_bits) count (number_of levels.old.packed.now / 2 ^ levels.old.shift)) ++ runs_left levels.new }
+    ensures left { runs_left levels.old ≡ given (digits_of (2 ^ levels.old.runs.num_bits) count
+        (number_of levels.old.packed.now / 2 ^ levels.old.shift)) ++ runs_left levels.new }
 {
     let width = levels.runs.num_bits;
     let next = levels.shift as usize + width as usize * count;

@@ -37,8 +37,10 @@ pub fn take_pairs<'a, D: NestedDecoder<'a>, L: Ledger>(
     requires ended { EndedAt before nested.old }
     requires decoded { length (D.slots decoded.old) ≡ leaf_count nested.old }
     requires suits { D.suits decoder.now decoded.old }
-    ensures ok { OnOk result (TookBlock before reps.now defs.now nested.old nested.new (D.slots decoded.old) (D.slots decoded.new) (D.left decoder.now values.old) (D.left decoder.now values.new)) }
-    ensures err { IfErr result (CannotTake D.byte_limit reps.now defs.now nested.old (D.left decoder.now values.old) (D.slots decoded.old)) }
+    ensures ok { OnOk result (TookBlock before reps.now defs.now nested.old nested.new (D.slots decoded.old)
+        (D.slots decoded.new) (D.left decoder.now values.old) (D.left decoder.now values.new)) }
+    ensures err { IfErr result (CannotTake D.byte_limit reps.now defs.now nested.old (D.left decoder.now values.old)
+        (D.slots decoded.old)) }
     ensures ticked { TicksAtMost (length nested.old) steps.old steps.new }
     ensures suits { D.suits decoder.now decoded.new }
 {
@@ -71,8 +73,10 @@ pub fn take_all<'a, D: NestedDecoder<'a>, L: Ledger>(
     requires ended { EndedAt before nested.old }
     requires decoded { length (D.slots decoded.old) ≡ leaf_count nested.old }
     requires suits { D.suits decoder.now decoded.old }
-    ensures ok { OnOk result (TookBlock before block.now.0 block.now.1 nested.old nested.new (D.slots decoded.old) (D.slots decoded.new) (D.left decoder.now values.old) (D.left decoder.now values.new)) }
-    ensures err { IfErr result (CannotTake D.byte_limit block.now.0 block.now.1 nested.old (D.left decoder.now values.old) (D.slots decoded.old)) }
+    ensures ok { OnOk result (TookBlock before block.now.0 block.now.1 nested.old nested.new (D.slots decoded.old)
+        (D.slots decoded.new) (D.left decoder.now values.old) (D.left decoder.now values.new)) }
+    ensures err { IfErr result (CannotTake D.byte_limit block.now.0 block.now.1 nested.old
+        (D.left decoder.now values.old) (D.slots decoded.old)) }
     ensures ticked { TicksAtMost (length nested.old) steps.old steps.new }
     ensures suits { D.suits decoder.now decoded.new }
 {
@@ -104,8 +108,10 @@ pub fn take_told<'a, D: NestedDecoder<'a>, L: Ledger>(
     requires ended { EndedAt before nested.old }
     requires decoded { length (D.slots decoded.old) ≡ leaf_count nested.old }
     requires suits { D.suits decoder.now decoded.old }
-    ensures ok { OnOk result (TookBlock before reps.now defs.now nested.old nested.new (D.slots decoded.old) (D.slots decoded.new) (D.left decoder.now values.old) (D.left decoder.now values.new)) }
-    ensures err { IfErr result (CannotTake D.byte_limit reps.now defs.now nested.old (D.left decoder.now values.old) (D.slots decoded.old)) }
+    ensures ok { OnOk result (TookBlock before reps.now defs.now nested.old nested.new (D.slots decoded.old)
+        (D.slots decoded.new) (D.left decoder.now values.old) (D.left decoder.now values.new)) }
+    ensures err { IfErr result (CannotTake D.byte_limit reps.now defs.now nested.old (D.left decoder.now values.old)
+        (D.slots decoded.old)) }
     ensures ticked { TicksAtMost (length nested.old) steps.old steps.new }
     ensures suits { D.suits decoder.now decoded.new }
 {
@@ -138,8 +144,10 @@ pub fn take_block<'a, D: NestedDecoder<'a>, L: Ledger>(
     requires ended { EndedAt before nested.old }
     requires decoded { length (D.slots decoded.old) ≡ leaf_count nested.old }
     requires suits { D.suits decoder.now decoded.old }
-    ensures ok { OnOk result (TookBlock before reps.now defs.now nested.old nested.new (D.slots decoded.old) (D.slots decoded.new) (D.left decoder.now values.old) (D.left decoder.now values.new)) }
-    ensures err { IfErr result (CannotTake D.byte_limit reps.now defs.now nested.old (D.left decoder.now values.old) (D.slots decoded.old)) }
+    ensures ok { OnOk result (TookBlock before reps.now defs.now nested.old nested.new (D.slots decoded.old)
+        (D.slots decoded.new) (D.left decoder.now values.old) (D.left decoder.now values.new)) }
+    ensures err { IfErr result (CannotTake D.byte_limit reps.now defs.now nested.old (D.left decoder.now values.old)
+        (D.slots decoded.old)) }
     ensures ticked { TicksAtMost (length nested.old) steps.old steps.new }
     ensures suits { D.suits decoder.now decoded.new }
 {
@@ -173,8 +181,10 @@ pub fn take_copies<'a, D: NestedDecoder<'a>, L: Ledger>(
     requires ended { EndedAt before nested.old }
     requires decoded { length (D.slots decoded.old) ≡ leaf_count nested.old }
     requires suits { D.suits decoder.now decoded.old }
-    ensures ok { OnOk result (TookBlock before (replicate count rep) (replicate count level) nested.old nested.new (D.slots decoded.old) (D.slots decoded.new) (D.left decoder.now values.old) (D.left decoder.now values.new)) }
-    ensures err { IfErr result (CannotTake D.byte_limit (replicate count rep) (replicate count level) nested.old (D.left decoder.now values.old) (D.slots decoded.old)) }
+    ensures ok { OnOk result (TookBlock before (replicate count rep) (replicate count level) nested.old nested.new
+        (D.slots decoded.old) (D.slots decoded.new) (D.left decoder.now values.old) (D.left decoder.now values.new)) }
+    ensures err { IfErr result (CannotTake D.byte_limit (replicate count rep) (replicate count level) nested.old
+        (D.left decoder.now values.old) (D.slots decoded.old)) }
     ensures ticked { TicksAtMost (length nested.old) steps.old steps.new }
     ensures suits { D.suits decoder.now decoded.new }
 {

@@ -41,7 +41,8 @@ pub trait NestedDecoder<'a> {
         count: usize,
     ) -> Result<()>
         requires suits { suits self.now decoded.old }
-        ensures ok { OnOk result (Decodes count (left self.now state.old) (left self.now state.new) (slots decoded.old) (slots decoded.new)) }
+        ensures ok { OnOk result (Decodes count (left self.now state.old) (left self.now state.new) (slots decoded.old)
+            (slots decoded.new)) }
         ensures err { IfErr result (CannotDecode byte_limit count (left self.now state.old) (slots decoded.old)) }
         ensures suits { suits self.now decoded.new };
 
@@ -70,7 +71,9 @@ pub trait NestedDecoder<'a> {
     ) -> Result<()>
         requires few { count ≤ 64 }
         requires suits { suits self.now decoded.old }
-        ensures ok { OnOk result (DecodesMixed (word_bits valid count) (left self.now state.old) (left self.now state.new) (slots decoded.old) (slots decoded.new)) }
-        ensures err { IfErr result (CannotDecode byte_limit (ones (word_bits valid count)) (left self.now state.old) (slots decoded.old)) }
+        ensures ok { OnOk result (DecodesMixed (word_bits valid count) (left self.now state.old)
+            (left self.now state.new) (slots decoded.old) (slots decoded.new)) }
+        ensures err { IfErr result (CannotDecode byte_limit (ones (word_bits valid count)) (left self.now state.old)
+            (slots decoded.old)) }
         ensures suits { suits self.now decoded.new };
 }
