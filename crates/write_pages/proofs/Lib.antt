@@ -7,6 +7,7 @@ pub mod DictionaryRows
 pub mod Due
 pub mod EntryRows
 pub mod HiddenPaths
+pub mod JoinedRows
 pub mod KeyedArrays
 pub mod KeyedStored
 pub mod KnownRows

@@ -97,6 +97,10 @@ module _ (a : ArrayTree) (p : Physical) (nested : List Nested) (s : IsSound a) (
   pub rows_stated : (wanted : Bool) (stated : Option ChunkStatistics) → AreStated wanted (leaf_type (type_of a)) p (value_column a nested) stated → AreStated wanted (leaf_type (type_of a)) p ts stated
   rows_stated wanted stated h = subst (λ (xs : List Triple). AreStated wanted (leaf_type (type_of a)) p xs stated) column_is h
 
+  -- and back
+  pub values_stated : (wanted : Bool) (stated : Option ChunkStatistics) → AreStated wanted (leaf_type (type_of a)) p ts stated → AreStated wanted (leaf_type (type_of a)) p (value_column a nested) stated
+  values_stated wanted stated h = subst (λ (xs : List Triple). AreStated wanted (leaf_type (type_of a)) p xs stated) (sym column_is) h
+
   -- the room of the page, whatever is stored
   length_is : (stored : List Triple) → AreStored (leaf_type (type_of a)) p ts stored → length ts ≡ length stored
   length_is stored are = zip_long ts stored are

@@ -35,8 +35,10 @@ fn push_column(
     columns: &mut Vec<PageIter>,
 ) -> Result<()>
     requires { length nested.now ≤ 128 }
-    ensures ok { OnOk result (PushesColumn options type_.now (parts_of nested.now) (boxed array.now) encoding columns.old.items columns.new.items) }
-    ensures err { IfErr result (λ e. (e ≡ Memory) ⊎ RefusesColumn options (leaf_node type_.now) (parts_of nested.now) (boxed array.now) encoding e) }
+    ensures ok { OnOk result (PushesColumn options type_.now (parts_of nested.now)
+        (boxed array.now) encoding columns.old.items columns.new.items) }
+    ensures err { IfErr result (λ e. (e ≡ Memory) ⊎ RefusesColumn options (leaf_node type_.now) (parts_of nested.now)
+        (boxed array.now) encoding e) }
 {
     let type_ = type_.clone(alloc)?;
     match array_to_pages(alloc, array, type_, nested, options, encoding) {
@@ -59,8 +61,10 @@ fn pages_of_all(
     requires paths { length paths.now ≡ length types.now }
     requires encodings { length encoding.now ≡ length types.now }
     requires short { AreShort (all_parts paths.now) }
-    ensures ok { IfOk result (λ columns. AreColumns options (map leaf_node types.now) (all_parts paths.now) (shown arrays.entry.now) encoding.now (map to_give columns.items)) }
-    ensures err { IfErr result (λ e. (e ≡ Memory) ⊎ AnyRefused options (map leaf_node types.now) (all_parts paths.now) (shown arrays.entry.now) encoding.now e) }
+    ensures ok { IfOk result (λ columns. AreColumns options (map leaf_node types.now) (all_parts paths.now)
+        (shown arrays.entry.now) encoding.now (map to_give columns.items)) }
+    ensures err { IfErr result (λ e. (e ≡ Memory) ⊎ AnyRefused options (map leaf_node types.now) (all_parts paths.now)
+        (shown arrays.entry.now) encoding.now e) }
 {
     let mut columns = Vec::with_capacity(alloc, types.len())?;
     for i in 0..types.len() {
@@ -99,9 +103,16 @@ pub fn array_to_columns(
 ) -> Result<Vec<PageIter>>
     requires { AreShort (paths (boxed array.now) (tree_view type_.now)) }
     ensures fits { IfOk result (λ _. misfit (boxed array.now) (tree_view type_.now) ≡ None) }
-    ensures columns { IfOk result (λ its. AreColumns options (map node_of (leaves (tree_view type_.now))) (paths (boxed array.now) (tree_view type_.now)) (array_leaves (boxed array.now)) encoding.now (map to_give its.items)) }
-    ensures seen { IfOk result (λ _. AreSeen (slots (read_by (boxed array.now) (tree_view type_.now))) (ways (shape_by (boxed array.now) (tree_view type_.now))) (paths (boxed array.now) (tree_view type_.now)) (array_leaves (boxed array.now))) }
-    ensures err { IfErr result (λ e. (e ≡ Memory) ⊎ (misfit (boxed array.now) (tree_view type_.now) ≡ Some e) ⊎ ((e ≡ InvalidArgumentError A8) × (length encoding.now ≢ length (leaves (tree_view type_.now)))) ⊎ AnyRefused options (map node_of (leaves (tree_view type_.now))) (paths (boxed array.now) (tree_view type_.now)) (array_leaves (boxed array.now)) encoding.now e) }
+    ensures columns { IfOk result (λ its. AreColumns options (map node_of (leaves (tree_view type_.now)))
+        (paths (boxed array.now) (tree_view type_.now)) (array_leaves (boxed array.now)) encoding.now
+        (map to_give its.items)) }
+    ensures seen { IfOk result (λ _. AreSeen (slots (read_by (boxed array.now) (tree_view type_.now)))
+        (ways (shape_by (boxed array.now) (tree_view type_.now))) (paths (boxed array.now) (tree_view type_.now))
+        (array_leaves (boxed array.now))) }
+    ensures err { IfErr result (λ e. (e ≡ Memory) ⊎ (misfit (boxed array.now) (tree_view type_.now) ≡ Some e)
+        ⊎ ((e ≡ InvalidArgumentError A8) × (length encoding.now ≢ length (leaves (tree_view type_.now))))
+        ⊎ AnyRefused options (map node_of (leaves (tree_view type_.now)))
+        (paths (boxed array.now) (tree_view type_.now)) (array_leaves (boxed array.now)) encoding.now e) }
 {
     let found = to_nested(alloc, array, type_)?;
     let types = to_parquet_leaves(alloc, type_.clone(alloc)?)?;

@@ -59,7 +59,8 @@ pub fn cut_column(
     requires leaf { tree_len (boxed array.now) ≡ leaf_count_or 0 (parts_of nested.now) }
     requires rows { first + count ≤ slot_count (parts_of nested.now) }
     ensures ok { IfOk result (IsCutColumn (boxed array.now) (parts_of nested.now) first count) }
-    ensures tree { IfOk result (λ c. boxed c.array ≡ cut (boxed array.now) (leaf_rows (parts_of nested.now) first count).0 (leaf_rows (parts_of nested.now) first count).1) }
+    ensures tree { IfOk result (λ c. boxed c.array ≡ cut (boxed array.now)
+        (leaf_rows (parts_of nested.now) first count).0 (leaf_rows (parts_of nested.now) first count).1) }
     ensures path { IfOk result (λ c. parts_of c.nested.items ≡ cut_parts (parts_of nested.now) first count) }
     ensures err { IfErr result (λ e. e ≡ Memory) }
 {

@@ -40,7 +40,8 @@ pub fn array_to_pages(
     requires parts { length nested.now ≤ 128 }
     ensures ok { IfOk result (λ it. IsPagesOf options type_ (parts_of nested.now) array.now encoding (to_give it)) }
     ensures fits { IfOk result (λ _. AreWritten options type_ (parts_of nested.now) array.now encoding) }
-    ensures err { IfErr result (λ e. (e ≡ Memory) ⊎ RefusesPages options type_ (parts_of nested.now) array.now encoding e) }
+    ensures err { IfErr result (λ e. (e ≡ Memory) ⊎ RefusesPages options type_
+        (parts_of nested.now) array.now encoding e) }
 {
     let shared = ArrayBox::Dictionary(array.clone(alloc)?);
     match keyed_pages(alloc, &shared, array, type_, nested, options, encoding) {

@@ -129,8 +129,14 @@ pub fn check_written(
     nested: &[Nested],
     encoding: Encoding,
 ) -> Result<()>
-    ensures ok { OnOk result ((¬ IsUnwritten (parts_of nested.now) (type_of (boxed array.now)) (physical_view physical_type) encoding) × (is_written_along (parts_of nested.now) (boxed array.now) ≡ true)) }
-    ensures err { IfErr result (λ e. ((e ≡ NotYetImplemented N4) × IsUnwritten (parts_of nested.now) (type_of (boxed array.now)) (physical_view physical_type) encoding) ⊎ ((e ≡ NotYetImplemented N5) × (¬ IsUnwritten (parts_of nested.now) (type_of (boxed array.now)) (physical_view physical_type) encoding) × (is_written_along (parts_of nested.now) (boxed array.now) ≡ false))) }
+    ensures ok { OnOk result
+        ((¬ IsUnwritten (parts_of nested.now) (type_of (boxed array.now)) (physical_view physical_type) encoding)
+        × (is_written_along (parts_of nested.now) (boxed array.now) ≡ true)) }
+    ensures err { IfErr result (λ e. ((e ≡ NotYetImplemented N4)
+        × IsUnwritten (parts_of nested.now) (type_of (boxed array.now)) (physical_view physical_type) encoding)
+        ⊎ ((e ≡ NotYetImplemented N5)
+        × (¬ IsUnwritten (parts_of nested.now) (type_of (boxed array.now)) (physical_view physical_type) encoding)
+        × (is_written_along (parts_of nested.now) (boxed array.now) ≡ false))) }
 {
     if is_flat(nested) && !is_written_as(array.data_type(), physical_type, encoding) {
         return Err(Error::NotYetImplemented(N::N4));
@@ -167,8 +173,10 @@ fn check_nulls(alloc: Global, array: &ArrayBox, nested: &[Nested]) -> Result<()>
     requires null { is_null_type (base (type_of (boxed array.now))) ≡ true }
     requires in_bounds { IsInBounds (parts_of nested.now) }
     requires leaf { tree_len (boxed array.now) ≡ leaf_count_or 0 (parts_of nested.now) }
-    ensures ok { OnOk result (All (IsAlong (path_way (parts_of nested.now))) (rows_of (parts_of nested.now) (boxed array.now))) }
-    ensures err { IfErr result (λ e. (e ≡ Memory) ⊎ ((e ≡ InvalidArgumentError A8) × ¬ All (IsAlong (path_way (parts_of nested.now))) (rows_of (parts_of nested.now) (boxed array.now)))) }
+    ensures ok { OnOk result (All (IsAlong (path_way (parts_of nested.now)))
+        (rows_of (parts_of nested.now) (boxed array.now))) }
+    ensures err { IfErr result (λ e. (e ≡ Memory) ⊎ ((e ≡ InvalidArgumentError A8)
+        × ¬ All (IsAlong (path_way (parts_of nested.now))) (rows_of (parts_of nested.now) (boxed array.now)))) }
 {
     let whole = cut_column(alloc, array, nested, 0, slot_count(nested))?;
     match seen_path(alloc, &whole.array, &whole.nested) {
@@ -191,9 +199,14 @@ pub fn check_fit(
 ) -> Result<()>
     requires { is_written_along (parts_of nested.now) (boxed array.now) ≡ true }
     ensures in_bounds { OnOk result (IsInBounds (parts_of nested.now)) }
-    ensures fits { OnOk result (FitsColumn (parts_of nested.now) (rows_of (parts_of nested.now) (boxed array.now)) (leaf_view type_.now) (physical_view type_.now.physical_type) (boxed array.now)) }
-    ensures served { OnOk result (is_served (base (type_of (boxed array.now))) (physical_view type_.now.physical_type) ≡ true) }
-    ensures err { IfErr result (λ e. (e ≡ Memory) ⊎ ((e ≡ InvalidArgumentError A8) × ¬ (IsInBounds (parts_of nested.now) × FitsColumn (parts_of nested.now) (rows_of (parts_of nested.now) (boxed array.now)) (leaf_view type_.now) (physical_view type_.now.physical_type) (boxed array.now)))) }
+    ensures fits { OnOk result (FitsColumn (parts_of nested.now) (rows_of (parts_of nested.now) (boxed array.now))
+        (leaf_view type_.now) (physical_view type_.now.physical_type) (boxed array.now)) }
+    ensures served { OnOk result (is_served (base (type_of (boxed array.now))) (physical_view type_.now.physical_type)
+        ≡ true) }
+    ensures err { IfErr result (λ e. (e ≡ Memory) ⊎ ((e ≡ InvalidArgumentError A8)
+        × ¬ (IsInBounds (parts_of nested.now) × FitsColumn (parts_of nested.now)
+        (rows_of (parts_of nested.now) (boxed array.now)) (leaf_view type_.now)
+        (physical_view type_.now.physical_type) (boxed array.now)))) }
 {
     array.know();
     if !is_in_bounds(nested) {

@@ -74,8 +74,11 @@ pub fn check_keys_written(
     nested: &[Nested],
     encoding: Encoding,
 ) -> Result<()>
-    ensures ok { OnOk result ((is_dictionary_encoding encoding ≡ true) × (is_keyed_in (is_flat_path (parts_of nested.now)) (base (type_of keyed.now)) ≡ true)) }
-    ensures err { IfErr result (λ e. ((e ≡ NotYetImplemented N4) × (is_dictionary_encoding encoding ≡ false)) ⊎ ((e ≡ NotYetImplemented N5) × (is_dictionary_encoding encoding ≡ true) × (is_keyed_in (is_flat_path (parts_of nested.now)) (base (type_of keyed.now)) ≡ false))) }
+    ensures ok { OnOk result ((is_dictionary_encoding encoding ≡ true)
+        × (is_keyed_in (is_flat_path (parts_of nested.now)) (base (type_of keyed.now)) ≡ true)) }
+    ensures err { IfErr result (λ e. ((e ≡ NotYetImplemented N4) × (is_dictionary_encoding encoding ≡ false))
+        ⊎ ((e ≡ NotYetImplemented N5) × (is_dictionary_encoding encoding ≡ true)
+        × (is_keyed_in (is_flat_path (parts_of nested.now)) (base (type_of keyed.now)) ≡ false))) }
 {
     keyed.know();
     if !is_dictionary_encoding(encoding) {
@@ -95,8 +98,11 @@ pub fn check_keyed_fit(
     nested: &[Nested],
 ) -> Result<()>
     requires same { keyed.now ≡ boxed array.now }
-    ensures ok { OnOk result (FitsKeys (parts_of nested.now) (leaf_view type_.now) (physical_view type_.now.physical_type) (boxed array.now)) }
-    ensures err { IfErr result (λ e. (e ≡ InvalidArgumentError A8) × ¬ FitsKeys (parts_of nested.now) (leaf_view type_.now) (physical_view type_.now.physical_type) (boxed array.now)) }
+    ensures ok { OnOk result (FitsKeys (parts_of nested.now) (leaf_view type_.now)
+        (physical_view type_.now.physical_type) (boxed array.now)) }
+    ensures err { IfErr result (λ e. (e ≡ InvalidArgumentError A8)
+        × ¬ FitsKeys (parts_of nested.now) (leaf_view type_.now) (physical_view type_.now.physical_type)
+        (boxed array.now)) }
 {
     if !is_in_bounds(nested) {
         return Err(MISFIT);

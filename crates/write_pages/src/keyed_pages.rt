@@ -73,8 +73,11 @@ fn entry_page(
     physical_type: PhysicalType,
 ) -> Result<DictPage>
     requires { is_entry (base (type_of (child_of array.now))) (physical_view physical_type) ≡ true }
-    ensures ok { IfOk result (HoldsEntries (leaf_type (type_of array.now)) (physical_view physical_type) (entries_of (child_of array.now))) }
-    ensures err { IfErr result (λ e. (e ≡ Memory) ⊎ ((e ≡ Overflow V3) × IsDictionaryPastRoom (leaf_type (type_of array.now)) (physical_view physical_type) (Some (entries_of (child_of array.now))))) }
+    ensures ok { IfOk result (HoldsEntries (leaf_type (type_of array.now)) (physical_view physical_type)
+        (entries_of (child_of array.now))) }
+    ensures err { IfErr result (λ e. (e ≡ Memory) ⊎ ((e ≡ Overflow V3)
+        × IsDictionaryPastRoom (leaf_type (type_of array.now)) (physical_view physical_type)
+        (Some (entries_of (child_of array.now))))) }
 {
     array.know();
     dictionary_page(alloc, array.values(), physical_type)
@@ -91,10 +94,17 @@ fn rows_page(
     requires well { IsPath (parts_of nested.now) }
     requires parts { length nested.now ≤ 128 }
     requires leaf { tree_len array.now ≡ leaf_count_or 0 (parts_of nested.now) }
-    requires rows { AreRowsOf (leaf_type (type_of array.now)) (path_way (parts_of nested.now)) (path_slots (leaf_slot array.now) (parts_of nested.now)) }
+    requires rows { AreRowsOf (leaf_type (type_of array.now)) (path_way (parts_of nested.now))
+        (path_slots (leaf_slot array.now) (parts_of nested.now)) }
     requires entries { is_entry (base (type_of (child_of array.now))) (physical_view type_.now.physical_type) ≡ true }
-    ensures ok { IfOk result (HoldsRows options dictionary (leaf_type (type_of array.now)) (leaf_view type_.now) (physical_view type_.now.physical_type) (path_way (parts_of nested.now)) (Some (entries_of (child_of array.now))) (path_slots (leaf_slot array.now) (parts_of nested.now))) }
-    ensures err { IfErr result (λ e. (e ≡ Memory) ⊎ ((e ≡ Overflow V3) × (IsDictionaryPastRoom (leaf_type (type_of array.now)) (physical_view type_.now.physical_type) (Some (entries_of (child_of array.now))) ⊎ IsPastRoom (leaf_type (type_of array.now)) (physical_view type_.now.physical_type) (column (path_way (parts_of nested.now)) (path_slots (leaf_slot array.now) (parts_of nested.now)))))) }
+    ensures ok { IfOk result (HoldsRows options dictionary (leaf_type (type_of array.now)) (leaf_view type_.now)
+        (physical_view type_.now.physical_type) (path_way (parts_of nested.now))
+        (Some (entries_of (child_of array.now))) (path_slots (leaf_slot array.now) (parts_of nested.now))) }
+    ensures err { IfErr result (λ e. (e ≡ Memory) ⊎ ((e ≡ Overflow V3)
+        × (IsDictionaryPastRoom (leaf_type (type_of array.now)) (physical_view type_.now.physical_type)
+        (Some (entries_of (child_of array.now))) ⊎ IsPastRoom (leaf_type (type_of array.now))
+        (physical_view type_.now.physical_type) (column (path_way (parts_of nested.now))
+        (path_slots (leaf_slot array.now) (parts_of nested.now)))))) }
 {
     array.know();
     let type_ = type_.clone(alloc)?;
@@ -195,9 +205,11 @@ pub fn keyed_pages(
 ) -> Result<DictionaryPages>
     requires same { keyed.now ≡ boxed array.now }
     requires parts { length nested.now ≤ 128 }
-    ensures ok { IfOk result (λ it. IsPagesOf options type_ (parts_of nested.now) (boxed array.now) encoding (dictionary_to_give it)) }
+    ensures ok { IfOk result (λ it. IsPagesOf options type_ (parts_of nested.now) (boxed array.now) encoding
+        (dictionary_to_give it)) }
     ensures fits { IfOk result (λ _. AreWritten options type_ (parts_of nested.now) (boxed array.now) encoding) }
-    ensures err { IfErr result (λ e. (e ≡ Memory) ⊎ RefusesPages options type_ (parts_of nested.now) (boxed array.now) encoding e) }
+    ensures err { IfErr result (λ e. (e ≡ Memory) ⊎ RefusesPages options type_ (parts_of nested.now)
+        (boxed array.now) encoding e) }
 {
     keyed.know();
     check_keys_written(keyed, nested, encoding)?;

@@ -19,7 +19,8 @@ pub fn is_dictionary(data_type: &DataType) -> bool
 // The array as a dictionary, and none where it is of another type.
 #[tactic(auto, using(crate::proofs::KeyedArrays::no_keys))]
 pub fn as_dictionary(array: &ArrayBox) -> Option<&DictionaryArray>
-    ensures { MatchOption result (is_dictionary (base (type_of (boxed array.now))) ≡ false) (λ keyed. keyed.now ≡ boxed array.now) }
+    ensures { MatchOption result (is_dictionary (base (type_of (boxed array.now))) ≡ false) (λ keyed. keyed.now
+        ≡ boxed array.now) }
 {
     array.know();
     match array {

@@ -2,34 +2,31 @@
 ghost use Rattle.std.specs.Prelude.{◌≡◌, ◌⊎◌, ◌+◌, ◌<◌, ◌≤◌, take, drop, true, false, length, option_map, All, IfOk, IfErr};
 ghost use Rattle.shredding.specs.Along.{IsAlong};
 ghost use Rattle.shredding.specs.Parts.{path_way, slot_count};
-ghost use Rattle.shredding.specs.Shape.{LeafType};
 ghost use Rattle.shredding.specs.Shred.{column};
 ghost use Rattle.columns_base.specs.declared.error.Error.TheVariants.{Memory, Overflow};
 ghost use Rattle.columns_base.specs.declared.error.V.TheVariants.{V3};
 ghost use Rattle.columns_array.specs.Boxed.{boxed};
 ghost use Rattle.columns_core.specs.Shapes.{base, leaf_type};
 ghost use Rattle.columns_slots.specs.Slots.{tree_len, type_of};
-ghost use Rattle.columns_slots.specs.Tree.{ArrayTree};
 ghost use Rattle.levels.specs.InBounds.{IsInBounds};
 ghost use Rattle.levels.specs.Nested.{parts_of};
 ghost use Rattle.levels.specs.Ranges.{leaf_count_or};
 ghost use Rattle.pq_tree.specs.TreeViews.{leaf_view};
-ghost use Rattle.pq_tree.specs.Physical.{Physical};
 ghost use Rattle.schema_to_tree.specs.Encodes.{is_dictionary};
 ghost use Rattle.pq_tree.specs.Views.{physical_view, statistics_view};
 ghost use Rattle.write_values.specs.Deltas.{encoding_name, page_encoding};
 ghost use Rattle.write_values.specs.Served.{is_served};
 ghost use Rattle.write_pages.specs.Holds.{HoldsRows, IsPagesOf, rows_of, leaf_to_give};
-ghost use Rattle.write_pages.specs.KnownColumns.{IsKnown};
+ghost use Rattle.write_pages.specs.KnownColumns.{IsKnown, IsKnownPage};
 ghost use Rattle.write_pages.specs.Refused.{AreWritten, Gives, HasWide, IsPastRoom, RefusesPages};
-ghost use Rattle.write_pages.specs.Sized.{AreMeasured, IsByRule};
 
 use crate::cut_column::{copy_path, seen_column};
 use crate::fit::{check_fit, check_written, wants_deltas};
-use crate::known_column::{KnownColumn, known_column, whole_page};
+use crate::known_column::{KnownColumn, known_column, known_page_at, whole_page};
+use crate::known_pages::{KnownPage, page_of};
 use crate::options::WriteOptions;
 use crate::page::page_of_rows;
-use crate::rule::rows_per_page;
+use crate::rule::page_rows;
 use columns_array::ArrayBox;
 use columns_core::Result;
 use levels::{Nested, slot_count};
@@ -91,10 +88,18 @@ fn page_at(
     requires reached { All (IsAlong (path_way (parts_of nested.now))) (rows_of (parts_of nested.now) (boxed array.now)) }
     requires leaf { tree_len (boxed array.now) ≡ leaf_count_or 0 (parts_of nested.now) }
     requires served { is_served (base (type_of (boxed array.now))) (physical_view type_.now.physical_type) ≡ true }
-    requires held { ¬ HasWide (leaf_type (type_of (boxed array.now))) (physical_view type_.now.physical_type) (column (path_way (parts_of nested.now)) (rows_of (parts_of nested.now) (boxed array.now))) }
+    requires held { ¬ HasWide (leaf_type (type_of (boxed array.now))) (physical_view type_.now.physical_type)
+        (column (path_way (parts_of nested.now)) (rows_of (parts_of nested.now) (boxed array.now))) }
     requires rows { first + count ≤ slot_count (parts_of nested.now) }
-    ensures ok { IfOk result (HoldsRows options (page_encoding with_deltas (leaf_type (type_of (boxed array.now))) (physical_view type_.now.physical_type)) (leaf_type (type_of (boxed array.now))) (leaf_view type_.now) (physical_view type_.now.physical_type) (path_way (parts_of nested.now)) None (take count (drop first (rows_of (parts_of nested.now) (boxed array.now))))) }
-    ensures err { IfErr result (λ e. (e ≡ Memory) ⊎ ((e ≡ Overflow V3) × IsPastRoom (leaf_type (type_of (boxed array.now))) (physical_view type_.now.physical_type) (column (path_way (parts_of nested.now)) (take count (drop first (rows_of (parts_of nested.now) (boxed array.now))))))) }
+    ensures ok { IfOk result (HoldsRows options
+        (page_encoding with_deltas (leaf_type (type_of (boxed array.now))) (physical_view type_.now.physical_type))
+        (leaf_type (type_of (boxed array.now))) (leaf_view type_.now) (physical_view type_.now.physical_type)
+        (path_way (parts_of nested.now)) None
+        (take count (drop first (rows_of (parts_of nested.now) (boxed array.now))))) }
+    ensures err { IfErr result (λ e. (e ≡ Memory) ⊎ ((e ≡ Overflow V3)
+        × IsPastRoom (leaf_type (type_of (boxed array.now))) (physical_view type_.now.physical_type)
+        (column (path_way (parts_of nested.now)) (take count
+        (drop first (rows_of (parts_of nested.now) (boxed array.now))))))) }
 {
     let rows = seen_column(alloc, array, nested, first, count)?;
     let type_ = type_.clone(alloc)?;
@@ -107,6 +112,63 @@ fn page_at(
         with_deltas,
     )?;
     Ok(page)
+}
+
+// The same, of a column of which some pages are known: of the values of these nothing is looked for again.
+fn some_page(
+    alloc: Global,
+    array: &ArrayBox,
+    type_: &PrimitiveType,
+    nested: &[Nested],
+    options: WriteOptions,
+    with_deltas: bool,
+    pages: &[KnownPage],
+    first: usize,
+    count: usize,
+) -> Result<DataPage>
+    requires in_bounds { IsInBounds (parts_of nested.now) }
+    requires parts { length nested.now ≤ 128 }
+    requires reached { All (IsAlong (path_way (parts_of nested.now))) (rows_of (parts_of nested.now) (boxed array.now)) }
+    requires leaf { tree_len (boxed array.now) ≡ leaf_count_or 0 (parts_of nested.now) }
+    requires served { is_served (base (type_of (boxed array.now))) (physical_view type_.now.physical_type) ≡ true }
+    requires held { ¬ HasWide (leaf_type (type_of (boxed array.now))) (physical_view type_.now.physical_type)
+        (column (path_way (parts_of nested.now)) (rows_of (parts_of nested.now) (boxed array.now))) }
+    requires rows { first + count ≤ slot_count (parts_of nested.now) }
+    requires known { All (IsKnownPage options.write_statistics (boxed array.now) (parts_of nested.now)
+        (physical_view type_.now.physical_type)) pages.now }
+    ensures ok { IfOk result (HoldsRows options
+        (page_encoding with_deltas (leaf_type (type_of (boxed array.now))) (physical_view type_.now.physical_type))
+        (leaf_type (type_of (boxed array.now))) (leaf_view type_.now) (physical_view type_.now.physical_type)
+        (path_way (parts_of nested.now)) None
+        (take count (drop first (rows_of (parts_of nested.now) (boxed array.now))))) }
+    ensures err { IfErr result (λ e. (e ≡ Memory) ⊎ ((e ≡ Overflow V3)
+        × IsPastRoom (leaf_type (type_of (boxed array.now))) (physical_view type_.now.physical_type)
+        (column (path_way (parts_of nested.now)) (take count
+        (drop first (rows_of (parts_of nested.now) (boxed array.now))))))) }
+{
+    match page_of(pages, first, count) {
+        Some(known) => known_page_at(
+            alloc,
+            array,
+            type_,
+            nested,
+            options,
+            with_deltas,
+            first,
+            count,
+            known,
+        ),
+        None => page_at(
+            alloc,
+            array,
+            type_,
+            nested,
+            options,
+            with_deltas,
+            first,
+            count,
+        ),
+    }
 }
 
 // The same, of a column all of whose rows are known: where the page has them all, nothing is looked for again.
@@ -126,20 +188,30 @@ fn piece_page(
     requires reached { All (IsAlong (path_way (parts_of nested.now))) (rows_of (parts_of nested.now) (boxed array.now)) }
     requires leaf { tree_len (boxed array.now) ≡ leaf_count_or 0 (parts_of nested.now) }
     requires served { is_served (base (type_of (boxed array.now))) (physical_view type_.now.physical_type) ≡ true }
-    requires held { ¬ HasWide (leaf_type (type_of (boxed array.now))) (physical_view type_.now.physical_type) (column (path_way (parts_of nested.now)) (rows_of (parts_of nested.now) (boxed array.now))) }
+    requires held { ¬ HasWide (leaf_type (type_of (boxed array.now))) (physical_view type_.now.physical_type)
+        (column (path_way (parts_of nested.now)) (rows_of (parts_of nested.now) (boxed array.now))) }
     requires rows { first + count ≤ slot_count (parts_of nested.now) }
-    requires known { IsKnown options.write_statistics (boxed array.now) (parts_of nested.now) (physical_view type_.now.physical_type) whole.now }
-    ensures ok { IfOk result (HoldsRows options (page_encoding with_deltas (leaf_type (type_of (boxed array.now))) (physical_view type_.now.physical_type)) (leaf_type (type_of (boxed array.now))) (leaf_view type_.now) (physical_view type_.now.physical_type) (path_way (parts_of nested.now)) None (take count (drop first (rows_of (parts_of nested.now) (boxed array.now))))) }
-    ensures err { IfErr result (λ e. (e ≡ Memory) ⊎ ((e ≡ Overflow V3) × IsPastRoom (leaf_type (type_of (boxed array.now))) (physical_view type_.now.physical_type) (column (path_way (parts_of nested.now)) (take count (drop first (rows_of (parts_of nested.now) (boxed array.now))))))) }
+    requires known { IsKnown options.write_statistics (boxed array.now) (parts_of nested.now)
+        (physical_view type_.now.physical_type) whole.now }
+    ensures ok { IfOk result (HoldsRows options
+        (page_encoding with_deltas (leaf_type (type_of (boxed array.now))) (physical_view type_.now.physical_type))
+        (leaf_type (type_of (boxed array.now))) (leaf_view type_.now) (physical_view type_.now.physical_type)
+        (path_way (parts_of nested.now)) None
+        (take count (drop first (rows_of (parts_of nested.now) (boxed array.now))))) }
+    ensures err { IfErr result (λ e. (e ≡ Memory) ⊎ ((e ≡ Overflow V3)
+        × IsPastRoom (leaf_type (type_of (boxed array.now))) (physical_view type_.now.physical_type)
+        (column (path_way (parts_of nested.now)) (take count
+        (drop first (rows_of (parts_of nested.now) (boxed array.now))))))) }
 {
     if count < slot_count(nested) {
-        return page_at(
+        return some_page(
             alloc,
             array,
             type_,
             nested,
             options,
             with_deltas,
+            &whole.pages,
             first,
             count,
         );
@@ -204,18 +276,6 @@ impl LeafPages {
     }
 }
 
-// How many rows of a path in bounds, whose values have so many plain bytes, stand in a page by the row rule, and one where there is no row.
-fn page_rows(nested: &[Nested], limit: Option<usize>, plain: u128) -> usize
-    ensures some { 0 < result }
-    ensures rule { (t : LeafType) (p : Physical) (a : ArrayTree) → AreMeasured t p (path_way (parts_of nested.now)) (rows_of (parts_of nested.now) a) plain → IsByRule limit t p (path_way (parts_of nested.now)) (rows_of (parts_of nested.now) a) result }
-{
-    let rows = slot_count(nested);
-    if rows == 0 {
-        return 1;
-    }
-    rows_per_page(limit, plain, rows)
-}
-
 // The pages of a column of values. The first condition that holds is told.
 pub fn leaf_pages(
     alloc: Global,
@@ -227,9 +287,12 @@ pub fn leaf_pages(
 ) -> Result<LeafPages>
     requires parts { length nested.now ≤ 128 }
     requires plain { is_dictionary (base (type_of (boxed primitive_array.now))) ≡ false }
-    ensures ok { IfOk result (λ it. IsPagesOf options type_ (parts_of nested.now) (boxed primitive_array.now) encoding (leaf_to_give it)) }
-    ensures fits { IfOk result (λ _. AreWritten options type_ (parts_of nested.now) (boxed primitive_array.now) encoding) }
-    ensures err { IfErr result (λ e. (e ≡ Memory) ⊎ RefusesPages options type_ (parts_of nested.now) (boxed primitive_array.now) encoding e) }
+    ensures ok { IfOk result (λ it. IsPagesOf options type_ (parts_of nested.now) (boxed primitive_array.now) encoding
+        (leaf_to_give it)) }
+    ensures fits { IfOk result (λ _. AreWritten options type_ (parts_of nested.now)
+        (boxed primitive_array.now) encoding) }
+    ensures err { IfErr result (λ e. (e ≡ Memory) ⊎ RefusesPages options type_ (parts_of nested.now)
+        (boxed primitive_array.now) encoding e) }
 {
     primitive_array.know();
     check_written(primitive_array, type_.physical_type, nested, encoding)?;
@@ -240,6 +303,7 @@ pub fn leaf_pages(
         type_.physical_type,
         nested,
         options.write_statistics,
+        options.data_pagesize_limit,
     )?;
     let per_page = page_rows(
         nested,

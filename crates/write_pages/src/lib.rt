@@ -10,6 +10,7 @@ mod keyed_fit;
 mod keyed_pages;
 mod keys;
 mod known_column;
+mod known_pages;
 mod leaf_pages;
 mod nulls;
 mod options;

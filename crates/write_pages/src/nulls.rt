@@ -128,8 +128,11 @@ pub fn seen_path(alloc: Global, array: &ArrayBox, nested: &[Nested]) -> Result<V
     requires well { IsPath (parts_of nested.now) }
     requires leaf { tree_len (boxed array.now) ≡ leaf_count_or 0 (parts_of nested.now) }
     ensures ok { IfOk result (λ path. IsSeenPath (boxed array.now) (parts_of nested.now) (parts_of path.items)) }
-    ensures reached { IfOk result (λ _. All (IsAlong (path_way (parts_of nested.now))) (path_slots (leaf_slot (boxed array.now)) (parts_of nested.now))) }
-    ensures err { IfErr result (λ e. (e ≡ Memory) ⊎ ((e ≡ InvalidArgumentError A8) × ¬ All (IsAlong (path_way (parts_of nested.now))) (path_slots (leaf_slot (boxed array.now)) (parts_of nested.now)))) }
+    ensures reached { IfOk result (λ _. All (IsAlong (path_way (parts_of nested.now)))
+        (path_slots (leaf_slot (boxed array.now)) (parts_of nested.now))) }
+    ensures err { IfErr result (λ e. (e ≡ Memory) ⊎ ((e ≡ InvalidArgumentError A8)
+        × ¬ All (IsAlong (path_way (parts_of nested.now)))
+        (path_slots (leaf_slot (boxed array.now)) (parts_of nested.now)))) }
 {
     array.know();
     let path = hidden_path(alloc, nested)?;

@@ -51,9 +51,15 @@ pub fn page_of_rows(
     requires leaf { tree_len (boxed array.now) ≡ leaf_count_or 0 (parts_of nested.now) }
     requires nulls { TellsNulls (boxed array.now) (parts_of nested.now) }
     requires served { is_served (base (type_of (boxed array.now))) (physical_view type_.physical_type) ≡ true }
-    requires held { ¬ HasWide (leaf_type (type_of (boxed array.now))) (physical_view type_.physical_type) (column (path_way (parts_of nested.now)) (path_slots (leaf_slot (boxed array.now)) (parts_of nested.now))) }
-    ensures ok { IfOk result (HoldsRows options (page_encoding with_deltas (leaf_type (type_of (boxed array.now))) (physical_view type_.physical_type)) (leaf_type (type_of (boxed array.now))) (leaf_view type_) (physical_view type_.physical_type) (path_way (parts_of nested.now)) None (path_slots (leaf_slot (boxed array.now)) (parts_of nested.now))) }
-    ensures too_large { ComesWhere (Overflow V3) (IsPastRoom (leaf_type (type_of (boxed array.now))) (physical_view type_.physical_type) (column (path_way (parts_of nested.now)) (path_slots (leaf_slot (boxed array.now)) (parts_of nested.now)))) result }
+    requires held { ¬ HasWide (leaf_type (type_of (boxed array.now))) (physical_view type_.physical_type)
+        (column (path_way (parts_of nested.now)) (path_slots (leaf_slot (boxed array.now)) (parts_of nested.now))) }
+    ensures ok { IfOk result (HoldsRows options
+        (page_encoding with_deltas (leaf_type (type_of (boxed array.now))) (physical_view type_.physical_type))
+        (leaf_type (type_of (boxed array.now))) (leaf_view type_) (physical_view type_.physical_type)
+        (path_way (parts_of nested.now)) None (path_slots (leaf_slot (boxed array.now)) (parts_of nested.now))) }
+    ensures too_large { ComesWhere (Overflow V3) (IsPastRoom (leaf_type (type_of (boxed array.now)))
+        (physical_view type_.physical_type) (column (path_way (parts_of nested.now))
+        (path_slots (leaf_slot (boxed array.now)) (parts_of nested.now)))) result }
     ensures err { IfErr result (λ e. (e ≡ Memory) ⊎ (e ≡ Overflow V3)) }
 {
     array.know();
@@ -77,11 +83,18 @@ fn seen_page(
     requires well { IsPath (parts_of nested.now) }
     requires parts { length nested.now ≤ 128 }
     requires leaf { tree_len (boxed array.now) ≡ leaf_count_or 0 (parts_of nested.now) }
-    requires reached { All (IsAlong (path_way (parts_of nested.now))) (path_slots (leaf_slot (boxed array.now)) (parts_of nested.now)) }
+    requires reached { All (IsAlong (path_way (parts_of nested.now)))
+        (path_slots (leaf_slot (boxed array.now)) (parts_of nested.now)) }
     requires served { is_served (base (type_of (boxed array.now))) (physical_view type_.physical_type) ≡ true }
-    requires held { ¬ HasWide (leaf_type (type_of (boxed array.now))) (physical_view type_.physical_type) (column (path_way (parts_of nested.now)) (path_slots (leaf_slot (boxed array.now)) (parts_of nested.now))) }
-    ensures ok { IfOk result (HoldsRows options (page_encoding with_deltas (leaf_type (type_of (boxed array.now))) (physical_view type_.physical_type)) (leaf_type (type_of (boxed array.now))) (leaf_view type_) (physical_view type_.physical_type) (path_way (parts_of nested.now)) None (path_slots (leaf_slot (boxed array.now)) (parts_of nested.now))) }
-    ensures too_large { ComesWhere (Overflow V3) (IsPastRoom (leaf_type (type_of (boxed array.now))) (physical_view type_.physical_type) (column (path_way (parts_of nested.now)) (path_slots (leaf_slot (boxed array.now)) (parts_of nested.now)))) result }
+    requires held { ¬ HasWide (leaf_type (type_of (boxed array.now))) (physical_view type_.physical_type)
+        (column (path_way (parts_of nested.now)) (path_slots (leaf_slot (boxed array.now)) (parts_of nested.now))) }
+    ensures ok { IfOk result (HoldsRows options
+        (page_encoding with_deltas (leaf_type (type_of (boxed array.now))) (physical_view type_.physical_type))
+        (leaf_type (type_of (boxed array.now))) (leaf_view type_) (physical_view type_.physical_type)
+        (path_way (parts_of nested.now)) None (path_slots (leaf_slot (boxed array.now)) (parts_of nested.now))) }
+    ensures too_large { ComesWhere (Overflow V3) (IsPastRoom (leaf_type (type_of (boxed array.now)))
+        (physical_view type_.physical_type) (column (path_way (parts_of nested.now))
+        (path_slots (leaf_slot (boxed array.now)) (parts_of nested.now)))) result }
     ensures err { IfErr result (λ e. (e ≡ Memory) ⊎ (e ≡ Overflow V3)) }
 {
     array.know();
@@ -98,8 +111,11 @@ pub fn check_held(array: &ArrayBox, physical_type: PhysicalType, nested: &[Neste
     requires well { IsPath (parts_of nested.now) }
     requires leaf { tree_len (boxed array.now) ≡ leaf_count_or 0 (parts_of nested.now) }
     requires served { is_served (base (type_of (boxed array.now))) (physical_view physical_type) ≡ true }
-    ensures ok { OnOk result (¬ HasWide (leaf_type (type_of (boxed array.now))) (physical_view physical_type) (column (path_way (parts_of nested.now)) (path_slots (leaf_slot (boxed array.now)) (parts_of nested.now)))) }
-    ensures err { IfErr result (λ e. (e ≡ InvalidArgumentError A7) × HasWide (leaf_type (type_of (boxed array.now))) (physical_view physical_type) (column (path_way (parts_of nested.now)) (path_slots (leaf_slot (boxed array.now)) (parts_of nested.now)))) }
+    ensures ok { OnOk result (¬ HasWide (leaf_type (type_of (boxed array.now))) (physical_view physical_type)
+        (column (path_way (parts_of nested.now)) (path_slots (leaf_slot (boxed array.now)) (parts_of nested.now)))) }
+    ensures err { IfErr result (λ e. (e ≡ InvalidArgumentError A7)
+        × HasWide (leaf_type (type_of (boxed array.now))) (physical_view physical_type)
+        (column (path_way (parts_of nested.now)) (path_slots (leaf_slot (boxed array.now)) (parts_of nested.now)))) }
 {
     array.know();
     if has_wide(array, physical_type, nested) {
@@ -131,13 +147,37 @@ pub fn array_to_page(
 ) -> Result<Page>
     requires well { IsPath (parts_of nested.now) }
     requires parts { length nested.now ≤ 128 }
-    requires fits { FitsColumn (parts_of nested.now) (path_slots (leaf_slot (boxed array.now)) (parts_of nested.now)) (leaf_view type_) (physical_view type_.physical_type) (boxed array.now) }
-    ensures ok { IfOk result (λ p. (page : DataPageValue) × (p ≡ Data page) × (e : PageEncoding) × (written_encoding (leaf_type (type_of (boxed array.now))) (parts_of nested.now) encoding ≡ Some e) × HoldsRows options e (leaf_type (type_of (boxed array.now))) (leaf_view type_) (physical_view type_.physical_type) (path_way (parts_of nested.now)) None (path_slots (leaf_slot (boxed array.now)) (parts_of nested.now)) page) }
-    ensures form { ComesWhere (NotYetImplemented N4) (IsUnwritten (parts_of nested.now) (type_of (boxed array.now)) (physical_view type_.physical_type) encoding) result }
-    ensures unserved { ComesWhere (NotYetImplemented N5) ((¬ IsUnwritten (parts_of nested.now) (type_of (boxed array.now)) (physical_view type_.physical_type) encoding) × (is_written_along (parts_of nested.now) (boxed array.now) ≡ false)) result }
-    ensures too_wide { ComesWhere (InvalidArgumentError A7) ((¬ IsUnwritten (parts_of nested.now) (type_of (boxed array.now)) (physical_view type_.physical_type) encoding) × (is_written_along (parts_of nested.now) (boxed array.now) ≡ true) × HasWide (leaf_type (type_of (boxed array.now))) (physical_view type_.physical_type) (column (path_way (parts_of nested.now)) (path_slots (leaf_slot (boxed array.now)) (parts_of nested.now)))) result }
-    ensures too_large { ComesWhere (Overflow V3) ((¬ IsUnwritten (parts_of nested.now) (type_of (boxed array.now)) (physical_view type_.physical_type) encoding) × (is_written_along (parts_of nested.now) (boxed array.now) ≡ true) × (¬ HasWide (leaf_type (type_of (boxed array.now))) (physical_view type_.physical_type) (column (path_way (parts_of nested.now)) (path_slots (leaf_slot (boxed array.now)) (parts_of nested.now)))) × IsPastRoom (leaf_type (type_of (boxed array.now))) (physical_view type_.physical_type) (column (path_way (parts_of nested.now)) (path_slots (leaf_slot (boxed array.now)) (parts_of nested.now)))) result }
-    ensures err { IfErr result (λ e. (e ≡ Memory) ⊎ (e ≡ NotYetImplemented N4) ⊎ (e ≡ NotYetImplemented N5) ⊎ (e ≡ InvalidArgumentError A7) ⊎ (e ≡ Overflow V3)) }
+    requires fits { FitsColumn (parts_of nested.now) (path_slots (leaf_slot (boxed array.now)) (parts_of nested.now))
+        (leaf_view type_) (physical_view type_.physical_type) (boxed array.now) }
+    ensures ok { IfOk result (λ p. (page : DataPageValue) × (p ≡ Data page) × (e : PageEncoding)
+        × (written_encoding (leaf_type (type_of (boxed array.now))) (parts_of nested.now) encoding ≡ Some e)
+        × HoldsRows options e (leaf_type (type_of (boxed array.now))) (leaf_view type_)
+        (physical_view type_.physical_type) (path_way (parts_of nested.now)) None
+        (path_slots (leaf_slot (boxed array.now)) (parts_of nested.now)) page) }
+    ensures form { ComesWhere (NotYetImplemented N4) (IsUnwritten (parts_of nested.now) (type_of (boxed array.now))
+        (physical_view type_.physical_type) encoding) result }
+    ensures unserved { ComesWhere (NotYetImplemented N5)
+        ((¬ IsUnwritten (parts_of nested.now) (type_of (boxed array.now))
+        (physical_view type_.physical_type) encoding) × (is_written_along (parts_of nested.now) (boxed array.now)
+        ≡ false)) result }
+    ensures too_wide { ComesWhere (InvalidArgumentError A7)
+        ((¬ IsUnwritten (parts_of nested.now) (type_of (boxed array.now))
+        (physical_view type_.physical_type) encoding) × (is_written_along (parts_of nested.now) (boxed array.now)
+        ≡ true) × HasWide (leaf_type (type_of (boxed array.now))) (physical_view type_.physical_type)
+        (column (path_way (parts_of nested.now)) (path_slots (leaf_slot (boxed array.now)) (parts_of nested.now))))
+        result }
+    ensures too_large { ComesWhere (Overflow V3)
+        ((¬ IsUnwritten (parts_of nested.now) (type_of (boxed array.now))
+        (physical_view type_.physical_type) encoding) × (is_written_along (parts_of nested.now) (boxed array.now)
+        ≡ true)
+        ×
+        (¬ HasWide (leaf_type (type_of (boxed array.now))) (physical_view type_.physical_type)
+        (column (path_way (parts_of nested.now)) (path_slots (leaf_slot (boxed array.now)) (parts_of nested.now))))
+        × IsPastRoom (leaf_type (type_of (boxed array.now))) (physical_view type_.physical_type)
+        (column (path_way (parts_of nested.now)) (path_slots (leaf_slot (boxed array.now)) (parts_of nested.now))))
+        result }
+    ensures err { IfErr result (λ e. (e ≡ Memory) ⊎ (e ≡ NotYetImplemented N4) ⊎ (e ≡ NotYetImplemented N5)
+        ⊎ (e ≡ InvalidArgumentError A7) ⊎ (e ≡ Overflow V3)) }
 {
     check_written(array, type_.physical_type, nested, encoding)?;
     check_held(array, type_.physical_type, nested)?;

@@ -118,9 +118,12 @@ pub fn array_to_pages(
     encoding: Encoding,
 ) -> Result<PageIter>
     requires parts { length nested.now ≤ 128 }
-    ensures ok { IfOk result (λ it. IsPagesOf options type_ (parts_of nested.now) (boxed primitive_array.now) encoding (to_give it)) }
-    ensures fits { IfOk result (λ _. AreWritten options type_ (parts_of nested.now) (boxed primitive_array.now) encoding) }
-    ensures err { IfErr result (λ e. (e ≡ Memory) ⊎ RefusesPages options type_ (parts_of nested.now) (boxed primitive_array.now) encoding e) }
+    ensures ok { IfOk result (λ it. IsPagesOf options type_ (parts_of nested.now) (boxed primitive_array.now) encoding
+        (to_give it)) }
+    ensures fits { IfOk result (λ _. AreWritten options type_ (parts_of nested.now)
+        (boxed primitive_array.now) encoding) }
+    ensures err { IfErr result (λ e. (e ≡ Memory) ⊎ RefusesPages options type_ (parts_of nested.now)
+        (boxed primitive_array.now) encoding e) }
 {
     if let Some(keyed) = as_dictionary(primitive_array) {
         return match keyed_pages(

@@ -12,7 +12,7 @@ use Rattle.write_pages.proofs.known_column.whole_page.Goals as goal
 pub known_page-requires-clause-known : goal.known_page-requires-clause-known
 known_page-requires-clause-known c =
     let same : physical_view c.in_ok-type_.type_.physical_type ≡ physical_view c.args.type_.now.physical_type = ap physical_in c.in_ok-type_.ensures.same in
-    known_moved c.args.options.write_statistics (boxed c.args.whole.now.rows.array) _ _ _ _ c.args.whole.now.known _ (sym same) (sym c.deref.ensures.value) refl (sym c.in_ok-statistics.ensures.ok) c.requires.known
+    known_moved c.args.options.write_statistics (boxed c.args.whole.now.rows.array) _ _ _ _ c.args.whole.now.known _ (sym same) (sym c.deref.ensures.value) (sym c.in_ok-known.ensures.measured) (sym c.in_ok-known.ensures.statistics) c.requires.known
 
 pub returns-in-Err-clause-err : goal.returns-in-Err-clause-err
 returns-in-Err-clause-err c =

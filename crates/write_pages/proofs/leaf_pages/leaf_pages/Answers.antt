@@ -1,22 +1,44 @@
-use Rattle.std.proofs.Common.{◌≡◌, ◌∙◌, Bool, List, None, Some, ap, inr, sym, rules}
+use Rattle.std.proofs.Common.{◌≡◌, ◌∙◌, Bool, List, None, Some, ap, inr, subst, sym, rules, arith}
+use Rattle.std.proofs.lemmas.List.{length-map}
 use Rattle.std.proofs.lemmas.Result.{err_from_is_err_and}
 use Rattle.columns_array.specs.Boxed.{boxed}
 use Rattle.columns_core.specs.Shapes.{leaf_type}
 use Rattle.columns_slots.specs.Slots.{type_of}
 use Rattle.columns_slots.specs.Tree.{ArrayTree}
 use Rattle.levels.specs.declared.nested.Nested.{Nested}
-use Rattle.levels.specs.Nested.{parts_of}
+use Rattle.levels.specs.Nested.{part_of, parts_of}
 use Rattle.shredding.specs.Cut.{cut}
 use Rattle.shredding.specs.Slot.{Slot}
 use Rattle.pq_tree.specs.Views.{physical_view}
 use Rattle.write_values.specs.Deltas.{page_encoding}
 use Rattle.write_pages.specs.Entries.{leaf_entries}
 use Rattle.write_pages.specs.Holds.{rows_of}
+use Rattle.write_pages.specs.KnownColumns.{IsKnown}
+use Rattle.write_pages.specs.Sized.{IsReady}
 use Rattle.write_pages.proofs.ColumnForms.{are_written, fit_refused, form_refused, wide_refused}
 use Rattle.write_pages.proofs.KeyedArrays.{no_entries}
 use Rattle.write_pages.proofs.ValuePages.{value_encoding, value_entries, value_owes, value_pieces, value_stated}
 use Rattle.write_pages.proofs.WrittenForms.{deltas_written}
 use Rattle.write_pages.proofs.leaf_pages.leaf_pages.Goals as goal
+
+pub invariant_of-result : goal.invariant_of-result
+invariant_of-result c =
+    let a = boxed c.args.primitive_array.now in
+    let p = physical_view c.args.type_.physical_type in
+    let path = c.args.nested.now in
+    let wanted = c.args.options.write_statistics in
+    let same : boxed c.in_ok-clone.field-0 ≡ a = search rules in
+    let ready : IsReady a (parts_of path) p c.page_rows-per_page.result = record {
+      in_bounds = c.in_ok-check_fit.ensures.in_bounds;
+      few = omega (arith, length-map path part_of, c.requires.parts);
+      leaf = search rules;
+      reached = search rules;
+      served = c.in_ok-check_fit.ensures.served;
+      held = c.in_ok-whole.ensures.held;
+      some = c.page_rows-per_page.ensures.some;
+    } in
+    subst (λ (xs : List Nested). IsReady (boxed c.in_ok-clone.field-0) (parts_of xs) p c.page_rows-per_page.result × IsKnown wanted (boxed c.in_ok-clone.field-0) (parts_of xs) p c.in_ok-whole.whole) (sym c.in_ok-copy_path.ensures.ok)
+    (subst (λ (x : ArrayTree). IsReady x (parts_of path) p c.page_rows-per_page.result × IsKnown wanted x (parts_of path) p c.in_ok-whole.whole) (sym same) (ready, c.in_ok-whole.ensures.ok))
 
 pub returns-clause-ok : goal.returns-clause-ok
 returns-clause-ok c =

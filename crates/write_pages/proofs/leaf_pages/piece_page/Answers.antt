@@ -1,6 +1,6 @@
-use Rattle.std.proofs.Common.{◌≡◌, ◌∙◌, ℕ, List, ap, arith, drop, length, refl, subst, sym, take}
+use Rattle.std.proofs.Common.{◌≡◌, ◌∙◌, ℕ, List, All, ap, arith, drop, refl, subst, sym, take}
 use Rattle.std.proofs.lemmas.List.{length-map}
-use Rattle.shredding.specs.Parts.{path_way, path_slots, slot_count}
+use Rattle.shredding.specs.Parts.{path_slots, slot_count}
 use Rattle.shredding.specs.Shape.{LeafType}
 use Rattle.columns_array.specs.Boxed.{boxed}
 use Rattle.columns_core.specs.Shapes.{leaf_type}
@@ -10,12 +10,18 @@ use Rattle.nested_paths.specs.Seen.{leaf_slot}
 use Rattle.pq_tree.specs.TreeViews.{leaf_view}
 use Rattle.pq_tree.specs.Views.{physical_view}
 use Rattle.write_values.specs.Deltas.{page_encoding}
+use Rattle.write_pages.specs.declared.known_pages.KnownPage.{KnownPage}
 use Rattle.write_pages.specs.Holds.{rows_of}
+use Rattle.write_pages.specs.KnownColumns.{IsKnownPage}
 use Rattle.write_pages.proofs.KnownRows.{holds_moved}
 use Rattle.write_pages.proofs.Moved.{all_rows}
 use Rattle.write_pages.proofs.PageRows.{each_ok}
 use Rattle.write_pages.proofs.WidePieces.{past_moved, past_told, wide_moved}
 use Rattle.write_pages.proofs.leaf_pages.piece_page.Goals as goal
+
+pub some_page-requires-clause-known : goal.some_page-requires-clause-known
+some_page-requires-clause-known c =
+    subst (λ (ks : List KnownPage). All (IsKnownPage c.args.options.write_statistics (boxed c.args.array.now) (parts_of c.args.nested.now) (physical_view c.args.type_.now.physical_type)) ks) (sym c.deref.ensures.value) c.requires.known.pages
 
 pub whole_page-requires-clause-parts : goal.whole_page-requires-clause-parts
 whole_page-requires-clause-parts c =

@@ -4,7 +4,7 @@ use Rattle.pq_files.specs.Layout.{rows_per_page}
 use Rattle.write_pages.specs.Rule.{page_limit}
 use Rattle.write_pages.proofs.Moved.{rows_counted}
 use Rattle.write_pages.proofs.PiecesLeft.{none_by_rule, some_by_rule}
-use Rattle.write_pages.proofs.leaf_pages.page_rows.Goals as goal
+use Rattle.write_pages.proofs.rule.page_rows.Goals as goal
 
 pub returns-then-rows-eq0-clause-rule : goal.returns-then-rows-eq0-clause-rule
 returns-then-rows-eq0-clause-rule c = λ t p a m.
