@@ -1,4 +1,6 @@
 //! Fields of structs, appended to a text as they are spelled (Thrift compact protocol, "Struct"; Parquet format, parquet.thrift).
+//!
+//! Each call is refused for want of memory alone (`AllocError`). Part of its field may then stand at the end of the text.
 #![tactic(auto)]
 
 mod fields;
