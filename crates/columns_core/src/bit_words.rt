@@ -96,7 +96,8 @@ fn last_bytes(bytes: &[u8], from: usize) -> [u8; 16]
     requires within { from ≤ list_length bytes.now }
     requires few { list_length bytes.now ≤ from + 8 }
     ensures size { list_length result ≡ 16 }
-    ensures front { (i : ℕ) → 8 * from + i < 8 * list_length bytes.now → bit_of result i ≡ bit_of bytes.now (8 * from + i) }
+    ensures front { (i : ℕ) → 8 * from + i < 8 * list_length bytes.now
+        → bit_of result i ≡ bit_of bytes.now (8 * from + i) }
 {
     let rest = &bytes[from..];
     let mut last = [0; 16];

@@ -146,7 +146,8 @@ fn copy_union(
     is_sparse: bool,
     alloc: Global,
 ) -> Result<DataType>
-    ensures ok { IfOk result (λ t. type_view t ≡ t_union (fields_view fields.now.items) (option_map (λ v. v.items) ids.now) is_sparse) }
+    ensures ok { IfOk result (λ t. type_view t ≡ t_union (fields_view fields.now.items)
+        (option_map (λ v. v.items) ids.now) is_sparse) }
     ensures err { IfErr result (λ e. e ≡ Error.Memory) }
 {
     let ids = copy_ids(ids)?;
@@ -173,7 +174,8 @@ fn copy_extension(
     text: &Option<String>,
     alloc: Global,
 ) -> Result<DataType>
-    ensures ok { IfOk result (λ t. type_view t ≡ t_extension (string_bytes name.now) (type_view inner.now) (option_map string_bytes text.now)) }
+    ensures ok { IfOk result (λ t. type_view t ≡ t_extension (string_bytes name.now) (type_view inner.now)
+        (option_map string_bytes text.now)) }
     ensures err { IfErr result (λ e. e ≡ Error.Memory) }
 {
     Ok(DataType::Extension(name.clone()?, copy_inner(inner, alloc)?, text.clone()?))

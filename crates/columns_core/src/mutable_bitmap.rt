@@ -380,7 +380,8 @@ fn put_word(bytes: &mut Vec<u8>, size: usize, word: u64, length: usize)
     requires below { size ≤ 8 * vec_len bytes.old }
     requires above { 8 * vec_len bytes.old < size + 8 }
     requires room { size + length ≤ 8 * vec_capacity bytes.old }
-    ensures bits { bits_from bytes.new.items 0 (size + length) ≡ bits_from bytes.old.items 0 size ++ word_bits word length }
+    ensures bits { bits_from bytes.new.items 0 (size + length) ≡ bits_from bytes.old.items 0 size
+        ++ word_bits word length }
     ensures below { size + length ≤ 8 * vec_len bytes.new }
     ensures above { 8 * vec_len bytes.new < size + length + 8 }
     ensures capacity { vec_capacity bytes.old ≤ vec_capacity bytes.new }
@@ -409,7 +410,8 @@ fn put_wide(bytes: &mut Vec<u8>, size: usize, word: u64, length: usize)
     requires below { size ≤ 8 * vec_len bytes.old }
     requires above { 8 * vec_len bytes.old < size + 8 }
     requires room { size / 8 + 16 ≤ vec_capacity bytes.old }
-    ensures bits { bits_from bytes.new.items 0 (size + length) ≡ bits_from bytes.old.items 0 size ++ word_bits word length }
+    ensures bits { bits_from bytes.new.items 0 (size + length) ≡ bits_from bytes.old.items 0 size
+        ++ word_bits word length }
     ensures below { size + length ≤ 8 * vec_len bytes.new }
     ensures above { 8 * vec_len bytes.new < size + length + 8 }
     ensures capacity { vec_capacity bytes.old ≤ vec_capacity bytes.new }

@@ -68,7 +68,8 @@ impl<O: Offset> Offsets<O> {
     pub fn push(&mut self, length: O) -> Result<()>
         requires not_negative { IsWhole (O.number length) }
         requires fits { last_place self.old.0 + whole (O.number length) < O.limit }
-        ensures ok { IfOk result (λ _. self.new.0 ≡ self.old.0 ++ (last_place self.old.0 + whole (O.number length)) ∷ []) }
+        ensures ok { IfOk result (λ _. self.new.0 ≡ self.old.0 ++ (last_place self.old.0 + whole (O.number length))
+            ∷ []) }
         ensures err { IfErr result (λ e. (e ≡ Error.Memory) × (self.new.0 ≡ self.old.0)) }
         ensures reserved { 0 < self.old.1 → IsOk result }
         ensures room { self.old.1 ≤ self.new.1 + 1 }
@@ -222,7 +223,8 @@ fn push_ends<O: Offset>(values: &mut Vec<O>, from: usize, lengths: &[usize]) -> 
     ensures places { AreFrom 0 (map O.number values.new.items) }
     ensures last { result ≡ last_place (map (λ o. whole (O.number o)) values.new.items) }
     ensures some { vec_len values.old ≤ vec_len values.new }
-    ensures grown { map (λ o. whole (O.number o)) values.new.items ≡ map (λ o. whole (O.number o)) values.old.items ++ places_from from lengths.now }
+    ensures grown { map (λ o. whole (O.number o)) values.new.items
+        ≡ map (λ o. whole (O.number o)) values.old.items ++ places_from from lengths.now }
 {
     let mut end = from;
     for length in lengths {
@@ -235,7 +237,8 @@ fn push_ends<O: Offset>(values: &mut Vec<O>, from: usize, lengths: &[usize]) -> 
 
 // The offset at the end of a range of this length.
 fn sum_place<O: Offset>(end: usize, length: usize) -> Option<O>
-    ensures { MatchOption result (O.limit ≤ end + length) (λ o. (O.number o ≡ pos (end + length)) × (end + length < O.limit)) }
+    ensures { MatchOption result (O.limit ≤ end + length) (λ o. (O.number o ≡ pos (end + length))
+        × (end + length < O.limit)) }
 {
     O::from_usize(end.checked_add(length)?)
 }

@@ -202,7 +202,8 @@ impl<O: Offset> OffsetsBuffer<O> {
 
     /// By how much the last offset is above the first.
     pub fn range(&self) -> O
-        ensures { O.number result ≡ pos (slice_index_or self.now (list_length self.now - 1) 0 - slice_index_or self.now 0 0) }
+        ensures { O.number result ≡ pos (slice_index_or self.now
+            (list_length self.now - 1) 0 - slice_index_or self.now 0 0) }
     {
         self.know();
         let range = self.last().to_usize() - self.first().to_usize();
@@ -270,7 +271,8 @@ impl<O: Offset> OffsetsBuffer<O> {
 // Whether the second place is not below the first, and neither is negative: true only where it is so.
 #[inline(always)]
 fn is_step<O: Offset>(before: O, here: O) -> bool
-    ensures { IsTrue result → IsWhole (O.number before) × IsWhole (O.number here) × (whole (O.number before) ≤ whole (O.number here)) }
+    ensures { IsTrue result → IsWhole (O.number before) × IsWhole (O.number here)
+        × (whole (O.number before) ≤ whole (O.number here)) }
 {
     if before.is_negative() {
         return false;

@@ -61,8 +61,11 @@ impl<O: Offset> BinaryArray<O> {
     ) -> Result<BinaryArray<O>>
         ensures ok { IfOk result (λ a. a ≡ (type_view data_type, (offsets, (values.items, validity)))) }
         ensures overflow { IsErrOf result (Error.Overflow V.V1) ↔ O.limit ≤ list_length values.items }
-        ensures refused { IsErrOf result (Error.InvalidArgumentError A.A8) ↔ (list_length values.items < O.limit) × ¬ (IsPlaces offsets (list_length values.items) × MaskFits validity (list_length offsets - 1) × (is_binary O.large (base (type_view data_type)) ≡ true)) }
-        ensures err { IfErr result (λ e. (e ≡ Error.Memory) ⊎ (e ≡ Error.Overflow V.V1) ⊎ (e ≡ Error.InvalidArgumentError A.A8)) }
+        ensures refused { IsErrOf result (Error.InvalidArgumentError A.A8) ↔ (list_length values.items < O.limit)
+            × ¬ (IsPlaces offsets (list_length values.items) × MaskFits validity (list_length offsets - 1)
+            × (is_binary O.large (base (type_view data_type)) ≡ true)) }
+        ensures err { IfErr result (λ e. (e ≡ Error.Memory) ⊎ (e ≡ Error.Overflow V.V1)
+            ⊎ (e ≡ Error.InvalidArgumentError A.A8)) }
     {
         if !is_counted::<O>(values.len()) {
             return Err(Error::Overflow(V::V1));
@@ -126,7 +129,14 @@ impl<O: Offset> BinaryArray<O> {
     #[tactic(auto, using(columns_slots::proofs::Sound::mask_over, columns_slots::proofs::Sound::mask_cut))]
     pub fn slice(&mut self, offset: usize, length: usize)
         requires { offset + length ≤ list_length self.old.1.0 - 1 }
-        ensures { self.new ≡ (self.old.0, (take (length + 1) (drop offset self.old.1.0), (self.old.1.1.0, cut_mask self.old.1.1.1 offset length))) }
+        ensures { self.new
+            ≡ (
+              self.old.0,
+              (
+                take (length + 1) (drop offset self.old.1.0),
+                (self.old.1.1.0, cut_mask self.old.1.1.1 offset length),
+              ),
+            ) }
     {
         self.offsets.slice_ranges(offset, length);
         cut_validity(&mut self.validity, offset, length);
@@ -173,7 +183,8 @@ fn fits<O: Offset>(
     count: usize,
     validity: &Option<Bitmap>,
 ) -> bool
-    ensures { IsTrue result ↔ IsPlaces offsets.now count × MaskFits validity.now (list_length offsets.now - 1) × (is_binary O.large (base (type_view data_type.now)) ≡ true) }
+    ensures { IsTrue result ↔ IsPlaces offsets.now count × MaskFits validity.now (list_length offsets.now - 1)
+        × (is_binary O.large (base (type_view data_type.now)) ≡ true) }
 {
     is_bytes::<O>(data_type) && is_laid(offsets, count, validity)
 }

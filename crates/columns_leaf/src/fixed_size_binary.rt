@@ -60,7 +60,9 @@ impl FixedSizeBinaryArray {
         validity: Option<Bitmap>,
     ) -> Result<FixedSizeBinaryArray>
         ensures ok { IfOk result (λ a. a ≡ (type_view data_type, (values.items, validity))) }
-        ensures refused { IsErrOf result (Error.InvalidArgumentError A.A8) ↔ ¬ (AreWhole (base (type_view data_type)) values.items × MaskFits validity (fixed_count (base (type_view data_type)) values.items)) }
+        ensures refused { IsErrOf result (Error.InvalidArgumentError A.A8)
+            ↔ ¬ (AreWhole (base (type_view data_type)) values.items
+            × MaskFits validity (fixed_count (base (type_view data_type)) values.items)) }
         ensures err { IfErr result (λ e. (e ≡ Error.Memory) ⊎ (e ≡ Error.InvalidArgumentError A.A8)) }
     {
         let width = width_of(&data_type);
@@ -131,7 +133,15 @@ impl FixedSizeBinaryArray {
     /// Keeps `length` positions from the position `offset` on. Nothing is copied.
     pub fn slice(&mut self, offset: usize, length: usize)
         requires { offset + length ≤ fixed_count (base self.old.0) self.old.1.0 }
-        ensures { let width = fixed_width (base self.old.0) in self.new ≡ (self.old.0, (take (length * width) (drop (offset * width) self.old.1.0), cut_mask self.old.1.1 offset length)) }
+        ensures { let width = fixed_width (base self.old.0) in self.new
+            ≡ (
+              self.old.0,
+              (
+                take (length * width)
+                    (drop (offset * width) self.old.1.0),
+                cut_mask self.old.1.1 offset length,
+              ),
+            ) }
     {
         self.start += offset * self.width;
         self.size = length;

@@ -50,7 +50,8 @@ impl NullArray {
     pub fn try_new(_alloc: Global, data_type: DataType, length: usize) -> Result<NullArray>
         ensures ok { IfOk result (λ a. a ≡ (type_view data_type, length)) }
         ensures err { IfErr result (λ e. e ≡ Error.InvalidArgumentError A.A8) }
-        ensures refused { IsErrOf result (Error.InvalidArgumentError A.A8) ↔ ¬ (is_null_type (base (type_view data_type)) ≡ true) }
+        ensures refused { IsErrOf result (Error.InvalidArgumentError A.A8)
+            ↔ ¬ (is_null_type (base (type_view data_type)) ≡ true) }
     {
         if !is_null(&data_type) {
             return Err(Error::InvalidArgumentError(A::A8));
@@ -180,7 +181,8 @@ impl BooleanArray {
     ) -> Result<BooleanArray>
         ensures err { IfErr result (λ e. e ≡ Error.InvalidArgumentError A.A8) }
         ensures ok { IfOk result (λ a. a ≡ (type_view data_type, (values, validity))) }
-        ensures refused { IsErrOf result (Error.InvalidArgumentError A.A8) ↔ ¬ (MaskFits validity (list_length values) × (is_boolean (base (type_view data_type)) ≡ true)) }
+        ensures refused { IsErrOf result (Error.InvalidArgumentError A.A8)
+            ↔ ¬ (MaskFits validity (list_length values) × (is_boolean (base (type_view data_type)) ≡ true)) }
     {
         if !is_bool(&data_type) || !mask_fits(&validity, values.len()) {
             return Err(Error::InvalidArgumentError(A::A8));
@@ -305,7 +307,8 @@ impl<T: NativeType> PrimitiveArray<T> {
     ) -> Result<PrimitiveArray<T>>
         ensures err { IfErr result (λ e. (e ≡ Error.Memory) ⊎ (e ≡ Error.InvalidArgumentError A.A8)) }
         ensures ok { IfOk result (λ a. a ≡ (type_view data_type, (values.items, validity))) }
-        ensures refused { IsErrOf result (Error.InvalidArgumentError A.A8) ↔ ¬ (MaskFits validity (list_length values.items) × (T.stores (base (type_view data_type)) ≡ true)) }
+        ensures refused { IsErrOf result (Error.InvalidArgumentError A.A8)
+            ↔ ¬ (MaskFits validity (list_length values.items) × (T.stores (base (type_view data_type)) ≡ true)) }
     {
         let size = values.len();
         if !T::is_stored_as(&data_type) || !mask_fits(&validity, size) {

@@ -67,8 +67,11 @@ impl<O: Offset> Utf8Array<O> {
     ) -> Result<Utf8Array<O>>
         ensures ok { IfOk result (λ a. a ≡ (type_view data_type, (offsets, (values.items, validity)))) }
         ensures overflow { IsErrOf result (Error.Overflow V.V1) ↔ O.limit ≤ list_length values.items }
-        ensures refused { IsErrOf result (Error.InvalidArgumentError A.A8) ↔ (list_length values.items < O.limit) × ¬ (IsPlaces offsets (list_length values.items) × MaskFits validity (list_length offsets - 1) × (is_text O.large (base (type_view data_type)) ≡ true) × AreTexts (pieces offsets values.items)) }
-        ensures err { IfErr result (λ e. (e ≡ Error.Memory) ⊎ (e ≡ Error.Overflow V.V1) ⊎ (e ≡ Error.InvalidArgumentError A.A8)) }
+        ensures refused { IsErrOf result (Error.InvalidArgumentError A.A8) ↔ (list_length values.items < O.limit)
+            × ¬ (IsPlaces offsets (list_length values.items) × MaskFits validity (list_length offsets - 1)
+            × (is_text O.large (base (type_view data_type)) ≡ true) × AreTexts (pieces offsets values.items)) }
+        ensures err { IfErr result (λ e. (e ≡ Error.Memory) ⊎ (e ≡ Error.Overflow V.V1)
+            ⊎ (e ≡ Error.InvalidArgumentError A.A8)) }
     {
         if !is_counted::<O>(values.len()) {
             return Err(Error::Overflow(V::V1));
@@ -160,7 +163,14 @@ impl<O: Offset> Utf8Array<O> {
     #[tactic(auto, using(columns_slots::proofs::Sound::mask_over, columns_slots::proofs::Sound::mask_cut))]
     pub fn slice(&mut self, offset: usize, length: usize)
         requires { offset + length ≤ list_length self.old.1.0 - 1 }
-        ensures { self.new ≡ (self.old.0, (take (length + 1) (drop offset self.old.1.0), (self.old.1.1.0, cut_mask self.old.1.1.1 offset length))) }
+        ensures { self.new
+            ≡ (
+              self.old.0,
+              (
+                take (length + 1) (drop offset self.old.1.0),
+                (self.old.1.1.0, cut_mask self.old.1.1.1 offset length),
+              ),
+            ) }
     {
         self.offsets.slice_ranges(offset, length);
         cut_validity(&mut self.validity, offset, length);
@@ -207,7 +217,9 @@ fn fits<O: Offset>(
     values: &[u8],
     validity: &Option<Bitmap>,
 ) -> bool
-    ensures { IsTrue result ↔ IsPlaces offsets.now (list_length values.now) × MaskFits validity.now (list_length offsets.now - 1) × (is_text O.large (base (type_view data_type.now)) ≡ true) × AreTexts (pieces offsets.now values.now) }
+    ensures { IsTrue result ↔ IsPlaces offsets.now (list_length values.now)
+        × MaskFits validity.now (list_length offsets.now - 1)
+        × (is_text O.large (base (type_view data_type.now)) ≡ true) × AreTexts (pieces offsets.now values.now) }
 {
     if !is_text_type::<O>(data_type) {
         return false;

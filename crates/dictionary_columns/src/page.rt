@@ -64,7 +64,8 @@ fn plain_keys(alloc: Global, key: IntegerType, count: usize) -> Result<Vec<u8>>
 /// `Memory`.
 pub fn key_page(alloc: Global, key: IntegerType, count: usize) -> Result<Page>
     requires { count ≤ key_room key }
-    ensures ok { IfOk result (λ page. (body : List ℕ) × (page_shown page ≡ gives_dictionary count body) × InARow (key_physical key) body (stored_keys key 0 count)) }
+    ensures ok { IfOk result (λ page. (body : List ℕ) × (page_shown page ≡ gives_dictionary count body)
+        × InARow (key_physical key) body (stored_keys key 0 count)) }
     ensures err { IfErr result (λ e. e ≡ Memory) }
 {
     match plain_keys(alloc, key, count) {

@@ -51,7 +51,9 @@ impl<K2: KeyArray, O: OffsetArray, I: Pages> NestedDictIter<K2, O, I> {
         chunk_size: Option<usize>,
     ) -> Result<Self>
         requires arrays { IsDictionaryOf K2.kind (is_string O.large) (base (type_view data_type)) }
-        ensures ok { (o : ColumnOpening) → OpensDictionary o init.items (type_view data_type) byte_array (I.outcomes iter) num_rows chunk_size → IfOk result (λ it. IsGivingDictionaries o (type_view data_type) [] (of_strings it)) }
+        ensures ok { (o : ColumnOpening) → OpensDictionary o init.items (type_view data_type) byte_array
+            (I.outcomes iter) num_rows chunk_size → IfOk result
+            (λ it. IsGivingDictionaries o (type_view data_type) [] (of_strings it)) }
         ensures size { IsErrOf result (InvalidArgumentError A1) ↔ (chunk_size ≡ Some 0) }
         ensures err { IfErr result (λ e. (e ≡ Memory) ⊎ (e ≡ InvalidArgumentError A1)) }
     {
@@ -82,7 +84,9 @@ impl<K2: KeyArray, O: OffsetArray, I: Pages> NestedDictIter<K2, O, I> {
     /// they have more bytes than offsets count;
     /// `Memory`.
     pub fn next(&mut self) -> Option<Result<(NestedState, ArrayBox)>>
-        ensures gives { (o : ColumnOpening) (t : TypeTree) (pieces : List (List Triple)) → IsGivingDictionaries o t pieces (of_strings self.old) → GivesDictionaryItem o t pieces result (of_strings self.new) }
+        ensures gives { (o : ColumnOpening) (t : TypeTree) (pieces : List (List Triple))
+            → IsGivingDictionaries o t pieces (of_strings self.old)
+            → GivesDictionaryItem o t pieces result (of_strings self.new) }
         ensures ends { IsAtEnd result (of_strings self.new) }
         ensures ended { of_strings self.old ≡ None → (result ≡ None) × (of_strings self.new ≡ None) }
     {

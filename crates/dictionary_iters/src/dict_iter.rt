@@ -44,7 +44,9 @@ impl<I: Pages> DictIter<I> {
         chunk_size: Option<usize>,
     ) -> Result<Self>
         requires { is_dictionary_read init.items (base (type_view data_type)) (physical_view physical_type) ≡ true }
-        ensures ok { (o : ColumnOpening) → OpensDictionary o init.items (type_view data_type) (physical_view physical_type) (I.outcomes iter) num_rows chunk_size → IfOk result (λ it. IsGivingDictionaries o (type_view data_type) [] it.column) }
+        ensures ok { (o : ColumnOpening) → OpensDictionary o init.items (type_view data_type)
+            (physical_view physical_type) (I.outcomes iter) num_rows chunk_size
+            → IfOk result (λ it. IsGivingDictionaries o (type_view data_type) [] it.column) }
         ensures size { IsErrOf result (InvalidArgumentError A1) ↔ (chunk_size ≡ Some 0) }
         ensures err { IfErr result (λ e. (e ≡ Memory) ⊎ (e ≡ InvalidArgumentError A1)) }
     {
@@ -73,7 +75,8 @@ impl<I: Pages> DictIter<I> {
     ///
     /// Those of `DictionaryColumn`.
     pub fn next(&mut self) -> Option<Result<(NestedState, ArrayBox)>>
-        ensures gives { (o : ColumnOpening) (t : TypeTree) (pieces : List (List Triple)) → IsGivingDictionaries o t pieces self.old.column → GivesDictionaryItem o t pieces result self.new.column }
+        ensures gives { (o : ColumnOpening) (t : TypeTree) (pieces : List (List Triple))
+            → IsGivingDictionaries o t pieces self.old.column → GivesDictionaryItem o t pieces result self.new.column }
         ensures ends { IsAtEnd result self.new.column }
         ensures ended { self.old.column ≡ None → (result ≡ None) × (self.new.column ≡ None) }
     {

@@ -63,7 +63,9 @@ impl<K2: KeyArray, I: Pages> NestedDictIter<K2, I> {
         chunk_size: Option<usize>,
     ) -> Result<Self>
         requires arrays { IsDictionaryOf K2.kind is_chunk (base (type_view data_type)) }
-        ensures ok { (o : ColumnOpening) → OpensDictionary o init.items (type_view data_type) (fixed (entry_size (base (type_view data_type)))) (I.outcomes iter) num_rows chunk_size → IfOk result (λ it. IsGivingDictionaries o (type_view data_type) [] (of_chunks it)) }
+        ensures ok { (o : ColumnOpening) → OpensDictionary o init.items (type_view data_type)
+            (fixed (entry_size (base (type_view data_type)))) (I.outcomes iter) num_rows chunk_size
+            → IfOk result (λ it. IsGivingDictionaries o (type_view data_type) [] (of_chunks it)) }
         ensures size { IsErrOf result (InvalidArgumentError A1) ↔ (chunk_size ≡ Some 0) }
         ensures err { IfErr result (λ e. (e ≡ Memory) ⊎ (e ≡ InvalidArgumentError A1)) }
     {
@@ -93,7 +95,9 @@ impl<K2: KeyArray, I: Pages> NestedDictIter<K2, I> {
     /// S7 also for entries that no index names; N4 and N8 where a page is not read yet; V2 where the entries are more than the keys' type numbers;
     /// `Memory`.
     pub fn next(&mut self) -> Option<Result<(NestedState, ArrayBox)>>
-        ensures gives { (o : ColumnOpening) (t : TypeTree) (pieces : List (List Triple)) → IsGivingDictionaries o t pieces (of_chunks self.old) → GivesDictionaryItem o t pieces result (of_chunks self.new) }
+        ensures gives { (o : ColumnOpening) (t : TypeTree) (pieces : List (List Triple))
+            → IsGivingDictionaries o t pieces (of_chunks self.old)
+            → GivesDictionaryItem o t pieces result (of_chunks self.new) }
         ensures ends { IsAtEnd result (of_chunks self.new) }
         ensures ended { of_chunks self.old ≡ None → (result ≡ None) × (of_chunks self.new ≡ None) }
     {

@@ -56,7 +56,9 @@ impl<K2: KeyArray, T: FromStored<P>, I: Pages, P: StoredNumber> NestedDictIter<K
     ) -> Result<Self>
         requires arrays { IsDictionaryOf K2.kind (makes_numbers T.stores) (base (type_view data_type)) }
         requires read { is_dictionary_read init.items (base (type_view data_type)) (physical_view P.physical) ≡ true }
-        ensures ok { (o : ColumnOpening) → OpensDictionary o init.items (type_view data_type) (physical_view P.physical) (I.outcomes iter) num_rows chunk_size → IfOk result (λ it. IsGivingDictionaries o (type_view data_type) [] (of_numbers it)) }
+        ensures ok { (o : ColumnOpening) → OpensDictionary o init.items (type_view data_type) (physical_view P.physical)
+            (I.outcomes iter) num_rows chunk_size → IfOk result
+            (λ it. IsGivingDictionaries o (type_view data_type) [] (of_numbers it)) }
         ensures size { IsErrOf result (InvalidArgumentError A1) ↔ (chunk_size ≡ Some 0) }
         ensures err { IfErr result (λ e. (e ≡ Memory) ⊎ (e ≡ InvalidArgumentError A1)) }
     {
@@ -87,7 +89,9 @@ impl<K2: KeyArray, T: FromStored<P>, I: Pages, P: StoredNumber> NestedDictIter<K
     /// S7 also for entries that no index names; N4 and N8 where a page is not read yet; V2 where the entries are more than the keys' type numbers;
     /// `Memory`.
     pub fn next(&mut self) -> Option<Result<(NestedState, ArrayBox)>>
-        ensures gives { (o : ColumnOpening) (t : TypeTree) (pieces : List (List Triple)) → IsGivingDictionaries o t pieces (of_numbers self.old) → GivesDictionaryItem o t pieces result (of_numbers self.new) }
+        ensures gives { (o : ColumnOpening) (t : TypeTree) (pieces : List (List Triple))
+            → IsGivingDictionaries o t pieces (of_numbers self.old)
+            → GivesDictionaryItem o t pieces result (of_numbers self.new) }
         ensures ends { IsAtEnd result (of_numbers self.new) }
         ensures ended { of_numbers self.old ≡ None → (result ≡ None) × (of_numbers self.new ≡ None) }
     {

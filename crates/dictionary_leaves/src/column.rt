@@ -82,8 +82,11 @@ impl<I: Pages> DictionaryColumn<I> {
         chunk_size: Option<usize>,
         num_rows: usize,
     ) -> Result<Self>
-        ensures ok { (o : ColumnOpening) → IsColumnOpening o (type_view data_type) (physical_view physical_type) → o.outcomes ≡ I.outcomes pages → IsWay nested.items (thin o.column.way) → o.rows ≡ num_rows → o.chunk_size ≡ chunk_size → IfOk result (λ c. IsReadingDictionary o (type_view data_type) [] c) }
-        ensures unserved { IsErrOf result (NotYetImplemented N5) ↔ (is_dictionary_read nested.items (base (type_view data_type)) (physical_view physical_type) ≡ false) }
+        ensures ok { (o : ColumnOpening) → IsColumnOpening o (type_view data_type) (physical_view physical_type)
+            → o.outcomes ≡ I.outcomes pages → IsWay nested.items (thin o.column.way) → o.rows ≡ num_rows
+            → o.chunk_size ≡ chunk_size → IfOk result (λ c. IsReadingDictionary o (type_view data_type) [] c) }
+        ensures unserved { IsErrOf result (NotYetImplemented N5)
+            ↔ (is_dictionary_read nested.items (base (type_view data_type)) (physical_view physical_type) ≡ false) }
         ensures err { IfErr result (λ e. (e ≡ Memory) ⊎ (e ≡ NotYetImplemented N5)) }
     {
         let entries = match EntryType::try_new(alloc, &nested, &data_type, physical_type) {
@@ -106,7 +109,10 @@ impl<I: Pages> DictionaryColumn<I> {
 
     // The next piece of a column whose entries were read.
     fn go_on(&mut self, opened: Opened<I>) -> Option<Result<ColumnPiece>>
-        ensures { (o : ColumnOpening) (pieces : List (List Triple)) → IsOpenDictionary o (self.old.data_type) pieces (key_in opened.keys) (reader_in opened.keys) (boxed opened.entries) → GivesPiece (λ x ps r. IsReadingDictionary x (self.old.data_type) ps r) (λ p ts. IsDictionaryPiece o (self.old.data_type) ts p) o pieces result self.new }
+        ensures { (o : ColumnOpening) (pieces : List (List Triple))
+            → IsOpenDictionary o (self.old.data_type) pieces (key_in opened.keys) (reader_in opened.keys)
+            (boxed opened.entries) → GivesPiece (λ x ps r. IsReadingDictionary x (self.old.data_type) ps r)
+            (λ p ts. IsDictionaryPiece o (self.old.data_type) ts p) o pieces result self.new }
     {
         let Opened { mut keys, entries } = opened;
         match next_of(&mut keys, &entries, self.alloc, &self.data_type) {
@@ -127,7 +133,9 @@ impl<I: Pages> DictionaryColumn<I> {
     /// where the dictionary page has not its entries, used or not, V1 where they pass the offsets of their array, and V2 where they are more than the
     /// keys' type numbers.
     pub fn next_piece(&mut self) -> Option<Result<ColumnPiece>>
-        ensures { (o : ColumnOpening) (t : TypeTree) (pieces : List (List Triple)) → IsReadingDictionary o t pieces self.old → GivesPiece (λ x ps r. IsReadingDictionary x t ps r) (λ p ts. IsDictionaryPiece o t ts p) o pieces result self.new }
+        ensures { (o : ColumnOpening) (t : TypeTree) (pieces : List (List Triple))
+            → IsReadingDictionary o t pieces self.old → GivesPiece (λ x ps r. IsReadingDictionary x t ps r)
+            (λ p ts. IsDictionaryPiece o t ts p) o pieces result self.new }
     {
         match mem::replace(&mut self.stage, Stage::Ended) {
             Stage::Ended => None,

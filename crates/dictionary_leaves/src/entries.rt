@@ -97,8 +97,10 @@ pub fn entry_array<L: LeafArray>(
     data_type: DataType,
 ) -> Result<ArrayBox>
     requires { L.makes leaf.now (base (type_view data_type)) ≡ true }
-    ensures ok { IfOk result (λ a. HasEntries (λ text. L.stored leaf.now text 0) count body.now (type_view data_type) (boxed a)) }
-    ensures err { IfErr result (λ e. (e ≡ Memory) ⊎ CannotEnter (λ text. L.stored leaf.now text 0) L.byte_limit count body.now e) }
+    ensures ok { IfOk result (λ a. HasEntries (λ text. L.stored leaf.now text 0) count body.now (type_view data_type)
+        (boxed a)) }
+    ensures err { IfErr result (λ e. (e ≡ Memory)
+        ⊎ CannotEnter (λ text. L.stored leaf.now text 0) L.byte_limit count body.now e) }
 {
     match decode(alloc, leaf, body, count) {
         Ok(values) => leaf.into_array(alloc, values, data_type),

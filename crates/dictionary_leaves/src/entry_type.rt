@@ -117,7 +117,10 @@ fn entry_kind(
     entries: &DataType,
     physical_type: PhysicalType,
 ) -> Option<LeafKind>
-    ensures { MatchOption result (is_entry_read parts.now (base (type_view entries.now)) (physical_view physical_type) ≡ false) (λ k. (physical_of k ≡ physical_view physical_type) × (types_of k (base (type_view entries.now)) ≡ true) × (may_be_entry (base (type_view entries.now)) ≡ true) × (is_entry_read parts.now (base (type_view entries.now)) (physical_view physical_type) ≡ true)) }
+    ensures { MatchOption result (is_entry_read parts.now (base (type_view entries.now)) (physical_view physical_type)
+        ≡ false) (λ k. (physical_of k ≡ physical_view physical_type)
+        × (types_of k (base (type_view entries.now)) ≡ true) × (may_be_entry (base (type_view entries.now)) ≡ true)
+        × (is_entry_read parts.now (base (type_view entries.now)) (physical_view physical_type) ≡ true)) }
 {
     if !can_be_entry(entries) {
         return None;
@@ -153,8 +156,13 @@ fn read_page(
     page: &DictPage,
 ) -> Result<ReadEntries>
     requires { types_of kind (base (type_view data_type.now)) ≡ true }
-    ensures ok { IfOk result (λ v. AreRead (record { key = key; data_type = type_view data_type.now; kind = kind }) page.now.num_values page.now.buffer.items (boxed v.array) (page_shown v.keys)) }
-    ensures err { IfErr result (λ e. CannotRead (record { key = key; data_type = type_view data_type.now; kind = kind }) page.now.num_values page.now.buffer.items e) }
+    ensures ok { IfOk result
+        (λ v. AreRead
+        (record { key = key; data_type = type_view data_type.now; kind = kind }) page.now.num_values
+        page.now.buffer.items (boxed v.array) (page_shown v.keys)) }
+    ensures err { IfErr result (λ e. CannotRead
+        (record { key = key; data_type = type_view data_type.now; kind = kind }) page.now.num_values
+        page.now.buffer.items e) }
 {
     if !has_room(key, page.num_values) {
         return Err(Error::Overflow(V::V2));
@@ -188,7 +196,8 @@ impl EntryType {
         physical_type: PhysicalType,
     ) -> Result<Self>
         ensures ok { IfOk result (λ e. AreParts (type_view data_type.now) (physical_view physical_type) e) }
-        ensures unserved { IsErrOf result (NotYetImplemented N5) ↔ (is_dictionary_read parts.now (base (type_view data_type.now)) (physical_view physical_type) ≡ false) }
+        ensures unserved { IsErrOf result (NotYetImplemented N5)
+            ↔ (is_dictionary_read parts.now (base (type_view data_type.now)) (physical_view physical_type) ≡ false) }
         ensures err { IfErr result (λ e. (e ≡ Memory) ⊎ (e ≡ NotYetImplemented N5)) }
     {
         let Some(key) = keys_type(data_type) else {
@@ -224,7 +233,8 @@ impl EntryType {
     /// V2 where the page has more entries than the keys' type numbers; S6 where its body is cut, S7 where an entry is no value of the type, used or
     /// not; V1 where all are there and have more bytes than the type's offsets count; `Memory`.
     pub fn read(&self, alloc: Global, page: &DictPage) -> Result<ReadEntries>
-        ensures ok { IfOk result (λ v. AreRead self.now page.now.num_values page.now.buffer.items (boxed v.array) (page_shown v.keys)) }
+        ensures ok { IfOk result (λ v. AreRead self.now page.now.num_values page.now.buffer.items (boxed v.array)
+            (page_shown v.keys)) }
         ensures err { IfErr result (λ e. CannotRead self.now page.now.num_values page.now.buffer.items e) }
     {
         read_page(alloc, self.key, &self.data_type, self.kind, page)

@@ -49,7 +49,8 @@ pub struct Opened<I: Pages> {
 
 // Why a data page is not read before which no dictionary page stands.
 fn first_error(header: &DataPageHeader) -> Error
-    ensures { ((result ≡ OutOfSpec S3) × (has_indices (typed_view (T.Data header.now)) ≡ true)) ⊎ ((result ≡ NotYetImplemented N4) × (has_indices (typed_view (T.Data header.now)) ≡ false)) }
+    ensures { ((result ≡ OutOfSpec S3) × (has_indices (typed_view (T.Data header.now)) ≡ true))
+        ⊎ ((result ≡ NotYetImplemented N4) × (has_indices (typed_view (T.Data header.now)) ≡ false)) }
 {
     if gives_indices(header) {
         return Error::OutOfSpec(S::S3);
@@ -98,8 +99,16 @@ fn over_keys<I: Pages>(
     unread: Unread<I>,
 ) -> Result<KeyColumn<I>>
     ensures kind { IfOk result (λ c. key_in c ≡ key) }
-    ensures reads { (o : ColumnOpening) → IsReadable o (stored_of (number_kind key)) 1 → o.leaf.physical ≡ key_physical key → o.outcomes ≡ keyed_outcomes (page_shown keys) (I.outcomes unread.pages) → IsWay unread.nested.items (thin o.column.way) → o.rows ≡ unread.num_rows → o.chunk_size ≡ unread.chunk_size → IfOk result (λ c. IsReading (stored_of (number_kind key)) 1 o [] (reader_in c)) }
-    ensures foreseen { (o : ColumnOpening) (others : List Outcome) → IsReadable o (stored_of (number_kind key)) 1 → o.leaf.physical ≡ key_physical key → o.outcomes ≡ foreseen (keyed_outcomes (page_shown keys) (I.outcomes unread.pages)) others → IsWay unread.nested.items (thin o.column.way) → o.rows ≡ unread.num_rows → o.chunk_size ≡ unread.chunk_size → IfOk result (λ c. IsReading (stored_of (number_kind key)) 1 o [] (foreseeing others (reader_in c))) }
+    ensures reads { (o : ColumnOpening) → IsReadable o (stored_of (number_kind key)) 1
+        → o.leaf.physical ≡ key_physical key → o.outcomes ≡ keyed_outcomes (page_shown keys)
+        (I.outcomes unread.pages) → IsWay unread.nested.items (thin o.column.way) → o.rows ≡ unread.num_rows
+        → o.chunk_size ≡ unread.chunk_size
+        → IfOk result (λ c. IsReading (stored_of (number_kind key)) 1 o [] (reader_in c)) }
+    ensures foreseen { (o : ColumnOpening) (others : List Outcome) → IsReadable o (stored_of (number_kind key)) 1
+        → o.leaf.physical ≡ key_physical key → o.outcomes ≡ foreseen
+        (keyed_outcomes (page_shown keys) (I.outcomes unread.pages)) others
+        → IsWay unread.nested.items (thin o.column.way) → o.rows ≡ unread.num_rows → o.chunk_size ≡ unread.chunk_size
+        → IfOk result (λ c. IsReading (stored_of (number_kind key)) 1 o [] (foreseeing others (reader_in c))) }
     ensures err { IfErr result (λ e. e ≡ Memory) }
 {
     let rows = KeyRows {
@@ -122,7 +131,9 @@ fn open_taken<I: Pages>(
     entries: &EntryType,
     unread: Unread<I>,
 ) -> Result<Option<Opened<I>>>
-    ensures { (o : ColumnOpening) (t : TypeTree) (given : List Outcome) → IsUnreadDictionary o t entries.now given unread.nested.items unread.chunk_size unread.num_rows → Takes given (I.outcomes unread.pages) (I.lent unread.pages) → Opens o t result }
+    ensures { (o : ColumnOpening) (t : TypeTree) (given : List Outcome)
+        → IsUnreadDictionary o t entries.now given unread.nested.items unread.chunk_size unread.num_rows
+        → Takes given (I.outcomes unread.pages) (I.lent unread.pages) → Opens o t result }
 {
     match read_first(alloc, entries, &unread.pages, unread.num_rows) {
         Ok(Some(read)) => match over_keys(alloc, entries.key(), read.keys, unread) {
@@ -147,7 +158,8 @@ pub fn open_dictionary<I: Pages>(
     entries: &EntryType,
     unread: Unread<I>,
 ) -> Result<Option<Opened<I>>>
-    ensures { (o : ColumnOpening) (t : TypeTree) → IsUnreadDictionary o t entries.now (I.outcomes unread.pages) unread.nested.items unread.chunk_size unread.num_rows → Opens o t result }
+    ensures { (o : ColumnOpening) (t : TypeTree) → IsUnreadDictionary o t entries.now
+        (I.outcomes unread.pages) unread.nested.items unread.chunk_size unread.num_rows → Opens o t result }
 {
     let mut unread = unread;
     match unread.pages.advance() {

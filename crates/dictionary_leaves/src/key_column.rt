@@ -64,8 +64,17 @@ pub struct KeyRows<I: Pages> {
 impl<I: Pages> KeyRows<I> {
     // The reader of the column of keys of this type.
     fn read<L: LeafReader>(self, leaf: &L, key: IntegerType) -> Result<ColumnReader<KeyPages<I>, L>>
-        ensures reads { (o : ColumnOpening) (stored : List ℕ → List Stored) (limit : ℕ) → IsReadable o stored limit → o.leaf.physical ≡ key_physical key → o.outcomes ≡ keyed_from self.pages.lent (page_shown self.pages.keys) (I.outcomes self.pages.pages) → IsWay self.nested.items (thin o.column.way) → o.rows ≡ self.num_rows → o.chunk_size ≡ self.chunk_size → IfOk result (λ r. IsReading stored limit o [] r) }
-        ensures foreseen { (o : ColumnOpening) (stored : List ℕ → List Stored) (limit : ℕ) (others : List Outcome) → IsReadable o stored limit → o.leaf.physical ≡ key_physical key → o.outcomes ≡ foreseen (keyed_from self.pages.lent (page_shown self.pages.keys) (I.outcomes self.pages.pages)) others → IsWay self.nested.items (thin o.column.way) → o.rows ≡ self.num_rows → o.chunk_size ≡ self.chunk_size → IfOk result (λ r. IsReading stored limit o [] (foreseeing others r)) }
+        ensures reads { (o : ColumnOpening) (stored : List ℕ → List Stored) (limit : ℕ) → IsReadable o stored limit
+            → o.leaf.physical ≡ key_physical key → o.outcomes
+            ≡ keyed_from self.pages.lent (page_shown self.pages.keys) (I.outcomes self.pages.pages)
+            → IsWay self.nested.items (thin o.column.way) → o.rows ≡ self.num_rows → o.chunk_size ≡ self.chunk_size
+            → IfOk result (λ r. IsReading stored limit o [] r) }
+        ensures foreseen { (o : ColumnOpening) (stored : List ℕ → List Stored) (limit : ℕ) (others : List Outcome)
+            → IsReadable o stored limit → o.leaf.physical ≡ key_physical key
+            → o.outcomes
+            ≡ foreseen (keyed_from self.pages.lent (page_shown self.pages.keys) (I.outcomes self.pages.pages)) others
+            → IsWay self.nested.items (thin o.column.way) → o.rows ≡ self.num_rows → o.chunk_size ≡ self.chunk_size
+            → IfOk result (λ r. IsReading stored limit o [] (foreseeing others r)) }
         ensures err { IfErr result (λ e. e ≡ Memory) }
     {
         ColumnReader::new(
@@ -106,8 +115,16 @@ impl<I: Pages> KeyColumn<I> {
     /// `Memory`.
     pub fn new(key: IntegerType, rows: KeyRows<I>) -> Result<Self>
         ensures kind { IfOk result (λ c. key_in c ≡ key) }
-        ensures reads { (o : ColumnOpening) → IsReadable o (stored_of (number_kind key)) 1 → o.leaf.physical ≡ key_physical key → o.outcomes ≡ keyed_from rows.pages.lent (page_shown rows.pages.keys) (I.outcomes rows.pages.pages) → IsWay rows.nested.items (thin o.column.way) → o.rows ≡ rows.num_rows → o.chunk_size ≡ rows.chunk_size → IfOk result (λ c. IsReading (stored_of (number_kind key)) 1 o [] (reader_in c)) }
-        ensures foreseen { (o : ColumnOpening) (others : List Outcome) → IsReadable o (stored_of (number_kind key)) 1 → o.leaf.physical ≡ key_physical key → o.outcomes ≡ foreseen (keyed_from rows.pages.lent (page_shown rows.pages.keys) (I.outcomes rows.pages.pages)) others → IsWay rows.nested.items (thin o.column.way) → o.rows ≡ rows.num_rows → o.chunk_size ≡ rows.chunk_size → IfOk result (λ c. IsReading (stored_of (number_kind key)) 1 o [] (foreseeing others (reader_in c))) }
+        ensures reads { (o : ColumnOpening) → IsReadable o (stored_of (number_kind key)) 1
+            → o.leaf.physical ≡ key_physical key → o.outcomes
+            ≡ keyed_from rows.pages.lent (page_shown rows.pages.keys) (I.outcomes rows.pages.pages)
+            → IsWay rows.nested.items (thin o.column.way) → o.rows ≡ rows.num_rows → o.chunk_size ≡ rows.chunk_size
+            → IfOk result (λ c. IsReading (stored_of (number_kind key)) 1 o [] (reader_in c)) }
+        ensures foreseen { (o : ColumnOpening) (others : List Outcome) → IsReadable o (stored_of (number_kind key)) 1
+            → o.leaf.physical ≡ key_physical key → o.outcomes
+            ≡ foreseen (keyed_from rows.pages.lent (page_shown rows.pages.keys) (I.outcomes rows.pages.pages)) others
+            → IsWay rows.nested.items (thin o.column.way) → o.rows ≡ rows.num_rows → o.chunk_size ≡ rows.chunk_size
+            → IfOk result (λ c. IsReading (stored_of (number_kind key)) 1 o [] (foreseeing others (reader_in c))) }
         ensures err { IfErr result (λ e. e ≡ Memory) }
     {
         Ok(match key {

@@ -300,7 +300,9 @@ impl KeyNumber for u64 {
 fn is_kept<K: KeyNumber>(numbers: &[K], validity: &Bitmap, i: usize, count: usize) -> bool
     requires number { i < length numbers.now }
     requires bit { i < length validity.now }
-    ensures { IsMaskedBit count (slice_index_or validity.now i false) (slice_index_or (map K.kept numbers.now) i (pos 0)) (slice_index_or (map K.loaded_key numbers.now) i (pos 0)) result }
+    ensures { IsMaskedBit count (slice_index_or validity.now i false)
+        (slice_index_or (map K.kept numbers.now) i (pos 0))
+        (slice_index_or (map K.loaded_key numbers.now) i (pos 0)) result }
 {
     validity.get_bit(i) && numbers[i].is_entry(count)
 }
@@ -313,7 +315,8 @@ fn kept_bits<K: KeyNumber>(
     count: usize,
 ) -> Result<MutableBitmap>
     requires { length validity.now ≡ length numbers.now }
-    ensures ok { IfOk result (λ bits. AreMaskedTo (length numbers.now) count validity.now (map K.kept numbers.now) (map K.loaded_key numbers.now) bits.0) }
+    ensures ok { IfOk result (λ bits. AreMaskedTo (length numbers.now) count validity.now (map K.kept numbers.now)
+        (map K.loaded_key numbers.now) bits.0) }
     ensures err { IfErr result (λ e. e ≡ Memory) }
 {
     let mut bits = MutableBitmap::with_capacity(alloc, numbers.len())?;
@@ -334,7 +337,8 @@ pub fn kept_keys<K: KeyNumber>(
     count: usize,
 ) -> Result<DictionaryKeys>
     ensures kind { IfOk result (λ k. key_kind k ≡ K.key) }
-    ensures ok { IfOk result (λ k. KeepKeys count (number_slots (map K.loaded_key values.0) values.1) (key_mask k) (keys_of k)) }
+    ensures ok { IfOk result (λ k. KeepKeys count (number_slots (map K.loaded_key values.0) values.1) (key_mask k)
+        (keys_of k)) }
     ensures err { IfErr result (λ e. e ≡ Memory) }
 {
     let (numbers, validity) = values.into_parts();

@@ -29,8 +29,10 @@ fn number_entries<T: FromStored<P> + NumberBox, P: StoredNumber>(
     data_type: DataType,
 ) -> Result<ArrayBox>
     requires { makes_numbers T.stores (base (type_view data_type)) ≡ true }
-    ensures ok { IfOk result (λ a. HasEntries (stored_numbers T.loaded P.spelled P.byte_count) count body.now (type_view data_type) (boxed a)) }
-    ensures err { IfErr result (λ e. (e ≡ Memory) ⊎ CannotEnter (stored_numbers T.loaded P.spelled P.byte_count) 1 count body.now e) }
+    ensures ok { IfOk result (λ a. HasEntries (stored_numbers T.loaded P.spelled P.byte_count) count body.now
+        (type_view data_type) (boxed a)) }
+    ensures err { IfErr result (λ e. (e ≡ Memory)
+        ⊎ CannotEnter (stored_numbers T.loaded P.spelled P.byte_count) 1 count body.now e) }
 {
     entry_array(alloc, &Numbers::<T, P>::new(), body, count, data_type)
 }
@@ -44,7 +46,8 @@ fn fixed_entries<T: FixedValue + NumberBox>(
     data_type: DataType,
 ) -> Result<ArrayBox>
     requires { makes_fixed T.stores (base (type_view data_type)) ≡ true }
-    ensures ok { IfOk result (λ a. HasEntries (stored_fixed T.loaded size) count body.now (type_view data_type) (boxed a)) }
+    ensures ok { IfOk result (λ a. HasEntries (stored_fixed T.loaded size) count body.now (type_view data_type)
+        (boxed a)) }
     ensures err { IfErr result (λ e. (e ≡ Memory) ⊎ CannotEnter (stored_fixed T.loaded size) 0 count body.now e) }
 {
     let leaf = Fixed::<T> {
@@ -63,7 +66,8 @@ fn chunk_entries(
     data_type: DataType,
 ) -> Result<ArrayBox>
     requires { reads_chunks size (base (type_view data_type)) ≡ true }
-    ensures ok { IfOk result (λ a. HasEntries (stored_fixed loaded_bytes size) count body.now (type_view data_type) (boxed a)) }
+    ensures ok { IfOk result (λ a. HasEntries (stored_fixed loaded_bytes size) count body.now (type_view data_type)
+        (boxed a)) }
     ensures err { IfErr result (λ e. (e ≡ Memory) ⊎ CannotEnter (stored_fixed loaded_bytes size) 0 count body.now e) }
 {
     entry_array(alloc, &FixedBytes { size }, body, count, data_type)

@@ -33,8 +33,10 @@ fn dictionary_of(
     keys: DictionaryKeys,
     entries: &ArrayBox,
 ) -> Result<DictionaryArray>
-    ensures ok { IfOk result (λ a. a ≡ dictionary_array (type_view data_type.now) (keys_of keys) (boxed entries.now) (key_mask keys)) }
-    ensures err { IfErr result (λ e. (e ≡ Memory) ⊎ (FitsKeys (base (type_view data_type.now)) keys (boxed entries.now) → ⊥)) }
+    ensures ok { IfOk result (λ a. a ≡ dictionary_array (type_view data_type.now) (keys_of keys) (boxed entries.now)
+        (key_mask keys)) }
+    ensures err { IfErr result (λ e. (e ≡ Memory) ⊎ (FitsKeys (base (type_view data_type.now)) keys (boxed entries.now)
+        → ⊥)) }
 {
     let data_type = match data_type.clone(alloc) {
         Ok(data_type) => data_type,
@@ -81,7 +83,11 @@ pub fn next_of<I: Pages>(
     data_type: &DataType,
 ) -> Option<Result<ColumnPiece>>
     ensures kind { key_in column.new ≡ key_in column.old }
-    ensures gives { (o : ColumnOpening) (pieces : List (List Triple)) → IsOpenDictionary o (type_view data_type.now) pieces (key_in column.old) (reader_in column.old) (boxed entries.now) → GivesPiece (λ x ps r. IsOpenDictionary x (type_view data_type.now) ps (key_in column.old) r (boxed entries.now)) (λ p ts. IsDictionaryPiece o (type_view data_type.now) ts p) o pieces result (reader_in column.new) }
+    ensures gives { (o : ColumnOpening) (pieces : List (List Triple))
+        → IsOpenDictionary o (type_view data_type.now) pieces (key_in column.old) (reader_in column.old)
+        (boxed entries.now) → GivesPiece
+        (λ x ps r. IsOpenDictionary x (type_view data_type.now) ps (key_in column.old) r (boxed entries.now))
+        (λ p ts. IsDictionaryPiece o (type_view data_type.now) ts p) o pieces result (reader_in column.new) }
 {
     pieces_are_entered();
     states_are_entered();

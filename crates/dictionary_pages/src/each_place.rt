@@ -36,7 +36,8 @@ pub trait EachPlace: Drop {
         requires accepted { accepts self.old place }
         ensures limit { limit self.new ≡ limit self.old }
         ensures accepts { (i : ℕ) → accepts self.old i → accepts self.new i }
-        ensures taken { OnOk result ((first : Self) (places : List ℕ) → has first self.old places → has first self.new (places ++ place ∷ [])) }
+        ensures taken { OnOk result ((first : Self) (places : List ℕ) → has first self.old places
+            → has first self.new (places ++ place ∷ [])) }
         ensures refused { IfErr result (refuses self.old) }
         ensures same { (e : Error) → refuses self.new e → refuses self.old e };
 

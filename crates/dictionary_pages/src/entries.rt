@@ -55,7 +55,8 @@ pub fn is_entry(data_type: &DataType, physical_type: PhysicalType) -> bool
 // The array as one of entries that are written under the physical type, and `None` where they are not.
 #[tactic(auto, using(crate::proofs::Named::entries_valued))]
 pub fn entries_leaf(entries: &ArrayBox, physical_type: PhysicalType) -> Option<Leaf<'_>>
-    ensures { MatchOption result (is_entry (base (type_of (boxed entries.now))) (physical_view physical_type) ≡ false) (IsEntryLeaf (boxed entries.now) (physical_view physical_type)) }
+    ensures { MatchOption result (is_entry (base (type_of (boxed entries.now))) (physical_view physical_type) ≡ false)
+        (IsEntryLeaf (boxed entries.now) (physical_view physical_type)) }
 {
     entries.know();
     if !is_entry(entries.data_type(), physical_type) {

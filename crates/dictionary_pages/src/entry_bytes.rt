@@ -74,7 +74,8 @@ fn size_of(
     requires ordered { from ≤ stretch.end }
     requires within { stretch.end ≤ tree_len (boxed entries.now) }
     requires alike { (i : ℕ) → from ≤ i → i < stretch.end → keeps (mask_of (boxed entries.now)) i ≡ not stretch.are_null }
-    ensures { result ≡ plain_length (physical_view physical_type) (map (stored_entry_at (boxed entries.now) (physical_view physical_type)) (range from (stretch.end - from))) }
+    ensures { result ≡ plain_length (physical_view physical_type)
+        (map (stored_entry_at (boxed entries.now) (physical_view physical_type)) (range from (stretch.end - from))) }
 {
     entries.know();
     if stretch.are_null {
@@ -86,7 +87,8 @@ fn size_of(
 // The number of bytes of the plain spelling of all entries, up to the largest number.
 pub fn entries_size(entries: &ArrayBox, leaf: Leaf<'_>, physical_type: PhysicalType) -> u128
     requires leaf { IsEntryLeaf (boxed entries.now) (physical_view physical_type) leaf }
-    ensures { result ≡ min (plain_length (physical_view physical_type) (stored_entries (boxed entries.now) (physical_view physical_type))) (2 ^ 128 - 1) }
+    ensures { result ≡ min (plain_length (physical_view physical_type)
+        (stored_entries (boxed entries.now) (physical_view physical_type))) (2 ^ 128 - 1) }
 {
     let count = entries.len();
     let mut size = 0u128;
@@ -102,7 +104,8 @@ pub fn entries_size(entries: &ArrayBox, leaf: Leaf<'_>, physical_type: PhysicalT
 // Appends so many fillers.
 fn push_fillers(physical_type: PhysicalType, count: usize, out: Vec<u8>) -> Result<Vec<u8>>
     requires small { count * plain_size (physical_view physical_type) (filler (physical_view physical_type)) ≤ max_size }
-    ensures ok { IfOk result (λ after. after.items ≡ out.items ++ replicate (count * plain_size (physical_view physical_type) (filler (physical_view physical_type))) 0) }
+    ensures ok { IfOk result (λ after. after.items ≡ out.items ++ replicate
+        (count * plain_size (physical_view physical_type) (filler (physical_view physical_type))) 0) }
     ensures err { IfErr result (λ e. e ≡ Memory) }
 {
     let bytes = count * filler_size(physical_type);
@@ -124,8 +127,11 @@ fn push_one(
     requires ordered { from ≤ stretch.end }
     requires within { stretch.end ≤ tree_len (boxed entries.now) }
     requires alike { (i : ℕ) → from ≤ i → i < stretch.end → keeps (mask_of (boxed entries.now)) i ≡ not stretch.are_null }
-    requires small { plain_length (physical_view physical_type) (map (stored_entry_at (boxed entries.now) (physical_view physical_type)) (range from (stretch.end - from))) ≤ max_size }
-    ensures ok { IfOk result (λ after. AppendsRow (physical_view physical_type) out.items after.items (map (stored_entry_at (boxed entries.now) (physical_view physical_type)) (range from (stretch.end - from)))) }
+    requires small { plain_length (physical_view physical_type) (map
+        (stored_entry_at (boxed entries.now) (physical_view physical_type)) (range from (stretch.end - from)))
+        ≤ max_size }
+    ensures ok { IfOk result (λ after. AppendsRow (physical_view physical_type) out.items after.items
+        (map (stored_entry_at (boxed entries.now) (physical_view physical_type)) (range from (stretch.end - from)))) }
     ensures err { IfErr result (λ e. e ≡ Memory) }
 {
     entries.know();
@@ -145,8 +151,10 @@ pub fn push_entries(
     out: Vec<u8>,
 ) -> Result<Vec<u8>>
     requires leaf { IsEntryLeaf (boxed entries.now) (physical_view physical_type) leaf }
-    requires small { plain_length (physical_view physical_type) (stored_entries (boxed entries.now) (physical_view physical_type)) ≤ max_size }
-    ensures ok { IfOk result (λ after. AppendsRow (physical_view physical_type) out.items after.items (stored_entries (boxed entries.now) (physical_view physical_type))) }
+    requires small { plain_length (physical_view physical_type) (stored_entries (boxed entries.now)
+        (physical_view physical_type)) ≤ max_size }
+    ensures ok { IfOk result (λ after. AppendsRow (physical_view physical_type) out.items after.items
+        (stored_entries (boxed entries.now) (physical_view physical_type))) }
     ensures err { IfErr result (λ e. e ≡ Memory) }
 {
     let count = entries.len();

@@ -37,10 +37,18 @@ pub fn dictionary_page(
     entries: &ArrayBox,
     physical_type: PhysicalType,
 ) -> Result<DictPage>
-    ensures ok { IfOk result (IsDictFor (physical_view physical_type) (stored_entries (boxed entries.now) (physical_view physical_type))) }
-    ensures stored { is_entry (base (type_of (boxed entries.now))) (physical_view physical_type) ≡ true → AreStoredEntries (leaf_type (type_of (boxed entries.now))) (physical_view physical_type) (Some (entries_of (boxed entries.now))) (Some (stored_entries (boxed entries.now) (physical_view physical_type))) }
-    ensures unserved { ComesWhere (NotYetImplemented N5) (is_entry (base (type_of (boxed entries.now))) (physical_view physical_type) ≡ false) result }
-    ensures too_large { ComesWhere (Overflow V3) ((is_entry (base (type_of (boxed entries.now))) (physical_view physical_type) ≡ true) × AreTooLarge (physical_view physical_type) (stored_entries (boxed entries.now) (physical_view physical_type))) result }
+    ensures ok { IfOk result (IsDictFor (physical_view physical_type)
+        (stored_entries (boxed entries.now) (physical_view physical_type))) }
+    ensures stored { is_entry (base (type_of (boxed entries.now))) (physical_view physical_type) ≡ true
+        → AreStoredEntries (leaf_type (type_of (boxed entries.now))) (physical_view physical_type)
+        (Some (entries_of (boxed entries.now)))
+        (Some (stored_entries (boxed entries.now) (physical_view physical_type))) }
+    ensures unserved { ComesWhere (NotYetImplemented N5) (is_entry (base (type_of (boxed entries.now)))
+        (physical_view physical_type) ≡ false) result }
+    ensures too_large { ComesWhere (Overflow V3)
+        ((is_entry (base (type_of (boxed entries.now))) (physical_view physical_type) ≡ true)
+        × AreTooLarge (physical_view physical_type) (stored_entries (boxed entries.now)
+        (physical_view physical_type))) result }
     ensures err { IfErr result (λ e. (e ≡ Memory) ⊎ (e ≡ NotYetImplemented N5) ⊎ (e ≡ Overflow V3)) }
 {
     entries.know();
@@ -57,8 +65,11 @@ pub fn dictionary_page(
 // Whether there is room for a dictionary page of the entries.
 pub fn entries_fit(entries: &ArrayBox, leaf: Leaf<'_>, physical_type: PhysicalType) -> bool
     requires leaf { IsEntryLeaf (boxed entries.now) (physical_view physical_type) leaf }
-    ensures within { IsTrue result → room (tree_len (boxed entries.now)) (plain_length (physical_view physical_type) (stored_entries (boxed entries.now) (physical_view physical_type))) ≤ max_size }
-    ensures past { result ≡ false → AreTooLarge (physical_view physical_type) (stored_entries (boxed entries.now) (physical_view physical_type)) }
+    ensures within { IsTrue result → room (tree_len (boxed entries.now))
+        (plain_length (physical_view physical_type)
+        (stored_entries (boxed entries.now) (physical_view physical_type))) ≤ max_size }
+    ensures past { result ≡ false → AreTooLarge (physical_view physical_type)
+        (stored_entries (boxed entries.now) (physical_view physical_type)) }
 {
     has_room(entries.len(), entries_size(entries, leaf, physical_type))
 }

@@ -60,8 +60,10 @@ fn push_runs(keys: &DictionaryKeys, nested: &[Nested], width: u32, out: Vec<u8>)
     requires leaf { leaf_count_or 0 (parts_of nested.now) ≤ length (keys_of keys.now) }
     requires some { 1 ≤ width }
     requires most { width ≤ 32 }
-    requires low { All (λ i. (entry_at (keys_of keys.now) i < 2 ^ 32) × (entry_at (keys_of keys.now) i < 2 ^ width)) (path_places (parts_of nested.now)) }
-    ensures ok { IfOk result (λ after. AppendsRuns width out.items after.items (map (entry_at (keys_of keys.now)) (path_places (parts_of nested.now)))) }
+    requires low { All (λ i. (entry_at (keys_of keys.now) i < 2 ^ 32) × (entry_at (keys_of keys.now) i < 2 ^ width))
+        (path_places (parts_of nested.now)) }
+    ensures ok { IfOk result (λ after. AppendsRuns width out.items after.items
+        (map (entry_at (keys_of keys.now)) (path_places (parts_of nested.now)))) }
     ensures err { IfErr result (λ e. e ≡ Memory) }
 {
     let indices = Indices {
@@ -87,7 +89,8 @@ pub fn push_indices(
     requires leaf { leaf_count_or 0 (parts_of nested.now) ≤ length (keys_of keys.now) }
     requires largest { IsLargest (map (entry_at (keys_of keys.now)) (path_places (parts_of nested.now))) largest }
     requires low { largest < 2 ^ 32 }
-    ensures ok { IfOk result (λ after. AppendsIndices out.items after.items (map (entry_at (keys_of keys.now)) (path_places (parts_of nested.now)))) }
+    ensures ok { IfOk result (λ after. AppendsIndices out.items after.items
+        (map (entry_at (keys_of keys.now)) (path_places (parts_of nested.now)))) }
     ensures err { IfErr result (λ e. e ≡ Memory) }
 {
     let mut out = out;

@@ -55,7 +55,9 @@ fn page_body(
     requires largest { IsLargest (map (entry_at (keys_of keys.now)) (path_places (parts_of nested.now))) largest }
     requires low { largest < 2 ^ 32 }
     requires room { (values : ℕ → Value) → 2048 + 14 * length (nested_column values nested.now) ≤ max_size }
-    ensures ok { (stored : ℕ → Value) → IfOk result (IsIndexBody version nested.now stored (map (entry_at (keys_of keys.now)) (path_places (parts_of nested.now)))) }
+    ensures ok { (stored : ℕ → Value) → IfOk result
+        (IsIndexBody version nested.now stored (map (entry_at (keys_of keys.now))
+        (path_places (parts_of nested.now)))) }
     ensures err { IfErr result (λ e. e ≡ Memory) }
 {
     let mut buffer = Vec::new(alloc);
@@ -83,8 +85,13 @@ fn seen_page(
     requires entries { IsEntryLeaf (child_of array.now) (physical_view type_.physical_type) entries }
     requires few { tree_len (child_of array.now) < 2 ^ 31 }
     requires named { All (NamesValue array.now) (path_places (parts_of nested.now)) }
-    ensures ok { IfOk result (HoldsIndices form (leaf_type (type_of array.now)) (physical_view type_.physical_type) (path_way (parts_of nested.now)) (entries_of (child_of array.now)) (stored_entries (child_of array.now) (physical_view type_.physical_type)) (path_slots (λ i. value (value_at array.now i)) (parts_of nested.now)) type_) }
-    ensures err { IfErr result (λ e. (e ≡ Memory) ⊎ ((e ≡ Overflow V3) × (max_size < column_room (physical_view type_.physical_type) (stored_column array.now (physical_view type_.physical_type) nested.now)))) }
+    ensures ok { IfOk result (HoldsIndices form (leaf_type (type_of array.now)) (physical_view type_.physical_type)
+        (path_way (parts_of nested.now)) (entries_of (child_of array.now))
+        (stored_entries (child_of array.now) (physical_view type_.physical_type))
+        (path_slots (λ i. value (value_at array.now i)) (parts_of nested.now)) type_) }
+    ensures err { IfErr result (λ e. (e ≡ Memory) ⊎ ((e ≡ Overflow V3)
+        × (max_size < column_room (physical_view type_.physical_type)
+        (stored_column array.now (physical_view type_.physical_type) nested.now)))) }
 {
     array.know();
     let reached = reach_along(array, entries, type_.physical_type, nested);
@@ -140,10 +147,19 @@ pub fn index_page(
     requires well { IsPath (parts_of nested.now) }
     requires parts { length nested.now ≤ 128 }
     requires leaf { tree_len array.now ≡ leaf_count_or 0 (parts_of nested.now) }
-    requires rows { AreRowsOf (leaf_type (type_of array.now)) (path_way (parts_of nested.now)) (path_slots (leaf_slot array.now) (parts_of nested.now)) }
-    ensures ok { IfOk result (HoldsIndices form (leaf_type (type_of array.now)) (physical_view type_.physical_type) (path_way (parts_of nested.now)) (entries_of (child_of array.now)) (stored_entries (child_of array.now) (physical_view type_.physical_type)) (path_slots (leaf_slot array.now) (parts_of nested.now)) type_) }
-    ensures unserved { ComesWhere (NotYetImplemented N5) (is_entry (base (type_of (child_of array.now))) (physical_view type_.physical_type) ≡ false) result }
-    ensures too_large { ComesWhere (Overflow V3) ((is_entry (base (type_of (child_of array.now))) (physical_view type_.physical_type) ≡ true) × IsColumnPastRoom (leaf_type (type_of array.now)) (physical_view type_.physical_type) (stored_entries (child_of array.now) (physical_view type_.physical_type)) (column (path_way (parts_of nested.now)) (path_slots (leaf_slot array.now) (parts_of nested.now)))) result }
+    requires rows { AreRowsOf (leaf_type (type_of array.now)) (path_way (parts_of nested.now))
+        (path_slots (leaf_slot array.now) (parts_of nested.now)) }
+    ensures ok { IfOk result (HoldsIndices form (leaf_type (type_of array.now)) (physical_view type_.physical_type)
+        (path_way (parts_of nested.now)) (entries_of (child_of array.now))
+        (stored_entries (child_of array.now) (physical_view type_.physical_type))
+        (path_slots (leaf_slot array.now) (parts_of nested.now)) type_) }
+    ensures unserved { ComesWhere (NotYetImplemented N5) (is_entry (base (type_of (child_of array.now)))
+        (physical_view type_.physical_type) ≡ false) result }
+    ensures too_large { ComesWhere (Overflow V3)
+        ((is_entry (base (type_of (child_of array.now))) (physical_view type_.physical_type) ≡ true)
+        × IsColumnPastRoom (leaf_type (type_of array.now)) (physical_view type_.physical_type)
+        (stored_entries (child_of array.now) (physical_view type_.physical_type))
+        (column (path_way (parts_of nested.now)) (path_slots (leaf_slot array.now) (parts_of nested.now)))) result }
     ensures err { IfErr result (λ e. (e ≡ Memory) ⊎ (e ≡ NotYetImplemented N5) ⊎ (e ≡ Overflow V3)) }
 {
     array.know();

@@ -34,7 +34,8 @@ pub fn entry_at(keys: &DictionaryKeys, i: usize) -> usize
 // Whether the key at a position numbers one of so many entries.
 pub fn numbers_entry(keys: &DictionaryKeys, i: usize, count: usize) -> bool
     requires { i < length (keys_of keys.now) }
-    ensures { IsTrue result ↔ IsWhole (slice_index_or (keys_of keys.now) i (pos 0)) × (entry_at (keys_of keys.now) i < count) }
+    ensures { IsTrue result ↔ IsWhole (slice_index_or (keys_of keys.now) i (pos 0))
+        × (entry_at (keys_of keys.now) i < count) }
 {
     match keys {
         DictionaryKeys::Int8(a) => a.values()[i].is_below(count),

@@ -86,7 +86,9 @@ pub fn reaches_entries(array: &DictionaryArray, nested: &[Nested]) -> bool
     requires well { IsPath (parts_of nested.now) }
     requires leaf { tree_len array.now ≡ leaf_count_or 0 (parts_of nested.now) }
     ensures exact { IsTrue result ↔ AreKeyed array.now (parts_of nested.now) }
-    ensures rows { (p : Physical) → is_entry (base (type_of (child_of array.now))) p ≡ true → IsTrue result → AreRowsOf (leaf_type (type_of array.now)) (path_way (parts_of nested.now)) (path_slots (leaf_slot array.now) (parts_of nested.now)) }
+    ensures rows { (p : Physical) → is_entry (base (type_of (child_of array.now))) p ≡ true → IsTrue result
+        → AreRowsOf (leaf_type (type_of array.now)) (path_way (parts_of nested.now))
+        (path_slots (leaf_slot array.now) (parts_of nested.now)) }
 {
     array.know();
     let checking = Checking {

@@ -84,7 +84,8 @@ pub fn reach_along(
     requires leaf { tree_len array.now ≡ leaf_count_or 0 (parts_of nested.now) }
     requires entries { IsEntryLeaf (child_of array.now) (physical_view physical_type) entries }
     requires named { All (NamesValue array.now) (path_places (parts_of nested.now)) }
-    ensures values { Measures (physical_view physical_type) (tree_len array.now) (stored_at array.now (physical_view physical_type)) (path_places (parts_of nested.now)) result.values }
+    ensures values { Measures (physical_view physical_type) (tree_len array.now)
+        (stored_at array.now (physical_view physical_type)) (path_places (parts_of nested.now)) result.values }
     ensures largest { IsLargest (map (entry_at (keys_in array.now)) (path_places (parts_of nested.now))) result.largest }
 {
     let reaching = Reaching {

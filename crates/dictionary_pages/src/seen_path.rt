@@ -72,7 +72,8 @@ fn reaches_null(array: &DictionaryArray, nested: &[Nested]) -> bool
     requires leaf { tree_len array.now ≡ leaf_count_or 0 (parts_of nested.now) }
     requires entries { is_valued (child_of array.now) ≡ true }
     ensures within { All (λ i. i < tree_len array.now) (path_places (parts_of nested.now)) }
-    ensures none { result ≡ false → All (λ i. is_value (leaf_slot array.now i) ≡ true) (path_places (parts_of nested.now)) }
+    ensures none { result ≡ false → All (λ i. is_value (leaf_slot array.now i) ≡ true)
+        (path_places (parts_of nested.now)) }
 {
     let looking = Looking {
         array,
@@ -167,7 +168,8 @@ pub fn seen_path(alloc: Global, array: &DictionaryArray, nested: &[Nested]) -> R
     requires well { IsPath (parts_of nested.now) }
     requires leaf { tree_len array.now ≡ leaf_count_or 0 (parts_of nested.now) }
     requires entries { is_valued (child_of array.now) ≡ true }
-    requires along { All (IsAlong (path_way (parts_of nested.now))) (path_slots (leaf_slot array.now) (parts_of nested.now)) }
+    requires along { All (IsAlong (path_way (parts_of nested.now)))
+        (path_slots (leaf_slot array.now) (parts_of nested.now)) }
     ensures ok { IfOk result (λ seen. IsSeenPath array.now (parts_of nested.now) (parts_of seen.items)) }
     ensures err { IfErr result (λ e. e ≡ Memory) }
 {

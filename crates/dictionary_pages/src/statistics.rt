@@ -45,7 +45,8 @@ fn entry_statistics(
     physical_type: PhysicalType,
 ) -> Result<Option<Statistics>>
     requires { is_entry (base (type_of (boxed entries.now))) (physical_view physical_type) ≡ true }
-    ensures ok { IfOk result (λ s. AreStated true (leaf_type (type_of (boxed entries.now))) (physical_view physical_type) (entry_column (boxed entries.now)) (option_map statistics_view s)) }
+    ensures ok { IfOk result (λ s. AreStated true (leaf_type (type_of (boxed entries.now)))
+        (physical_view physical_type) (entry_column (boxed entries.now)) (option_map statistics_view s)) }
     ensures err { IfErr result (λ e. e ≡ Memory) }
 {
     entries.know();
@@ -75,7 +76,9 @@ pub fn key_statistics(
     is_wanted: bool,
 ) -> Result<Option<Statistics>>
     requires { is_entry (base (type_of (boxed entries.now))) (physical_view physical_type) ≡ true }
-    ensures ok { (ts : List Triple) → (length ts ≤ max_count → nulls ≡ count_by (λ t. is_none t.value) ts) → IfOk result (λ s. AreStatedBy is_wanted (leaf_type (type_of (boxed entries.now))) (physical_view physical_type) (entries_of (boxed entries.now)) ts (option_map statistics_view s)) }
+    ensures ok { (ts : List Triple) → (length ts ≤ max_count → nulls ≡ count_by (λ t. is_none t.value) ts)
+        → IfOk result (λ s. AreStatedBy is_wanted (leaf_type (type_of (boxed entries.now)))
+        (physical_view physical_type) (entries_of (boxed entries.now)) ts (option_map statistics_view s)) }
     ensures err { IfErr result (λ e. e ≡ Memory) }
 {
     if !is_wanted {
@@ -108,9 +111,12 @@ pub fn dictionary_statistics(
 ) -> Result<Option<Statistics>>
     requires well { IsPath (parts_of nested.now) }
     requires leaf { tree_len array.now ≡ leaf_count_or 0 (parts_of nested.now) }
-    requires rows { AreRowsOf (leaf_type (type_of array.now)) (path_way (parts_of nested.now)) (path_slots (leaf_slot array.now) (parts_of nested.now)) }
+    requires rows { AreRowsOf (leaf_type (type_of array.now)) (path_way (parts_of nested.now))
+        (path_slots (leaf_slot array.now) (parts_of nested.now)) }
     requires served { is_entry (base (type_of (child_of array.now))) (physical_view physical_type) ≡ true }
-    ensures ok { IfOk result (λ s. AreStatedBy is_wanted (leaf_type (type_of array.now)) (physical_view physical_type) (entries_of (child_of array.now)) (column (path_way (parts_of nested.now)) (path_slots (leaf_slot array.now) (parts_of nested.now))) (option_map statistics_view s)) }
+    ensures ok { IfOk result (λ s. AreStatedBy is_wanted (leaf_type (type_of array.now)) (physical_view physical_type)
+        (entries_of (child_of array.now)) (column (path_way (parts_of nested.now))
+        (path_slots (leaf_slot array.now) (parts_of nested.now))) (option_map statistics_view s)) }
     ensures err { IfErr result (λ e. e ≡ Memory) }
 {
     array.know();

@@ -273,9 +273,6 @@ null-struct-level level is_optional mask count rest above i value same e null = 
 pub items-rise : (offsets : List ℕ) (i j : ℕ) → IsRising offsets → i ≤ j → j < length offsets → item_start offsets i ≤ item_start offsets j
 items-rise offsets i j rise le within = omega (arith, rising offsets i j rise le within)
 
-pub items-some : (offsets : List ℕ) (i from to : ℕ) → IsRising offsets → i + 1 < length offsets → from ≡ item_start offsets i → to ≡ item_start offsets (i + 1) → from ≢ to → from < to
-items-some offsets i from to rise within f t apart = omega (arith, items-rise offsets i (i + 1) rise (omega arith) within, f, t, apart)
-
 pub list-cut : (level : Level) (is_optional : Bool) (rest : List Part) (above : Above) (first last from to : ℕ) (pieces : Pieces) → from < to → first ≤ from → to ≤ last → AreTold (λ n. walked level rest (above_items above is_optional) first n) (last - first) pieces → IsCut level rest (above_items above is_optional) first (from - first) (to - first) pieces
 list-cut level is_optional rest above first last from to pieces some after before h =
     cut level rest (above_items above is_optional) first (last - first) (from - first) (to - first) pieces refl (omega (arith, some, after)) (omega (arith, before)) h

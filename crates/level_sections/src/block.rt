@@ -76,7 +76,8 @@ fn add_bits(levels: &mut [u32], is_optional: bool, word: u64)
     requires size { length levels.old ≡ 64 }
     requires low { (i : ℕ) → i < 64 → slice_index levels.old i ≤ 256 }
     ensures size { length levels.new ≡ 64 }
-    ensures each { (i : ℕ) → i < 64 → slice_index levels.new i ≡ slice_index levels.old i + cond is_optional (bit_at word i) 0 }
+    ensures each { (i : ℕ) → i < 64 → slice_index levels.new i ≡ slice_index levels.old i
+        + cond is_optional (bit_at word i) 0 }
 {
     if !is_optional {
         return;
@@ -94,7 +95,9 @@ fn add_parts(levels: &mut [u32], parts: &[Nested], word: u64, place: usize, coun
     requires few { count ≤ 64 }
     requires low { (i : ℕ) → i < 64 → slice_index levels.old i + length parts.now ≤ 256 }
     ensures size { length levels.new ≡ 64 }
-    ensures each { (i : ℕ) → i < count → slice_index levels.new i ≡ cond (bit_at word i == 1) (flat_level (parts_of parts.now) (slice_index levels.old i) (place + i)) (slice_index levels.old i) }
+    ensures each { (i : ℕ) → i < count → slice_index levels.new i
+        ≡ cond (bit_at word i == 1) (flat_level (parts_of parts.now) (slice_index levels.old i) (place + i))
+        (slice_index levels.old i) }
 {
     let mut rest = parts;
     let mut alive = word;
@@ -147,7 +150,8 @@ fn push_block(
     requires few { count ≤ 64 }
     requires holds { (i : ℕ) → flat_level (parts_of parts.now) def i < 2 ^ writer.old.width }
     ensures width { writer.new.width ≡ writer.old.width }
-    ensures added { OnOk result ((start xs : List ℕ) → Keeps start out.old.items writer.old xs → Keeps start out.new.items writer.new (xs ++ levels_from (flat_level (parts_of parts.now) def) place count)) }
+    ensures added { OnOk result ((start xs : List ℕ) → Keeps start out.old.items writer.old xs
+        → Keeps start out.new.items writer.new (xs ++ levels_from (flat_level (parts_of parts.now) def) place count)) }
     ensures kept { Extends out.old.items out.new.items }
 {
     match front_at(parts, def, place, count) {
@@ -182,7 +186,9 @@ fn push_blocks(
     requires ordered { from ≤ to }
     requires holds { (i : ℕ) → flat_level (parts_of parts.now) def i < 2 ^ writer.old.width }
     ensures width { writer.new.width ≡ writer.old.width }
-    ensures added { OnOk result ((start xs : List ℕ) → Keeps start out.old.items writer.old xs → Keeps start out.new.items writer.new (xs ++ levels_from (flat_level (parts_of parts.now) def) from (to - from))) }
+    ensures added { OnOk result ((start xs : List ℕ) → Keeps start out.old.items writer.old xs
+        → Keeps start out.new.items writer.new (xs ++ levels_from (flat_level (parts_of parts.now) def) from
+        (to - from))) }
     ensures kept { Extends out.old.items out.new.items }
 {
     let mut place = from;
@@ -267,7 +273,9 @@ pub fn push_flat(
     requires ordered { from ≤ to }
     requires holds { (i : ℕ) → flat_level (parts_of parts.now) def i < 2 ^ writer.old.width }
     ensures width { writer.new.width ≡ writer.old.width }
-    ensures added { OnOk result ((start xs : List ℕ) → Keeps start out.old.items writer.old xs → Keeps start out.new.items writer.new (xs ++ levels_from (flat_level (parts_of parts.now) def) from (to - from))) }
+    ensures added { OnOk result ((start xs : List ℕ) → Keeps start out.old.items writer.old xs
+        → Keeps start out.new.items writer.new (xs ++ levels_from (flat_level (parts_of parts.now) def) from
+        (to - from))) }
     ensures kept { Extends out.old.items out.new.items }
 {
     let (level, end) = first_run(parts, def, from, to);

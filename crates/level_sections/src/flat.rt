@@ -40,9 +40,12 @@ pub fn write_def_levels(
     version: Version,
 ) -> Result<()>
     requires { MaskFits (mask_of validity) len }
-    ensures ok { (values : ℕ → Value) → OnOk result (AppendsLevels version (max_definition (at_leaf is_optional)) writer.old.items writer.new.items (map (λ t. t.definition) (flat_column values is_optional (mask_of validity.entry) len))) }
+    ensures ok { (values : ℕ → Value) → OnOk result
+        (AppendsLevels version (max_definition (at_leaf is_optional)) writer.old.items writer.new.items
+        (map (λ t. t.definition) (flat_column values is_optional (mask_of validity.entry) len))) }
     ensures too_large { (result ≡ Err (Error.Overflow V.V3)) ↔ (max_size < level_room len) }
-    ensures err { IfErr result (λ e. ((e ≡ Error.Memory) ⊎ (e ≡ Error.Overflow V.V3)) × (writer.new.items ≡ writer.old.items)) }
+    ensures err { IfErr result (λ e. ((e ≡ Error.Memory) ⊎ (e ≡ Error.Overflow V.V3))
+        × (writer.new.items ≡ writer.old.items)) }
 {
     if len > MOST_PAIRS {
         return Err(Error::Overflow(V::V3));

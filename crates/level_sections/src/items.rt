@@ -147,7 +147,8 @@ fn with_list(pending: Pending, window: Window, empty: u64, first: usize, items: 
     ensures count { result.count ≡ pending.count + max items 1 }
     ensures few { result.count ≤ 64 }
     ensures followed { IsFollowed result window (first + items) }
-    ensures levels { (def : ℕ) → (level : ℕ → ℕ) → IsWindow def level window → pending_levels def result ≡ pending_levels def pending ++ levels_or (def + empty) level first items }
+    ensures levels { (def : ℕ) → (level : ℕ → ℕ) → IsWindow def level window
+        → pending_levels def result ≡ pending_levels def pending ++ levels_or (def + empty) level first items }
 {
     if items == 0 {
         return with_number(pending, empty);
@@ -183,7 +184,9 @@ fn with_next(
     ensures room { IfSome result (λ r. r.1 + r.0.count ≤ next + 64) }
     ensures there { IfSome result (λ r. next - at ≡ cond there (next - at) 0) }
     ensures followed { IfSome result (λ r. IsFollowed r.0 window next) }
-    ensures levels { IfSome result (λ r. (def : ℕ) → (level : ℕ → ℕ) → IsWindow def level window → pending_levels def r.0 ≡ pending_levels def pending ++ levels_or (def + cond there (bit is_optional) 0) level at (next - at)) }
+    ensures levels { IfSome result (λ r. (def : ℕ) → (level : ℕ → ℕ) → IsWindow def level window
+        → pending_levels def r.0 ≡ pending_levels def pending
+        ++ levels_or (def + cond there (bit is_optional) 0) level at (next - at)) }
 {
     let empty = step_at(is_optional, there);
     if next == at {
@@ -217,10 +220,15 @@ fn take_lists<O: Offset>(
     requires ordered { window.first ≤ window.end }
     requires lists { count ≤ 64 }
     requires within { place + count ≤ length list.now.offsets - 1 }
-    requires bits { (i : ℕ) → i < count → (bit_at word i == 1) ≡ is_present list.now.is_optional list.now.validity (place + i) }
+    requires bits { (i : ℕ) → i < count → (bit_at word i == 1) ≡ is_present list.now.is_optional list.now.validity
+        (place + i) }
     ensures few { result.0.count ≤ 64 }
     ensures before { result.1 ≤ count }
-    ensures levels { (rest : List Part) → (def : ℕ) → IsWindow def (flat_level rest (def + bit list.now.is_optional + 1)) window → pending_levels def result.0 ≡ pending_levels def pending ++ listed_from (list_definitions list.now.is_optional list.now.validity list.now.offsets rest def) place result.1 }
+    ensures levels { (rest : List Part) → (def : ℕ) → IsWindow def
+        (flat_level rest (def + bit list.now.is_optional + 1)) window
+        → pending_levels def result.0 ≡ pending_levels def pending
+        ++ listed_from
+        (list_definitions list.now.is_optional list.now.validity list.now.offsets rest def) place result.1 }
 {
     // the number of lists fits its type, so `place + i` does
     let _lists = list.offsets.len_proxy();
@@ -265,11 +273,17 @@ fn push_list<O: Offset>(
     requires within { i + 1 < length list.now.offsets }
     requires there { there ≡ is_present list.now.is_optional list.now.validity i }
     requires waits { All (λ v. v < 2 ^ writer.old.width) (pending_levels def pending) }
-    requires holds { (j : ℕ) → flat_level (parts_of rest.now) (def + bit list.now.is_optional + 1) j < 2 ^ writer.old.width }
+    requires holds { (j : ℕ) → flat_level (parts_of rest.now) (def + bit list.now.is_optional + 1) j
+        < 2 ^ writer.old.width }
     ensures width { writer.new.width ≡ writer.old.width }
     ensures few { IfOk result (λ after. after.count ≤ 64) }
     ensures waits { IfOk result (λ after. All (λ v. v < 2 ^ writer.old.width) (pending_levels def after)) }
-    ensures added { IfOk result (λ after. (start left whole : List ℕ) → Goes start out.old.items writer.old (pending_levels def pending ++ (list_definitions list.now.is_optional list.now.validity list.now.offsets (parts_of rest.now) def i ++ left)) whole → Goes start out.new.items writer.new (pending_levels def after ++ left) whole) }
+    ensures added { IfOk result (λ after. (start left whole : List ℕ)
+        → Goes start out.old.items writer.old
+        (pending_levels def pending
+        ++
+        (list_definitions list.now.is_optional list.now.validity list.now.offsets (parts_of rest.now) def i
+        ++ left)) whole → Goes start out.new.items writer.new (pending_levels def after ++ left) whole) }
     ensures kept { Extends out.old.items out.new.items }
 {
     push_planes(out, writer, def, pending.planes, pending.count)?;
@@ -305,13 +319,21 @@ fn push_some<O: Offset>(
     requires some { place < to }
     requires within { to ≤ length list.now.offsets - 1 }
     requires waits { All (λ v. v < 2 ^ writer.old.width) (pending_levels def pending) }
-    requires holds { (j : ℕ) → flat_level (parts_of rest.now) (def + bit list.now.is_optional + 1) j < 2 ^ writer.old.width }
+    requires holds { (j : ℕ) → flat_level (parts_of rest.now) (def + bit list.now.is_optional + 1) j
+        < 2 ^ writer.old.width }
     ensures width { writer.new.width ≡ writer.old.width }
     ensures few { IfOk result (λ after. after.0.count ≤ 64) }
     ensures after { IfOk result (λ after. place < after.1) }
     ensures before { IfOk result (λ after. after.1 ≤ to) }
     ensures waits { IfOk result (λ after. All (λ v. v < 2 ^ writer.old.width) (pending_levels def after.0)) }
-    ensures added { IfOk result (λ after. (start whole : List ℕ) → Goes start out.old.items writer.old (pending_levels def pending ++ listed_from (list_definitions list.now.is_optional list.now.validity list.now.offsets (parts_of rest.now) def) place (to - place)) whole → Goes start out.new.items writer.new (pending_levels def after.0 ++ listed_from (list_definitions list.now.is_optional list.now.validity list.now.offsets (parts_of rest.now) def) after.1 (to - after.1)) whole) }
+    ensures added { IfOk result (λ after. (start whole : List ℕ) → Goes start out.old.items writer.old
+        (pending_levels def pending
+        ++ listed_from
+        (list_definitions list.now.is_optional list.now.validity list.now.offsets (parts_of rest.now) def) place
+        (to - place)) whole → Goes start out.new.items writer.new
+        (pending_levels def after.0 ++ listed_from
+        (list_definitions list.now.is_optional list.now.validity list.now.offsets (parts_of rest.now) def) after.1
+        (to - after.1)) whole) }
     ensures kept { Extends out.old.items out.new.items }
 {
     let lists = list.offsets.len_proxy();
@@ -345,9 +367,13 @@ pub fn push_items<O: Offset>(
     requires low { def + length rest.now + 2 ≤ 256 }
     requires ordered { from ≤ to }
     requires within { to ≤ length list.now.offsets - 1 }
-    requires holds { (j : ℕ) → flat_level (parts_of rest.now) (def + bit list.now.is_optional + 1) j < 2 ^ writer.old.width }
+    requires holds { (j : ℕ) → flat_level (parts_of rest.now) (def + bit list.now.is_optional + 1) j
+        < 2 ^ writer.old.width }
     ensures width { writer.new.width ≡ writer.old.width }
-    ensures added { OnOk result ((start xs : List ℕ) → Keeps start out.old.items writer.old xs → Keeps start out.new.items writer.new (xs ++ listed_from (list_definitions list.now.is_optional list.now.validity list.now.offsets (parts_of rest.now) def) from (to - from))) }
+    ensures added { OnOk result ((start xs : List ℕ) → Keeps start out.old.items writer.old xs
+        → Keeps start out.new.items writer.new (xs ++ listed_from
+        (list_definitions list.now.is_optional list.now.validity list.now.offsets (parts_of rest.now) def) from
+        (to - from))) }
     ensures kept { Extends out.old.items out.new.items }
 {
     let mut pending = NONE;
@@ -464,7 +490,8 @@ pub fn walk_items(
     requires low { IsLow above (length parts.now) }
     requires holds { above.def + max_definition (path_way (parts_of parts.now)) < 2 ^ writer.old.width }
     ensures width { writer.new.width ≡ writer.old.width }
-    ensures added { OnOk result ((start xs : List ℕ) → Keeps start out.old.items writer.old xs → Keeps start out.new.items writer.new (xs ++ walked level (parts_of parts.now) above from (to - from))) }
+    ensures added { OnOk result ((start xs : List ℕ) → Keeps start out.old.items writer.old xs
+        → Keeps start out.new.items writer.new (xs ++ walked level (parts_of parts.now) above from (to - from))) }
     ensures kept { Extends out.old.items out.new.items }
 {
     let Some((part, rest)) = parts.split_first() else {

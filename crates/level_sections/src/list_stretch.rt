@@ -64,7 +64,8 @@ fn stretch_of_items<'a, O: Offset>(
     requires some { place < to }
     requires within { to ≤ length list.now.offsets - 1 }
     requires full { AreFull list.now.is_optional list.now.validity list.now.offsets place (place + 1) }
-    ensures { IsStretch level (list_part list.now.is_optional list.now.validity list.now.offsets ∷ parts_of rest.now) (length rest.now + 1) place to result }
+    ensures { IsStretch level (list_part list.now.is_optional list.now.validity list.now.offsets ∷ parts_of rest.now)
+        (length rest.now + 1) place to result }
 {
     let up = step_of(list.is_optional) + 1;
     let first = item_place(&list.offsets, place);
@@ -94,7 +95,8 @@ fn stretch_of_list<'a, O: Offset>(
     requires beneath { FitTogether (parts_of rest.now) }
     requires some { place < to }
     requires within { to ≤ length list.now.offsets - 1 }
-    ensures { IsStretch level (list_part list.now.is_optional list.now.validity list.now.offsets ∷ parts_of rest.now) (length rest.now + 1) place to result }
+    ensures { IsStretch level (list_part list.now.is_optional list.now.validity list.now.offsets ∷ parts_of rest.now)
+        (length rest.now + 1) place to result }
 {
     let lists = list.offsets.len_proxy();
     if !is_there(list.is_optional, &list.validity, lists, place) {

@@ -30,7 +30,8 @@ const NONE: Starts = Starts {
 fn pairs_at<O: Offset>(offsets: &OffsetsBuffer<O>, there: bool, i: usize) -> usize
     requires { i + 1 < length offsets.now }
     ensures some { 1 ≤ result }
-    ensures size { (is_optional : Bool) (mask : Option (List Bool)) → there ≡ is_present is_optional mask i → result ≡ list_size is_optional mask offsets.now i }
+    ensures size { (is_optional : Bool) (mask : Option (List Bool)) → there ≡ is_present is_optional mask i
+        → result ≡ list_size is_optional mask offsets.now i }
 {
     list_pairs(offsets, there, i).max(1)
 }
@@ -78,7 +79,9 @@ fn push_long(
     requires holds { depth + 1 < 2 ^ writer.old.width }
     ensures width { writer.new.width ≡ writer.old.width }
     ensures open { IfOk result (λ after. IsOpen after) }
-    ensures added { IfOk result (λ after. (start rest whole : List ℕ) → Goes start out.old.items writer.old (pending depth starts ++ (list_levels depth depth pairs ++ rest)) whole → Goes start out.new.items writer.new (pending depth after ++ rest) whole) }
+    ensures added { IfOk result (λ after. (start rest whole : List ℕ)
+        → Goes start out.old.items writer.old (pending depth starts ++ (list_levels depth depth pairs ++ rest)) whole
+        → Goes start out.new.items writer.new (pending depth after ++ rest) whole) }
     ensures kept { Extends out.old.items out.new.items }
 {
     writer.push_bits(out, depth, starts.word, starts.count)?;
@@ -105,7 +108,11 @@ fn take_full<O: Offset>(
     ensures open { IsOpen result.0 }
     ensures after { place ≤ result.1 }
     ensures before { result.1 ≤ to }
-    ensures levels { (depth : ℕ) (is_optional : Bool) (mask : Option (List Bool)) → ((i : ℕ) → place ≤ i → i < to → is_present is_optional mask i ≡ true) → pending depth starts ++ reps_from (list_size is_optional mask offsets.now) depth depth place (to - place) ≡ pending depth result.0 ++ reps_from (list_size is_optional mask offsets.now) depth depth result.1 (to - result.1) }
+    ensures levels { (depth : ℕ) (is_optional : Bool) (mask : Option (List Bool))
+        → ((i : ℕ) → place ≤ i → i < to → is_present is_optional mask i ≡ true)
+        → pending depth starts ++ reps_from (list_size is_optional mask offsets.now) depth depth place (to - place)
+        ≡ pending depth result.0 ++ reps_from (list_size is_optional mask offsets.now) depth depth result.1
+        (to - result.1) }
 {
     offsets.know();
     // the number of lists fits its type, so `i + 1` does
@@ -146,7 +153,11 @@ fn take_lists<O: Offset>(
     ensures open { IsOpen result.0 }
     ensures after { from ≤ result.1 }
     ensures before { result.1 ≤ count }
-    ensures levels { (depth : ℕ) (is_optional : Bool) (mask : Option (List Bool)) → ((i : ℕ) → i < count → (bit_at word i == 1) ≡ is_present is_optional mask (place + i)) → pending depth starts ++ reps_from (list_size is_optional mask offsets.now) depth depth (place + from) (count - from) ≡ pending depth result.0 ++ reps_from (list_size is_optional mask offsets.now) depth depth (place + result.1) (count - result.1) }
+    ensures levels { (depth : ℕ) (is_optional : Bool) (mask : Option (List Bool))
+        → ((i : ℕ) → i < count → (bit_at word i == 1) ≡ is_present is_optional mask (place + i))
+        → pending depth starts ++ reps_from (list_size is_optional mask offsets.now) depth depth (place + from)
+        (count - from) ≡ pending depth result.0 ++ reps_from (list_size is_optional mask offsets.now) depth depth
+        (place + result.1) (count - result.1) }
 {
     offsets.know();
     // the number of lists fits its type, so `place + i` does
@@ -185,7 +196,11 @@ fn take_some<O: Offset>(
     ensures open { IsOpen result.0 }
     ensures after { from ≤ result.1 }
     ensures before { result.1 ≤ count }
-    ensures levels { (depth : ℕ) (is_optional : Bool) (mask : Option (List Bool)) → ((i : ℕ) → i < count → (bit_at word i == 1) ≡ is_present is_optional mask (place + i)) → pending depth starts ++ reps_from (list_size is_optional mask offsets.now) depth depth (place + from) (count - from) ≡ pending depth result.0 ++ reps_from (list_size is_optional mask offsets.now) depth depth (place + result.1) (count - result.1) }
+    ensures levels { (depth : ℕ) (is_optional : Bool) (mask : Option (List Bool))
+        → ((i : ℕ) → i < count → (bit_at word i == 1) ≡ is_present is_optional mask (place + i))
+        → pending depth starts ++ reps_from (list_size is_optional mask offsets.now) depth depth (place + from)
+        (count - from) ≡ pending depth result.0 ++ reps_from (list_size is_optional mask offsets.now) depth depth
+        (place + result.1) (count - result.1) }
 {
     // the number of lists fits its type, so `place + from` does
     let _lists = offsets.len_proxy();
@@ -224,7 +239,15 @@ fn push_word<O: Offset>(
     ensures open { IfOk result (λ after. IsOpen after.0) }
     ensures after { IfOk result (λ after. from < after.1) }
     ensures before { IfOk result (λ after. after.1 ≤ count) }
-    ensures added { IfOk result (λ after. (is_optional : Bool) (mask : Option (List Bool)) → ((i : ℕ) → i < count → (bit_at word i == 1) ≡ is_present is_optional mask (place + i)) → (start rest whole : List ℕ) → Goes start out.old.items writer.old (pending depth starts ++ (reps_from (list_size is_optional mask offsets.now) depth depth (place + from) (count - from) ++ rest)) whole → Goes start out.new.items writer.new (pending depth after.0 ++ (reps_from (list_size is_optional mask offsets.now) depth depth (place + after.1) (count - after.1) ++ rest)) whole) }
+    ensures added { IfOk result (λ after. (is_optional : Bool) (mask : Option (List Bool))
+        → ((i : ℕ) → i < count → (bit_at word i == 1) ≡ is_present is_optional mask (place + i))
+        → (start rest whole : List ℕ) → Goes start out.old.items writer.old
+        (pending depth starts
+        ++
+        (reps_from (list_size is_optional mask offsets.now) depth depth (place + from) (count - from) ++ rest)) whole
+        → Goes start out.new.items writer.new (pending depth after.0
+        ++ (reps_from (list_size is_optional mask offsets.now) depth depth (place + after.1) (count - after.1)
+        ++ rest)) whole) }
     ensures kept { Extends out.old.items out.new.items }
 {
     // the number of lists fits its type, so `place + next` does
@@ -257,7 +280,12 @@ fn push_some<O: Offset>(
     requires holds { depth + 1 < 2 ^ writer.old.width }
     ensures width { writer.new.width ≡ writer.old.width }
     ensures open { IfOk result (λ after. IsOpen after) }
-    ensures added { IfOk result (λ after. (is_optional : Bool) (mask : Option (List Bool)) → ((i : ℕ) → i < count → (bit_at word i == 1) ≡ is_present is_optional mask (place + i)) → (start rest whole : List ℕ) → Goes start out.old.items writer.old (pending depth starts ++ (reps_from (list_size is_optional mask offsets.now) depth depth place count ++ rest)) whole → Goes start out.new.items writer.new (pending depth after ++ rest) whole) }
+    ensures added { IfOk result (λ after. (is_optional : Bool) (mask : Option (List Bool))
+        → ((i : ℕ) → i < count → (bit_at word i == 1) ≡ is_present is_optional mask (place + i))
+        → (start rest whole : List ℕ) → Goes start out.old.items writer.old
+        (pending depth starts
+        ++ (reps_from (list_size is_optional mask offsets.now) depth depth place count ++ rest)) whole
+        → Goes start out.new.items writer.new (pending depth after ++ rest) whole) }
     ensures kept { Extends out.old.items out.new.items }
 {
     let mut after = starts;
@@ -285,7 +313,9 @@ pub fn push_lists<O: Offset>(
     requires low { depth < 256 }
     requires holds { depth + 1 < 2 ^ writer.old.width }
     ensures width { writer.new.width ≡ writer.old.width }
-    ensures added { OnOk result ((start xs : List ℕ) → Keeps start out.old.items writer.old xs → Keeps start out.new.items writer.new (xs ++ reps_from (list_size list.now.is_optional list.now.validity list.now.offsets) depth depth from (to - from))) }
+    ensures added { OnOk result ((start xs : List ℕ) → Keeps start out.old.items writer.old xs
+        → Keeps start out.new.items writer.new (xs ++ reps_from
+        (list_size list.now.is_optional list.now.validity list.now.offsets) depth depth from (to - from))) }
     ensures kept { Extends out.old.items out.new.items }
 {
     let lists = list.offsets.len_proxy();
@@ -325,7 +355,9 @@ fn push_lists_from<O: Offset>(
     requires low { above.depth < 256 }
     requires holds { above.depth + 1 < 2 ^ writer.old.width }
     ensures width { writer.new.width ≡ writer.old.width }
-    ensures added { OnOk result ((start xs : List ℕ) → Keeps start out.old.items writer.old xs → Keeps start out.new.items writer.new (xs ++ reps_from (list_size list.now.is_optional list.now.validity list.now.offsets) above.rep above.depth from (to - from))) }
+    ensures added { OnOk result ((start xs : List ℕ) → Keeps start out.old.items writer.old xs
+        → Keeps start out.new.items writer.new (xs ++ reps_from
+        (list_size list.now.is_optional list.now.validity list.now.offsets) above.rep above.depth from (to - from))) }
     ensures kept { Extends out.old.items out.new.items }
 {
     let lists = list.offsets.len_proxy();
@@ -352,7 +384,9 @@ pub fn walk_lists<O: Offset>(
     requires low { above.depth < 256 }
     requires holds { above.depth + 1 < 2 ^ writer.old.width }
     ensures width { writer.new.width ≡ writer.old.width }
-    ensures added { OnOk result ((start xs : List ℕ) → Keeps start out.old.items writer.old xs → Keeps start out.new.items writer.new (xs ++ reps_from (list_size list.now.is_optional list.now.validity list.now.offsets) above.rep above.depth from (to - from))) }
+    ensures added { OnOk result ((start xs : List ℕ) → Keeps start out.old.items writer.old xs
+        → Keeps start out.new.items writer.new (xs ++ reps_from
+        (list_size list.now.is_optional list.now.validity list.now.offsets) above.rep above.depth from (to - from))) }
     ensures kept { Extends out.old.items out.new.items }
 {
     if from == to {

@@ -103,7 +103,8 @@ fn tell_flats(
 fn set_first(told: &mut LevelBytes, level: Level, at: usize, depth: u32)
     requires within { at < length told.old }
     requires low { depth < 256 }
-    ensures { (front piece : List ℕ) → told.old ≡ front ++ piece → length front ≡ at → 0 < length piece → told.new ≡ front ++ with_first level depth piece }
+    ensures { (front piece : List ℕ) → told.old ≡ front ++ piece → length front ≡ at → 0 < length piece
+        → told.new ≡ front ++ with_first level depth piece }
 {
     match level {
         Level::Definition => (),
@@ -126,7 +127,9 @@ fn push_beneath(
     requires rising { slice_index lower.now.starts first < slice_index lower.now.starts last }
     requires within { slice_index lower.now.starts last ≤ length lower.now.told }
     requires low { depth < 256 }
-    ensures { IsTrue result → told.new ≡ told.old ++ with_first level depth (take (slice_index lower.now.starts last - slice_index lower.now.starts first) (drop (slice_index lower.now.starts first) lower.now.told)) }
+    ensures { IsTrue result → told.new ≡ told.old ++ with_first level depth
+        (take (slice_index lower.now.starts last - slice_index lower.now.starts first)
+        (drop (slice_index lower.now.starts first) lower.now.told)) }
 {
     let from = lower.starts[first] as usize;
     let to = lower.starts[last] as usize;
@@ -184,8 +187,10 @@ fn push_list<O: Offset>(
     requires same { above.rep ≡ above.depth }
     requires def { above.def < 255 }
     requires depth { above.depth < 256 }
-    requires beneath { AreTold (λ n. walked level (parts_of rest.now) (above_items above list.now.is_optional) (item_start list.now.offsets from) n) (last - item_start list.now.offsets from) lower.now }
-    ensures { IsTrue result → told.new ≡ told.old ++ walked level (list_part list.now.is_optional list.now.validity list.now.offsets ∷ parts_of rest.now) above place 1 }
+    requires beneath { AreTold (λ n. walked level (parts_of rest.now) (above_items above list.now.is_optional)
+        (item_start list.now.offsets from) n) (last - item_start list.now.offsets from) lower.now }
+    ensures { IsTrue result → told.new ≡ told.old ++ walked level
+        (list_part list.now.is_optional list.now.validity list.now.offsets ∷ parts_of rest.now) above place 1 }
 {
     let _beneath = rest;
     let _named = (from, place, last);
@@ -221,8 +226,10 @@ fn push_struct(
     requires same { above.rep ≡ above.depth }
     requires def { above.def < 255 }
     requires depth { above.depth < 256 }
-    requires beneath { AreTold (λ n. walked level (parts_of rest.now) (above_fields above is_optional) from n) (to - from) lower.now }
-    ensures { IsTrue result → told.new ≡ told.old ++ walked level (struct_part is_optional mask.now slots ∷ parts_of rest.now) above place 1 }
+    requires beneath { AreTold (λ n. walked level (parts_of rest.now) (above_fields above is_optional) from n)
+        (to - from) lower.now }
+    ensures { IsTrue result → told.new ≡ told.old ++ walked level
+        (struct_part is_optional mask.now slots ∷ parts_of rest.now) above place 1 }
 {
     let _mask = mask;
     let _beneath = rest;
@@ -259,14 +266,21 @@ fn raise_word<O: Offset>(
     requires few { count ≤ 64 }
     requires room { place + count - from ≤ 2048 }
     requires within { place + count ≤ length list.now.offsets - 1 }
-    requires bits { (i : ℕ) → i < count → (bit_at word i == 1) ≡ is_present list.now.is_optional list.now.validity (place + i) }
+    requires bits { (i : ℕ) → i < count → (bit_at word i == 1) ≡ is_present list.now.is_optional list.now.validity
+        (place + i) }
     requires before { item_start list.now.offsets (place + count) ≤ last }
     requires same { above.rep ≡ above.depth }
     requires def { above.def < 255 }
     requires depth { above.depth < 256 }
-    requires beneath { AreTold (λ n. walked level (parts_of rest.now) (above_items above list.now.is_optional) (item_start list.now.offsets from) n) (last - item_start list.now.offsets from) lower.now }
-    requires told { AreTold (λ n. walked level (list_part list.now.is_optional list.now.validity list.now.offsets ∷ parts_of rest.now) above from n) (place - from) upper.old }
-    ensures { IsTrue result → AreTold (λ n. walked level (list_part list.now.is_optional list.now.validity list.now.offsets ∷ parts_of rest.now) above from n) (place + count - from) upper.new }
+    requires beneath { AreTold (λ n. walked level (parts_of rest.now) (above_items above list.now.is_optional)
+        (item_start list.now.offsets from) n) (last - item_start list.now.offsets from) lower.now }
+    requires told { AreTold (λ n. walked level
+        (list_part list.now.is_optional list.now.validity list.now.offsets ∷ parts_of rest.now) above from n)
+        (place - from) upper.old }
+    ensures { IsTrue result
+        → AreTold (λ n. walked level
+        (list_part list.now.is_optional list.now.validity list.now.offsets ∷ parts_of rest.now) above from n)
+        (place + count - from) upper.new }
 {
     list.offsets.know();
     // the number of lists fits its type, so `place + i` does
@@ -318,8 +332,13 @@ fn raise_lists<O: Offset>(
     requires same { above.rep ≡ above.depth }
     requires def { above.def < 255 }
     requires depth { above.depth < 256 }
-    requires beneath { AreTold (λ n. walked level (parts_of rest.now) (above_items above list.now.is_optional) (item_start list.now.offsets from) n) (item_start list.now.offsets to - item_start list.now.offsets from) lower.now }
-    ensures { IsTrue result → AreTold (λ n. walked level (list_part list.now.is_optional list.now.validity list.now.offsets ∷ parts_of rest.now) above from n) (to - from) upper.new }
+    requires beneath { AreTold (λ n. walked level (parts_of rest.now) (above_items above list.now.is_optional)
+        (item_start list.now.offsets from) n)
+        (item_start list.now.offsets to - item_start list.now.offsets from) lower.now }
+    ensures { IsTrue result
+        → AreTold (λ n. walked level
+        (list_part list.now.is_optional list.now.validity list.now.offsets ∷ parts_of rest.now) above from n)
+        (to - from) upper.new }
 {
     upper.told.clear();
     mark(upper, 0);
@@ -367,9 +386,13 @@ fn raise_struct_word(
     requires same { above.rep ≡ above.depth }
     requires def { above.def < 255 }
     requires depth { above.depth < 256 }
-    requires beneath { AreTold (λ n. walked level (parts_of rest.now) (above_fields above is_optional) from n) (to - from) lower.now }
-    requires told { AreTold (λ n. walked level (struct_part is_optional mask.now slots ∷ parts_of rest.now) above from n) (place - from) upper.old }
-    ensures { IsTrue result → AreTold (λ n. walked level (struct_part is_optional mask.now slots ∷ parts_of rest.now) above from n) (place + count - from) upper.new }
+    requires beneath { AreTold (λ n. walked level (parts_of rest.now) (above_fields above is_optional) from n)
+        (to - from) lower.now }
+    requires told { AreTold (λ n. walked level
+        (struct_part is_optional mask.now slots ∷ parts_of rest.now) above from n) (place - from) upper.old }
+    ensures { IsTrue result
+        → AreTold (λ n. walked level (struct_part is_optional mask.now slots ∷ parts_of rest.now) above from n)
+        (place + count - from) upper.new }
 {
     let mut i = 0;
     while i < count {
@@ -416,8 +439,11 @@ fn raise_structs(
     requires same { above.rep ≡ above.depth }
     requires def { above.def < 255 }
     requires depth { above.depth < 256 }
-    requires beneath { AreTold (λ n. walked level (parts_of rest.now) (above_fields above is_optional) from n) (to - from) lower.now }
-    ensures { IsTrue result → AreTold (λ n. walked level (struct_part is_optional mask.now slots ∷ parts_of rest.now) above from n) (to - from) upper.new }
+    requires beneath { AreTold (λ n. walked level (parts_of rest.now) (above_fields above is_optional) from n)
+        (to - from) lower.now }
+    ensures { IsTrue result
+        → AreTold (λ n. walked level (struct_part is_optional mask.now slots ∷ parts_of rest.now) above from n)
+        (to - from) upper.new }
 {
     upper.told.clear();
     mark(upper, 0);

@@ -43,7 +43,8 @@ pub fn one_plane(word: u64) -> BitPlanes
 // Adds a word's bits to numbers that have room for one more.
 #[inline(always)]
 fn with_bits(planes: BitPlanes, word: u64) -> BitPlanes
-    ensures { (i : ℕ) → plane_number planes i + bit_at word i ≤ 7 → plane_number result i ≡ plane_number planes i + bit_at word i }
+    ensures { (i : ℕ) → plane_number planes i + bit_at word i ≤ 7
+        → plane_number result i ≡ plane_number planes i + bit_at word i }
 {
     let twos = planes.ones & word;
     let fours = planes.twos & twos;
@@ -66,7 +67,9 @@ pub fn with_parts(
     requires some { 0 < count }
     requires few { count ≤ 64 }
     requires low { (i : ℕ) → i < count → plane_number planes i + length parts.now ≤ 7 }
-    ensures { (i : ℕ) → i < count → (def : ℕ) → def + plane_number result i ≡ cond (bit_at word i == 1) (flat_level (parts_of parts.now) (def + plane_number planes i) (place + i)) (def + plane_number planes i) }
+    ensures { (i : ℕ) → i < count → (def : ℕ) → def + plane_number result i
+        ≡ cond (bit_at word i == 1) (flat_level (parts_of parts.now) (def + plane_number planes i) (place + i))
+        (def + plane_number planes i) }
 {
     let mut rest = parts;
     let mut alive = word;
@@ -102,7 +105,8 @@ pub fn item_planes(is_optional: bool, rest: &[Nested], place: usize, count: usiz
     requires some { 0 < count }
     requires few { count ≤ 64 }
     requires parts { length rest.now ≤ 5 }
-    ensures { (i : ℕ) → i < count → (def : ℕ) → def + plane_number result i ≡ flat_level (parts_of rest.now) (def + bit is_optional + 1) (place + i) }
+    ensures { (i : ℕ) → i < count → (def : ℕ) → def + plane_number result i
+        ≡ flat_level (parts_of rest.now) (def + bit is_optional + 1) (place + i) }
 {
     with_parts(
         list_planes(is_optional),
@@ -141,7 +145,8 @@ pub fn with_number(pending: Pending, bit: u64) -> Pending
     requires room { pending.count < 64 }
     requires bit { bit ≤ 1 }
     ensures count { result.count ≡ pending.count + 1 }
-    ensures behind { (i : ℕ) → result.count + i < 64 → plane_number result.planes (result.count + i) ≡ plane_number pending.planes (pending.count + i) }
+    ensures behind { (i : ℕ) → result.count + i < 64 → plane_number result.planes (result.count + i)
+        ≡ plane_number pending.planes (pending.count + i) }
     ensures levels { (low : ℕ) → pending_levels low result ≡ pending_levels low pending ++ (low + bit) ∷ [] }
 {
     Pending {
@@ -159,7 +164,8 @@ pub fn with_number(pending: Pending, bit: u64) -> Pending
 pub fn with_others(pending: Pending, planes: BitPlanes) -> Pending
     requires room { pending.count ≤ 64 }
     ensures count { result.count ≡ pending.count }
-    ensures behind { (i : ℕ) → pending.count + i < 64 → plane_number result.planes (pending.count + i) ≡ plane_number planes i }
+    ensures behind { (i : ℕ) → pending.count + i < 64 → plane_number result.planes (pending.count + i)
+        ≡ plane_number planes i }
     ensures levels { (low : ℕ) → pending_levels low result ≡ pending_levels low pending }
 {
     if pending.count == 64 {
@@ -201,7 +207,8 @@ fn spread(bits: u64) -> u64
 #[inline(always)]
 pub fn spread_at(word: u64, at: usize) -> u64
     requires { at < 64 }
-    ensures { result ≡ bit_at word at + 256 * bit_at word (at + 1) + 65536 * bit_at word (at + 2) + 16777216 * bit_at word (at + 3) }
+    ensures { result ≡ bit_at word at + 256 * bit_at word (at + 1) + 65536 * bit_at word (at + 2)
+        + 16777216 * bit_at word (at + 3) }
 {
     spread((word >> at) % 16)
 }
@@ -345,7 +352,8 @@ pub fn push_planes(
     requires low { low ≤ 256 }
     requires holds { All (λ v. v < 2 ^ writer.old.width) (plane_numbers low planes 0 count) }
     ensures width { writer.new.width ≡ writer.old.width }
-    ensures added { OnOk result ((start xs : List ℕ) → Keeps start out.old.items writer.old xs → Keeps start out.new.items writer.new (xs ++ plane_numbers low planes 0 count)) }
+    ensures added { OnOk result ((start xs : List ℕ) → Keeps start out.old.items writer.old xs
+        → Keeps start out.new.items writer.new (xs ++ plane_numbers low planes 0 count)) }
     ensures kept { Extends out.old.items out.new.items }
 {
     if planes.twos == 0 {

@@ -38,7 +38,8 @@ fn push_runs(
     requires parts { length nested.now ≤ 128 }
     requires max { max ≡ greatest level (parts_of nested.now) }
     requires some { 0 < max }
-    ensures ok { OnOk result ((width : ℕ) × IsWidth max width × AppendsRuns width buffer.old.items buffer.new.items (map (level_of level) (path_pairs (parts_of nested.now)))) }
+    ensures ok { OnOk result ((width : ℕ) × IsWidth max width × AppendsRuns width buffer.old.items buffer.new.items
+        (map (level_of level) (path_pairs (parts_of nested.now)))) }
     ensures kept { Extends buffer.old.items buffer.new.items }
 {
     let mut writer = RunWriter::new(get_bit_width(max as u64));
@@ -71,7 +72,8 @@ fn push_behind_length(
     requires max { max ≡ greatest level (parts_of nested.now) }
     requires some { 0 < max }
     requires few { length (path_pairs (parts_of nested.now)) < 2 ^ 30 }
-    ensures ok { IfOk result (λ size. AppendsOne V1 max buffer.old.items buffer.new.items (map (level_of level) (path_pairs (parts_of nested.now))) size) }
+    ensures ok { IfOk result (λ size. AppendsOne V1 max buffer.old.items buffer.new.items
+        (map (level_of level) (path_pairs (parts_of nested.now))) size) }
     ensures kept { Extends buffer.old.items buffer.new.items }
 {
     let at = buffer.len();
@@ -93,7 +95,8 @@ fn push_alone(
     requires parts { length nested.now ≤ 128 }
     requires max { max ≡ greatest level (parts_of nested.now) }
     requires some { 0 < max }
-    ensures ok { IfOk result (λ size. AppendsOne V2 max buffer.old.items buffer.new.items (map (level_of level) (path_pairs (parts_of nested.now))) size) }
+    ensures ok { IfOk result (λ size. AppendsOne V2 max buffer.old.items buffer.new.items
+        (map (level_of level) (path_pairs (parts_of nested.now))) size) }
     ensures kept { Extends buffer.old.items buffer.new.items }
 {
     let at = buffer.len();
@@ -111,7 +114,9 @@ pub fn push_section(
     requires well { IsPath (parts_of nested.now) }
     requires parts { length nested.now ≤ 128 }
     requires few { length (path_pairs (parts_of nested.now)) < 2 ^ 30 }
-    ensures ok { IfOk result (λ size. AppendsOne version (greatest level (parts_of nested.now)) buffer.old.items buffer.new.items (map (level_of level) (path_pairs (parts_of nested.now))) size) }
+    ensures ok { IfOk result (λ size. AppendsOne version (greatest level
+        (parts_of nested.now)) buffer.old.items buffer.new.items
+        (map (level_of level) (path_pairs (parts_of nested.now))) size) }
     ensures kept { Extends buffer.old.items buffer.new.items }
 {
     let max = greatest(nested, level);

@@ -40,7 +40,8 @@ fn push_both(
     requires well { IsPath (parts_of nested.now) }
     requires parts { length nested.now ≤ 128 }
     requires few { length (path_pairs (parts_of nested.now)) < 2 ^ 30 }
-    ensures ok { IfOk result (λ sizes. AppendsBoth version (parts_of nested.now) buffer.old.items buffer.new.items sizes.0 sizes.1) }
+    ensures ok { IfOk result (λ sizes. AppendsBoth version
+        (parts_of nested.now) buffer.old.items buffer.new.items sizes.0 sizes.1) }
     ensures kept { Extends buffer.old.items buffer.new.items }
 {
     let repetition = push_section(buffer, nested, Level::Repetition, version)?;
@@ -66,9 +67,13 @@ pub fn write_rep_and_def(
 ) -> Result<(usize, usize)>
     requires well { IsPath (parts_of nested.now) }
     requires parts { length nested.now ≤ 128 }
-    ensures ok { (values : ℕ → Value) → IfOk result (λ sizes. AppendsSections page_version (path_way (parts_of nested.now)) (nested_column values nested.now) buffer.old.items buffer.new.items sizes) }
-    ensures too_large { (values : ℕ → Value) → (result ≡ Err (Error.Overflow V.V3)) ↔ (max_size < level_room (length (nested_column values nested.now))) }
-    ensures err { IfErr result (λ e. ((e ≡ Error.Memory) ⊎ (e ≡ Error.Overflow V.V3)) × (buffer.new.items ≡ buffer.old.items)) }
+    ensures ok { (values : ℕ → Value) → IfOk result
+        (λ sizes. AppendsSections page_version (path_way (parts_of nested.now))
+        (nested_column values nested.now) buffer.old.items buffer.new.items sizes) }
+    ensures too_large { (values : ℕ → Value) → (result ≡ Err (Error.Overflow V.V3))
+        ↔ (max_size < level_room (length (nested_column values nested.now))) }
+    ensures err { IfErr result (λ e. ((e ≡ Error.Memory) ⊎ (e ≡ Error.Overflow V.V3))
+        × (buffer.new.items ≡ buffer.old.items)) }
 {
     if are_too_many(nested) {
         return Err(Error::Overflow(V::V3));

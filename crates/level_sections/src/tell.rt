@@ -93,7 +93,8 @@ fn tell_pairs(told: &mut LevelBytes, level: Level, above: Above, count: usize) -
     requires first { above.rep ≤ above.depth }
     requires def { above.def < 256 }
     requires depth { above.depth < 256 }
-    ensures { IsTrue result → told.new ≡ told.old ++ map (level_of level) (like_pairs above.rep above.depth above.def count) }
+    ensures { IsTrue result → told.new ≡ told.old ++ map (level_of level)
+        (like_pairs above.rep above.depth above.def count) }
 {
     match level {
         Level::Definition => told.push_copies(above.def, count),
@@ -158,7 +159,8 @@ fn tell_lists<O: Offset>(
     requires within { to ≤ length list.now.offsets - 1 }
     requires first { above.rep ≤ above.depth }
     requires low { above.depth < 255 }
-    ensures { IsTrue result → told.new ≡ told.old ++ reps_from (list_size list.now.is_optional list.now.validity list.now.offsets) above.rep above.depth from (to - from) }
+    ensures { IsTrue result → told.new ≡ told.old ++ reps_from
+        (list_size list.now.is_optional list.now.validity list.now.offsets) above.rep above.depth from (to - from) }
 {
     let mut rep = above.rep;
     let mut place = from;
@@ -189,7 +191,8 @@ fn tell_stretch(
     requires within { to ≤ slot_count (parts_of parts.now) }
     requires low { IsLow above (length parts.now) }
     ensures after { IfSome result (λ next. (place < next) × (next ≤ to)) }
-    ensures told { IfSome result (λ next. told.new ≡ told.old ++ walked level (parts_of parts.now) above place (next - place)) }
+    ensures told { IfSome result (λ next. told.new ≡ told.old ++ walked level (parts_of parts.now) above place
+        (next - place)) }
 {
     match next_stretch(parts, level, place, to) {
         Stretch::Ends(up, end) => {

@@ -25,7 +25,8 @@ fn push_some(
     requires holds { All (λ v. v < 2 ^ writer.old.width) bytes.now }
     ensures width { writer.new.width ≡ writer.old.width }
     ensures after { IfOk result (λ next. (at < next) × (next ≤ length bytes.now)) }
-    ensures added { IfOk result (λ next. (start xs : List ℕ) → Keeps start out.old.items writer.old xs → Keeps start out.new.items writer.new (xs ++ take (next - at) (drop at bytes.now))) }
+    ensures added { IfOk result (λ next. (start xs : List ℕ) → Keeps start out.old.items writer.old xs
+        → Keeps start out.new.items writer.new (xs ++ take (next - at) (drop at bytes.now))) }
     ensures kept { Extends out.old.items out.new.items }
 {
     let count = (bytes.len() - at).min(64);
@@ -37,7 +38,8 @@ fn push_some(
 pub fn push_told(out: &mut Vec<u8>, writer: &mut RunWriter, bytes: &[u8]) -> Result<(), AllocError>
     requires holds { All (λ v. v < 2 ^ writer.old.width) bytes.now }
     ensures width { writer.new.width ≡ writer.old.width }
-    ensures added { OnOk result ((start xs : List ℕ) → Keeps start out.old.items writer.old xs → Keeps start out.new.items writer.new (xs ++ bytes.now)) }
+    ensures added { OnOk result ((start xs : List ℕ) → Keeps start out.old.items writer.old xs
+        → Keeps start out.new.items writer.new (xs ++ bytes.now)) }
     ensures kept { Extends out.old.items out.new.items }
 {
     let mut at = 0;

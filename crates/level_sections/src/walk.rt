@@ -60,7 +60,8 @@ pub fn shape_of(level: Level, parts: &[Nested]) -> Shape<'_>
 
 // How the levels of a struct above a path are told.
 fn struct_shape<'a>(rest: &[Nested]) -> Shape<'a>
-    ensures { (level : Level) (is_optional : Bool) (mask : Option (List Bool)) (count : ℕ) → IsShape level (struct_part is_optional mask count ∷ parts_of rest.now) result }
+    ensures { (level : Level) (is_optional : Bool) (mask : Option (List Bool)) (count : ℕ)
+        → IsShape level (struct_part is_optional mask count ∷ parts_of rest.now) result }
 {
     if has_lists(rest) {
         return Shape::Stretches;
@@ -83,7 +84,8 @@ fn list_shape<'a>(level: Level, part: &'a Nested, rest: &[Nested]) -> Shape<'a>
 
 // How the repetition levels of a part above a path without lists are told.
 fn lists_at(part: &Nested) -> Shape<'_>
-    ensures { (rest : List Part) → max_repetition (path_way rest) ≡ 0 → IsShape Repetition (part_of part.now ∷ rest) result }
+    ensures { (rest : List Part) → max_repetition (path_way rest) ≡ 0
+        → IsShape Repetition (part_of part.now ∷ rest) result }
 {
     match part {
         Nested::List(list) => Shape::Lists(list),
@@ -123,7 +125,9 @@ fn push_pairs(
     requires depth { above.depth < 256 }
     requires holds { Holds level above 0 0 writer.old.width }
     ensures width { writer.new.width ≡ writer.old.width }
-    ensures added { OnOk result ((start xs : List ℕ) → Keeps start out.old.items writer.old xs → Keeps start out.new.items writer.new (xs ++ map (level_of level) (like_pairs above.rep above.depth above.def count))) }
+    ensures added { OnOk result ((start xs : List ℕ) → Keeps start out.old.items writer.old xs
+        → Keeps start out.new.items writer.new (xs ++ map (level_of level)
+        (like_pairs above.rep above.depth above.def count))) }
     ensures kept { Extends out.old.items out.new.items }
 {
     match level {
@@ -150,9 +154,11 @@ fn walk_flat(
     requires ordered { from ≤ to }
     requires within { to ≤ slot_count (parts_of parts.now) }
     requires low { IsLow above (length parts.now) }
-    requires holds { Holds level above (max_repetition (path_way (parts_of parts.now))) (max_definition (path_way (parts_of parts.now))) writer.old.width }
+    requires holds { Holds level above (max_repetition (path_way (parts_of parts.now)))
+        (max_definition (path_way (parts_of parts.now))) writer.old.width }
     ensures width { writer.new.width ≡ writer.old.width }
-    ensures added { OnOk result ((start xs : List ℕ) → Keeps start out.old.items writer.old xs → Keeps start out.new.items writer.new (xs ++ walked level (parts_of parts.now) above from (to - from))) }
+    ensures added { OnOk result ((start xs : List ℕ) → Keeps start out.old.items writer.old xs
+        → Keeps start out.new.items writer.new (xs ++ walked level (parts_of parts.now) above from (to - from))) }
     ensures kept { Extends out.old.items out.new.items }
 {
     if from == to {
@@ -180,10 +186,12 @@ fn step(
     requires some { place < to }
     requires within { to ≤ slot_count (parts_of parts.now) }
     requires low { IsLow above (length parts.now) }
-    requires holds { Holds level above (max_repetition (path_way (parts_of parts.now))) (max_definition (path_way (parts_of parts.now))) writer.old.width }
+    requires holds { Holds level above (max_repetition (path_way (parts_of parts.now)))
+        (max_definition (path_way (parts_of parts.now))) writer.old.width }
     ensures width { writer.new.width ≡ writer.old.width }
     ensures after { IfOk result (λ next. (place < next) × (next ≤ to)) }
-    ensures added { IfOk result (λ next. (start xs : List ℕ) → Keeps start out.old.items writer.old xs → Keeps start out.new.items writer.new (xs ++ walked level (parts_of parts.now) above place (next - place))) }
+    ensures added { IfOk result (λ next. (start xs : List ℕ) → Keeps start out.old.items writer.old xs
+        → Keeps start out.new.items writer.new (xs ++ walked level (parts_of parts.now) above place (next - place))) }
     ensures kept { Extends out.old.items out.new.items }
 {
     match stretch_at(parts, level, place, to) {
@@ -230,9 +238,11 @@ fn walk_stretches(
     requires ordered { from ≤ to }
     requires within { to ≤ slot_count (parts_of parts.now) }
     requires low { IsLow above (length parts.now) }
-    requires holds { Holds level above (max_repetition (path_way (parts_of parts.now))) (max_definition (path_way (parts_of parts.now))) writer.old.width }
+    requires holds { Holds level above (max_repetition (path_way (parts_of parts.now)))
+        (max_definition (path_way (parts_of parts.now))) writer.old.width }
     ensures width { writer.new.width ≡ writer.old.width }
-    ensures added { OnOk result ((start xs : List ℕ) → Keeps start out.old.items writer.old xs → Keeps start out.new.items writer.new (xs ++ walked level (parts_of parts.now) above from (to - from))) }
+    ensures added { OnOk result ((start xs : List ℕ) → Keeps start out.old.items writer.old xs
+        → Keeps start out.new.items writer.new (xs ++ walked level (parts_of parts.now) above from (to - from))) }
     ensures kept { Extends out.old.items out.new.items }
 {
     let mut place = from;
@@ -260,10 +270,12 @@ fn advance(
     requires some { place < to }
     requires within { to ≤ slot_count (parts_of parts.now) }
     requires low { IsLow above (length parts.now) }
-    requires holds { Holds level above (max_repetition (path_way (parts_of parts.now))) (max_definition (path_way (parts_of parts.now))) writer.old.width }
+    requires holds { Holds level above (max_repetition (path_way (parts_of parts.now)))
+        (max_definition (path_way (parts_of parts.now))) writer.old.width }
     ensures width { writer.new.width ≡ writer.old.width }
     ensures after { IfOk result (λ next. (place < next) × (next ≤ to)) }
-    ensures added { IfOk result (λ next. (start xs : List ℕ) → Keeps start out.old.items writer.old xs → Keeps start out.new.items writer.new (xs ++ walked level (parts_of parts.now) above place (next - place))) }
+    ensures added { IfOk result (λ next. (start xs : List ℕ) → Keeps start out.old.items writer.old xs
+        → Keeps start out.new.items writer.new (xs ++ walked level (parts_of parts.now) above place (next - place))) }
     ensures kept { Extends out.old.items out.new.items }
 {
     let end = mixed_end(parts, place, to);
@@ -292,9 +304,11 @@ fn walk_lists_of_items(
     requires ordered { from ≤ to }
     requires within { to ≤ slot_count (parts_of parts.now) }
     requires low { IsLow above (length parts.now) }
-    requires holds { Holds level above (max_repetition (path_way (parts_of parts.now))) (max_definition (path_way (parts_of parts.now))) writer.old.width }
+    requires holds { Holds level above (max_repetition (path_way (parts_of parts.now)))
+        (max_definition (path_way (parts_of parts.now))) writer.old.width }
     ensures width { writer.new.width ≡ writer.old.width }
-    ensures added { OnOk result ((start xs : List ℕ) → Keeps start out.old.items writer.old xs → Keeps start out.new.items writer.new (xs ++ walked level (parts_of parts.now) above from (to - from))) }
+    ensures added { OnOk result ((start xs : List ℕ) → Keeps start out.old.items writer.old xs
+        → Keeps start out.new.items writer.new (xs ++ walked level (parts_of parts.now) above from (to - from))) }
     ensures kept { Extends out.old.items out.new.items }
 {
     let mut place = from;
@@ -321,10 +335,12 @@ fn walk_block(
     requires some { place < to }
     requires within { to ≤ slot_count (parts_of parts.now) }
     requires low { IsLow above (length parts.now) }
-    requires holds { Holds level above (max_repetition (path_way (parts_of parts.now))) (max_definition (path_way (parts_of parts.now))) writer.old.width }
+    requires holds { Holds level above (max_repetition (path_way (parts_of parts.now)))
+        (max_definition (path_way (parts_of parts.now))) writer.old.width }
     ensures width { writer.new.width ≡ writer.old.width }
     ensures after { IfOk result (λ next. (place < next) × (next ≤ to)) }
-    ensures added { IfOk result (λ next. (start xs : List ℕ) → Keeps start out.old.items writer.old xs → Keeps start out.new.items writer.new (xs ++ walked level (parts_of parts.now) above place (next - place))) }
+    ensures added { IfOk result (λ next. (start xs : List ℕ) → Keeps start out.old.items writer.old xs
+        → Keeps start out.new.items writer.new (xs ++ walked level (parts_of parts.now) above place (next - place))) }
     ensures kept { Extends out.old.items out.new.items }
 {
     if is_long_stretch(parts, level, place, to) {
@@ -354,9 +370,11 @@ fn walk_blocks(
     requires ordered { from ≤ to }
     requires within { to ≤ slot_count (parts_of parts.now) }
     requires low { IsLow above (length parts.now) }
-    requires holds { Holds level above (max_repetition (path_way (parts_of parts.now))) (max_definition (path_way (parts_of parts.now))) writer.old.width }
+    requires holds { Holds level above (max_repetition (path_way (parts_of parts.now)))
+        (max_definition (path_way (parts_of parts.now))) writer.old.width }
     ensures width { writer.new.width ≡ writer.old.width }
-    ensures added { OnOk result ((start xs : List ℕ) → Keeps start out.old.items writer.old xs → Keeps start out.new.items writer.new (xs ++ walked level (parts_of parts.now) above from (to - from))) }
+    ensures added { OnOk result ((start xs : List ℕ) → Keeps start out.old.items writer.old xs
+        → Keeps start out.new.items writer.new (xs ++ walked level (parts_of parts.now) above from (to - from))) }
     ensures kept { Extends out.old.items out.new.items }
 {
     let mut upper = Pieces::new();
@@ -387,9 +405,11 @@ fn walk_others(
     requires ordered { from ≤ to }
     requires within { to ≤ slot_count (parts_of parts.now) }
     requires low { IsLow above (length parts.now) }
-    requires holds { Holds level above (max_repetition (path_way (parts_of parts.now))) (max_definition (path_way (parts_of parts.now))) writer.old.width }
+    requires holds { Holds level above (max_repetition (path_way (parts_of parts.now)))
+        (max_definition (path_way (parts_of parts.now))) writer.old.width }
     ensures width { writer.new.width ≡ writer.old.width }
-    ensures added { OnOk result ((start xs : List ℕ) → Keeps start out.old.items writer.old xs → Keeps start out.new.items writer.new (xs ++ walked level (parts_of parts.now) above from (to - from))) }
+    ensures added { OnOk result ((start xs : List ℕ) → Keeps start out.old.items writer.old xs
+        → Keeps start out.new.items writer.new (xs ++ walked level (parts_of parts.now) above from (to - from))) }
     ensures kept { Extends out.old.items out.new.items }
 {
     if max_rep_level(parts) < 2 {
@@ -413,9 +433,11 @@ pub fn walk(
     requires ordered { from ≤ to }
     requires within { to ≤ slot_count (parts_of parts.now) }
     requires low { IsLow above (length parts.now) }
-    requires holds { Holds level above (max_repetition (path_way (parts_of parts.now))) (max_definition (path_way (parts_of parts.now))) writer.old.width }
+    requires holds { Holds level above (max_repetition (path_way (parts_of parts.now)))
+        (max_definition (path_way (parts_of parts.now))) writer.old.width }
     ensures width { writer.new.width ≡ writer.old.width }
-    ensures added { OnOk result ((start xs : List ℕ) → Keeps start out.old.items writer.old xs → Keeps start out.new.items writer.new (xs ++ walked level (parts_of parts.now) above from (to - from))) }
+    ensures added { OnOk result ((start xs : List ℕ) → Keeps start out.old.items writer.old xs
+        → Keeps start out.new.items writer.new (xs ++ walked level (parts_of parts.now) above from (to - from))) }
     ensures kept { Extends out.old.items out.new.items }
 {
     match shape_of(level, parts) {

@@ -16,7 +16,9 @@ use columns_core::{Offset, OffsetsBuffer};
 fn count_some<O: Offset>(offsets: &OffsetsBuffer<O>, word: u64, place: usize, count: usize) -> usize
     requires few { count ≤ 64 }
     requires within { place + count ≤ length offsets.now - 1 }
-    ensures { (is_optional : Bool) → (mask : Option (List Bool)) → ((i : ℕ) → i < count → (bit_at word i == 1) ≡ is_present is_optional mask (place + i)) → result ≡ min (total (list_size is_optional mask offsets.now) place count) (2 ^ 64 - 1) }
+    ensures { (is_optional : Bool) → (mask : Option (List Bool))
+        → ((i : ℕ) → i < count → (bit_at word i == 1) ≡ is_present is_optional mask (place + i))
+        → result ≡ min (total (list_size is_optional mask offsets.now) place count) (2 ^ 64 - 1) }
 {
     // the number of lists fits its type, so `place + i` does
     let _lists = offsets.len_proxy();
@@ -33,7 +35,8 @@ fn count_lists<O: Offset>(list: &ListNested<O>, from: usize, to: usize) -> usize
     requires fits { MaskFits list.now.validity (length list.now.offsets - 1) }
     requires ordered { from ≤ to }
     requires within { to ≤ length list.now.offsets - 1 }
-    ensures { result ≡ min (total (list_size list.now.is_optional list.now.validity list.now.offsets) from (to - from)) (2 ^ 64 - 1) }
+    ensures { result ≡ min (total (list_size list.now.is_optional list.now.validity list.now.offsets) from (to - from))
+        (2 ^ 64 - 1) }
 {
     let lists = list.offsets.len_proxy();
     let mut sum: usize = 0;
@@ -52,7 +55,8 @@ fn count_at_once(parts: &[Nested], from: usize, to: usize) -> Option<usize>
     requires well { IsPath (parts_of parts.now) }
     requires ordered { from ≤ to }
     requires within { to ≤ slot_count (parts_of parts.now) }
-    ensures { IfSome result (λ pairs. pairs ≡ min (total (slot_size (parts_of parts.now)) from (to - from)) (2 ^ 64 - 1)) }
+    ensures { IfSome result (λ pairs. pairs ≡ min (total (slot_size (parts_of parts.now)) from (to - from))
+        (2 ^ 64 - 1)) }
 {
     let Some((part, rest)) = parts.split_first() else {
         return None;

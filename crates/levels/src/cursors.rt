@@ -84,7 +84,12 @@ fn descend<'a>(
     requires room { room ≤ vec_capacity stack.old }
     ensures fits { CursorsFit room stack.new.items }
     ensures room { room ≤ vec_capacity stack.new }
-    ensures front { map (level_of level) (run (slot_pairs (parts_of cursor.entry.parts.now) cursor.entry.def cursor.entry.depth) rep cursor.entry.depth cursor.entry.place (cursor.entry.end - cursor.entry.place) ++ left stack.old.items) ≡ front_levels result ++ map (level_of level) (left stack.new.items) }
+    ensures front { map (level_of level)
+        (run
+        (slot_pairs
+        (parts_of cursor.entry.parts.now) cursor.entry.def cursor.entry.depth) rep cursor.entry.depth
+        cursor.entry.place (cursor.entry.end - cursor.entry.place) ++ left stack.old.items)
+        ≡ front_levels result ++ map (level_of level) (left stack.new.items) }
 {
     match stretch_at(cursor.parts, level, cursor.place, cursor.end) {
         Stretch::Ends(up, end) => {
@@ -154,7 +159,9 @@ pub fn take<'a>(stack: &mut Vec<Cursor<'a>>, room: usize, level: Level) -> Optio
     requires room { room ≤ vec_capacity stack.old }
     ensures fits { CursorsFit room stack.new.items }
     ensures room { room ≤ vec_capacity stack.new }
-    ensures gives { MatchOption result ((left stack.old.items ≡ []) × (left stack.new.items ≡ [])) (λ front. map (level_of level) (left stack.old.items) ≡ front_levels front ++ map (level_of level) (left stack.new.items)) }
+    ensures gives { MatchOption result ((left stack.old.items ≡ [])
+        × (left stack.new.items ≡ [])) (λ front. map (level_of level) (left stack.old.items)
+        ≡ front_levels front ++ map (level_of level) (left stack.new.items)) }
 {
     let cursor = pop(stack, room)?;
     Some(descend(stack, room, cursor, cursor.depth, level))

@@ -81,7 +81,8 @@ pub(crate) fn item_range<O: Offset>(offsets: &OffsetsBuffer<O>, i: usize) -> (us
 #[inline(always)]
 pub fn list_pairs<O: Offset>(offsets: &OffsetsBuffer<O>, there: bool, i: usize) -> usize
     requires { i + 1 < length offsets.now }
-    ensures { (is_optional : Bool) → (mask : Option (List Bool)) → there ≡ is_present is_optional mask i → result ≡ list_size is_optional mask offsets.now i }
+    ensures { (is_optional : Bool) → (mask : Option (List Bool)) → there ≡ is_present is_optional mask i
+        → result ≡ list_size is_optional mask offsets.now i }
 {
     if !there {
         return 1;

@@ -9,7 +9,8 @@ use crate::well_formed::mask_fits;
 use columns_core::Offset;
 
 fn list_reaches_into<O: Offset>(list: &ListNested<O>, rest: &[Nested]) -> bool
-    ensures { IsTrue result ↔ ReachesInto (list_part list.now.is_optional list.now.validity list.now.offsets) (parts_of rest.now) }
+    ensures { IsTrue result ↔ ReachesInto (list_part list.now.is_optional list.now.validity list.now.offsets)
+        (parts_of rest.now) }
 {
     let lists = list.offsets.len_proxy();
     mask_fits(&list.validity, lists)

@@ -118,7 +118,8 @@ impl<'a> RepLevelsIter<'a> {
         requires well { IsPath (parts_of nested.now) }
         requires parts { length nested.now ≤ 128 }
         requires count { (values : ℕ → Value) → length (nested_column values nested.now) < 2 ^ 64 }
-        ensures ok { (values : ℕ → Value) → IfOk result (λ levels. levels ≡ map (λ t. t.repetition) (nested_column values nested.now)) }
+        ensures ok { (values : ℕ → Value) → IfOk result (λ levels. levels
+            ≡ map (λ t. t.repetition) (nested_column values nested.now)) }
         ensures err { IfErr result (λ e. e ≡ Memory) }
     {
         let levels = PathLevels::new(alloc, nested, Level::Repetition)?;
@@ -180,7 +181,8 @@ impl<'a> DefLevelsIter<'a> {
         requires well { IsPath (parts_of nested.now) }
         requires parts { length nested.now ≤ 128 }
         requires count { (values : ℕ → Value) → length (nested_column values nested.now) < 2 ^ 64 }
-        ensures ok { (values : ℕ → Value) → IfOk result (λ levels. levels ≡ map (λ t. t.definition) (nested_column values nested.now)) }
+        ensures ok { (values : ℕ → Value) → IfOk result (λ levels. levels
+            ≡ map (λ t. t.definition) (nested_column values nested.now)) }
         ensures err { IfErr result (λ e. e ≡ Memory) }
     {
         let levels = PathLevels::new(alloc, nested, Level::Definition)?;

@@ -97,7 +97,8 @@ fn stretch_of_items<'a, O: Offset>(
     requires some { place < to }
     requires within { to ≤ length list.now.offsets - 1 }
     requires full { AreFull list.now.is_optional list.now.validity list.now.offsets place (place + 1) }
-    ensures { IsStretch level (list_part list.now.is_optional list.now.validity list.now.offsets ∷ parts_of rest.now) (length rest.now + 1) place to result }
+    ensures { IsStretch level (list_part list.now.is_optional list.now.validity list.now.offsets ∷ parts_of rest.now)
+        (length rest.now + 1) place to result }
 {
     let up = bit(list.is_optional) + 1;
     let end = match level {
@@ -122,7 +123,8 @@ fn stretch_of_list<'a, O: Offset>(
     requires beneath { FitTogether (parts_of rest.now) }
     requires some { place < to }
     requires within { to ≤ length list.now.offsets - 1 }
-    ensures { IsStretch level (list_part list.now.is_optional list.now.validity list.now.offsets ∷ parts_of rest.now) (length rest.now + 1) place to result }
+    ensures { IsStretch level (list_part list.now.is_optional list.now.validity list.now.offsets ∷ parts_of rest.now)
+        (length rest.now + 1) place to result }
 {
     let lists = list.offsets.len_proxy();
     if !is_present(list.is_optional, &list.validity, lists, place) {
@@ -150,7 +152,8 @@ fn stretch_of_leaf<'a>(
     requires fits { MaskFits mask.now count }
     requires some { place < to }
     requires within { to ≤ count }
-    ensures { (parts : List Part) → (n : ℕ) → IsStretch level (leaf_part is_optional mask.now count ∷ parts) n place to result }
+    ensures { (parts : List Part) → (n : ℕ)
+        → IsStretch level (leaf_part is_optional mask.now count ∷ parts) n place to result }
 {
     match level {
         Level::Repetition => Stretch::Ends(0, to),

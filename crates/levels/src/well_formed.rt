@@ -26,7 +26,8 @@ pub(crate) fn span<O: Offset>(offsets: &OffsetsBuffer<O>) -> usize
 }
 
 fn list_fits<O: Offset>(list: &ListNested<O>, rest: &[Nested]) -> bool
-    ensures { IsTrue result ↔ FitsAbove (list_part list.now.is_optional list.now.validity list.now.offsets) (parts_of rest.now) }
+    ensures { IsTrue result ↔ FitsAbove (list_part list.now.is_optional list.now.validity list.now.offsets)
+        (parts_of rest.now) }
 {
     mask_fits(&list.validity, list.offsets.len_proxy())
         && slot_count(rest) == span(&list.offsets)

@@ -131,7 +131,8 @@ fn nulls_have_none(mask: &Bitmap, parts: &[Nested], from: usize, to: usize) -> b
     requires mask { length mask.now ≡ slot_count (parts_of parts.now) }
     requires fits { FitTogether (parts_of parts.now) }
     requires within { to ≤ slot_count (parts_of parts.now) }
-    ensures { IsTrue result → (i : ℕ) → from ≤ i → i < to → slice_index_or mask.now i false ≡ false → HasNoItems (parts_of parts.now) i }
+    ensures { IsTrue result → (i : ℕ) → from ≤ i → i < to → slice_index_or mask.now i false ≡ false
+        → HasNoItems (parts_of parts.now) i }
 {
     let mut place = from;
     while place < to {
@@ -155,7 +156,8 @@ fn absent_have_none(
     requires mask { MaskFits mask.now (slot_count (parts_of parts.now)) }
     requires fits { FitTogether (parts_of parts.now) }
     requires within { to ≤ slot_count (parts_of parts.now) }
-    ensures { IsTrue result → (i : ℕ) → from ≤ i → i < to → is_present is_optional mask.now i ≡ false → HasNoItems (parts_of parts.now) i }
+    ensures { IsTrue result → (i : ℕ) → from ≤ i → i < to → is_present is_optional mask.now i ≡ false
+        → HasNoItems (parts_of parts.now) i }
 {
     if !is_optional {
         return true;
@@ -171,7 +173,8 @@ pub(crate) fn count_whole(parts: &[Nested], from: usize, to: usize) -> Option<us
     requires fits { FitTogether (parts_of parts.now) }
     requires ordered { from ≤ to }
     requires within { to ≤ slot_count (parts_of parts.now) }
-    ensures { IfSome result (λ pairs. pairs ≡ min (total (slot_size (parts_of parts.now)) from (to - from)) (2 ^ 64 - 1)) }
+    ensures { IfSome result (λ pairs. pairs ≡ min (total (slot_size (parts_of parts.now)) from (to - from))
+        (2 ^ 64 - 1)) }
 {
     let (part, rest) = parts.split_first()?;
     match part {

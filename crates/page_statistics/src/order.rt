@@ -70,7 +70,8 @@ pub trait SearchedLeaf: OrderedLeaf {
         requires ordered { from ≤ to }
         requires within { to ≤ Self.count self.now }
         ensures within { AreWithin (Self.count self.now) (Some result) }
-        ensures are { (places : List ℕ) → AreExtremes (Self.value self.now) places (Some extremes) → AreExtremes (Self.value self.now) (places ++ range from (to - from)) (Some result) }
+        ensures are { (places : List ℕ) → AreExtremes (Self.value self.now) places (Some extremes)
+            → AreExtremes (Self.value self.now) (places ++ range from (to - from)) (Some result) }
     {
         search_stretch(self, extremes, from, to)
     }
@@ -82,7 +83,8 @@ pub trait SearchedLeaf: OrderedLeaf {
         requires low { bits < 2 ^ count }
         requires within { from + count ≤ Self.count self.now }
         ensures within { AreWithin (Self.count self.now) (Some result) }
-        ensures are { (places : List ℕ) → AreExtremes (Self.value self.now) places (Some extremes) → AreExtremes (Self.value self.now) (places ++ picked bits from count) (Some result) }
+        ensures are { (places : List ℕ) → AreExtremes (Self.value self.now) places (Some extremes)
+            → AreExtremes (Self.value self.now) (places ++ picked bits from count) (Some result) }
     {
         search_some(self, extremes, from, bits, count)
     }

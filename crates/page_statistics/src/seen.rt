@@ -26,7 +26,8 @@ fn lesser<L: OrderedLeaf>(leaf: &L, least: usize, place: usize) -> usize
     requires least { least < L.count leaf.now }
     requires place { place < L.count leaf.now }
     ensures within { result < L.count leaf.now }
-    ensures is { (places : List ℕ) → IsLeastAt (L.value leaf.now) places least → IsLeastAt (L.value leaf.now) (places ++ place ∷ []) result }
+    ensures is { (places : List ℕ) → IsLeastAt (L.value leaf.now) places least
+        → IsLeastAt (L.value leaf.now) (places ++ place ∷ []) result }
 {
     if leaf.is_less(place, least) {
         place
@@ -40,7 +41,8 @@ fn greater<L: OrderedLeaf>(leaf: &L, greatest: usize, place: usize) -> usize
     requires greatest { greatest < L.count leaf.now }
     requires place { place < L.count leaf.now }
     ensures within { result < L.count leaf.now }
-    ensures is { (places : List ℕ) → IsGreatestAt (L.value leaf.now) places greatest → IsGreatestAt (L.value leaf.now) (places ++ place ∷ []) result }
+    ensures is { (places : List ℕ) → IsGreatestAt (L.value leaf.now) places greatest
+        → IsGreatestAt (L.value leaf.now) (places ++ place ∷ []) result }
 {
     if leaf.is_less(greatest, place) {
         place
@@ -54,7 +56,8 @@ fn with_place<L: OrderedLeaf>(leaf: &L, extremes: Extremes, place: usize) -> Ext
     requires before { AreWithin (L.count leaf.now) (Some extremes) }
     requires place { place < L.count leaf.now }
     ensures within { AreWithin (L.count leaf.now) (Some result) }
-    ensures are { (places : List ℕ) → AreExtremes (L.value leaf.now) places (Some extremes) → AreExtremes (L.value leaf.now) (places ++ place ∷ []) (Some result) }
+    ensures are { (places : List ℕ) → AreExtremes (L.value leaf.now) places (Some extremes)
+        → AreExtremes (L.value leaf.now) (places ++ place ∷ []) (Some result) }
 {
     Extremes {
         least: lesser(leaf, extremes.least, place),
@@ -78,7 +81,8 @@ fn with_each<L: OrderedLeaf>(leaf: &L, extremes: Extremes, from: usize, to: usiz
     requires ordered { from ≤ to }
     requires within { to ≤ L.count leaf.now }
     ensures within { AreWithin (L.count leaf.now) (Some result) }
-    ensures are { (places : List ℕ) → AreExtremes (L.value leaf.now) places (Some extremes) → AreExtremes (L.value leaf.now) (places ++ range from (to - from)) (Some result) }
+    ensures are { (places : List ℕ) → AreExtremes (L.value leaf.now) places (Some extremes)
+        → AreExtremes (L.value leaf.now) (places ++ range from (to - from)) (Some result) }
 {
     let mut now = extremes;
     for place in from..to {
@@ -93,7 +97,8 @@ fn with_ends<L: OrderedLeaf>(leaf: &L, extremes: Extremes, from: usize, to: usiz
     requires some { from < to }
     requires within { to ≤ L.count leaf.now }
     ensures within { AreWithin (L.count leaf.now) (Some result) }
-    ensures are { (places : List ℕ) → AreExtremes (L.value leaf.now) places (Some extremes) → AreExtremes (L.value leaf.now) ((places ++ from ∷ []) ++ (to - 1) ∷ []) (Some result) }
+    ensures are { (places : List ℕ) → AreExtremes (L.value leaf.now) places (Some extremes)
+        → AreExtremes (L.value leaf.now) ((places ++ from ∷ []) ++ (to - 1) ∷ []) (Some result) }
 {
     let first = with_place(leaf, extremes, from);
     with_place(leaf, first, to - 1)
@@ -105,7 +110,8 @@ fn with_block<L: OrderedLeaf>(leaf: &L, extremes: Extremes, from: usize, to: usi
     requires some { from < to }
     requires within { to ≤ L.count leaf.now }
     ensures within { AreWithin (L.count leaf.now) (Some result) }
-    ensures are { (places : List ℕ) → AreExtremes (L.value leaf.now) places (Some extremes) → AreExtremes (L.value leaf.now) (places ++ range from (to - from)) (Some result) }
+    ensures are { (places : List ℕ) → AreExtremes (L.value leaf.now) places (Some extremes)
+        → AreExtremes (L.value leaf.now) (places ++ range from (to - from)) (Some result) }
 {
     let ends = with_ends(leaf, extremes, from, to);
     if are_between(leaf, ends, from, to) {
@@ -134,7 +140,8 @@ pub fn search_stretch<L: OrderedLeaf>(
     requires ordered { from ≤ to }
     requires within { to ≤ L.count leaf.now }
     ensures within { AreWithin (L.count leaf.now) (Some result) }
-    ensures are { (places : List ℕ) → AreExtremes (L.value leaf.now) places (Some extremes) → AreExtremes (L.value leaf.now) (places ++ range from (to - from)) (Some result) }
+    ensures are { (places : List ℕ) → AreExtremes (L.value leaf.now) places (Some extremes)
+        → AreExtremes (L.value leaf.now) (places ++ range from (to - from)) (Some result) }
 {
     let mut now = extremes;
     let mut at = from;
@@ -180,7 +187,8 @@ pub fn search_some<L: OrderedLeaf>(
     requires low { bits < 2 ^ count }
     requires within { from + count ≤ L.count leaf.now }
     ensures within { AreWithin (L.count leaf.now) (Some result) }
-    ensures are { (places : List ℕ) → AreExtremes (L.value leaf.now) places (Some extremes) → AreExtremes (L.value leaf.now) (places ++ picked bits from count) (Some result) }
+    ensures are { (places : List ℕ) → AreExtremes (L.value leaf.now) places (Some extremes)
+        → AreExtremes (L.value leaf.now) (places ++ picked bits from count) (Some result) }
 {
     let _places = leaf.len();
     if are_calm(leaf, extremes, from, bits, count) {
@@ -207,7 +215,8 @@ pub fn with_stretch<L: SearchedLeaf>(
     requires some { from < to }
     requires within { to ≤ L.count leaf.now }
     ensures within { AreWithin (L.count leaf.now) (Some result) }
-    ensures are { (places : List ℕ) → AreExtremes (L.value leaf.now) places extremes → AreExtremes (L.value leaf.now) (places ++ range from (to - from)) (Some result) }
+    ensures are { (places : List ℕ) → AreExtremes (L.value leaf.now) places extremes
+        → AreExtremes (L.value leaf.now) (places ++ range from (to - from)) (Some result) }
 {
     match extremes {
         Some(extremes) => leaf.with_stretch(extremes, from, to),
@@ -234,7 +243,8 @@ pub fn with_some<L: SearchedLeaf>(
     requires low { bits < 2 ^ count }
     requires within { from + count ≤ L.count leaf.now }
     ensures within { AreWithin (L.count leaf.now) result }
-    ensures are { (places : List ℕ) → AreExtremes (L.value leaf.now) places extremes → AreExtremes (L.value leaf.now) (places ++ picked bits from count) result }
+    ensures are { (places : List ℕ) → AreExtremes (L.value leaf.now) places extremes
+        → AreExtremes (L.value leaf.now) (places ++ picked bits from count) result }
 {
     let _places = leaf.len();
     match extremes {

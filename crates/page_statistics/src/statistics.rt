@@ -35,7 +35,8 @@ fn bound_texts<L: OrderedLeaf>(
     extremes: Option<Extremes>,
 ) -> Result<BoundTexts>
     requires { AreWithin (L.count leaf.now) extremes }
-    ensures ok { IfOk result (λ b. AreTextsOf (L.kind leaf.now) (L.physical leaf.now) (L.value leaf.now) extremes b.least b.greatest) }
+    ensures ok { IfOk result (λ b. AreTextsOf (L.kind leaf.now) (L.physical leaf.now)
+        (L.value leaf.now) extremes b.least b.greatest) }
     ensures err { IfErr result (λ e. e ≡ Memory) }
 {
     let Some(extremes) = extremes else {
@@ -78,7 +79,8 @@ pub fn column_statistics<L: SearchedLeaf>(
     requires well { IsPath (parts_of nested.now) }
     requires leaf { leaf_count_or 0 (parts_of nested.now) ≤ L.count leaf.now }
     requires ordered { has_order (L.kind leaf.now) ≡ true }
-    ensures ok { IfOk result (λ s. AreStated true (L.kind leaf.now) (L.physical leaf.now) (nested_column (L.value leaf.now) nested.now) (Some (statistics_view s))) }
+    ensures ok { IfOk result (λ s. AreStated true (L.kind leaf.now) (L.physical leaf.now)
+        (nested_column (L.value leaf.now) nested.now) (Some (statistics_view s))) }
     ensures err { IfErr result (λ e. e ≡ Memory) }
 {
     let seen = look_along(leaf, nested);
@@ -97,7 +99,8 @@ pub fn column_statistics<L: SearchedLeaf>(
 pub fn unordered_statistics(nested: &[Nested], values: usize) -> Statistics
     requires well { IsPath (parts_of nested.now) }
     requires values { values ≡ min (length (path_places (parts_of nested.now))) (2 ^ 64 - 1) }
-    ensures { (t : LeafType) (p : Physical) (value : ℕ → Value) → has_order t ≡ false → AreStated true t p (nested_column value nested.now) (Some (statistics_view result)) }
+    ensures { (t : LeafType) (p : Physical) (value : ℕ → Value) → has_order t ≡ false
+        → AreStated true t p (nested_column value nested.now) (Some (statistics_view result)) }
 {
     let nulls = num_values(nested) - values;
     Statistics {

@@ -19,7 +19,8 @@ pub struct Cursor<'a> {
 // The truth value that is repeated.
 fn truth_of(value: &[u8]) -> Option<bool>
     requires { length value.now ≡ 1 }
-    ensures { MatchOption result (¬ (number_of value.now < 2)) (λ b. (number_of value.now < 2) × (b ≡ (number_of value.now == 1))) }
+    ensures { MatchOption result (¬ (number_of value.now < 2)) (λ b. (number_of value.now < 2)
+        × (b ≡ (number_of value.now == 1))) }
 {
     match value[0] {
         0 => Some(false),
@@ -50,9 +51,11 @@ fn take_copies<'a>(
     requires some { 0 < cursor.old.left }
     requires run { IsRepeatedRun 1 cursor.old.bytes.now value.now count rest.now }
     ensures part { IfOk result (λ part. IsPart part × (cursor.new.left + length (bits_in part) ≡ cursor.old.left)) }
-    ensures ok { IfOk result (λ part. bits_called cursor.old.left cursor.old.bytes.now ≡ given_bits (bits_in part) ++ bits_called cursor.new.left cursor.new.bytes.now) }
+    ensures ok { IfOk result (λ part. bits_called cursor.old.left cursor.old.bytes.now
+        ≡ given_bits (bits_in part) ++ bits_called cursor.new.left cursor.new.bytes.now) }
     ensures rest { cursor.new.bytes.now ≡ rest.now }
-    ensures err { IfErr result (λ e. (e ≡ fault) × (bits_called cursor.old.left cursor.old.bytes.now ≡ Err fault ∷ []) × (cursor.new.left ≡ 0)) }
+    ensures err { IfErr result (λ e. (e ≡ fault) × (bits_called cursor.old.left cursor.old.bytes.now ≡ Err fault ∷ [])
+        × (cursor.new.left ≡ 0)) }
 {
     cursor.bytes = rest;
     let count = count.min(cursor.left);
@@ -76,7 +79,8 @@ fn take_packed<'a>(cursor: &mut Cursor<'a>, body: &'a [u8], rest: &'a [u8]) -> H
     requires some { 0 < cursor.old.left }
     requires run { IsPackedRun 1 cursor.old.bytes.now body.now rest.now }
     ensures part { IsPart result × (cursor.new.left + length (bits_in result) ≡ cursor.old.left) }
-    ensures ok { bits_called cursor.old.left cursor.old.bytes.now ≡ given_bits (bits_in result) ++ bits_called cursor.new.left cursor.new.bytes.now }
+    ensures ok { bits_called cursor.old.left cursor.old.bytes.now
+        ≡ given_bits (bits_in result) ++ bits_called cursor.new.left cursor.new.bytes.now }
     ensures rest { cursor.new.bytes.now ≡ rest.now }
 {
     let count = standing(body, cursor.left);
@@ -101,9 +105,11 @@ fn refuse<'a>(cursor: &mut Cursor<'a>) -> Result<HybridEncoded<'a>>
 fn take_run<'a>(cursor: &mut Cursor<'a>) -> Result<HybridEncoded<'a>>
     requires some { 0 < cursor.old.left }
     ensures part { IfOk result (λ part. IsPart part × (cursor.new.left + length (bits_in part) ≡ cursor.old.left)) }
-    ensures ok { IfOk result (λ part. bits_called cursor.old.left cursor.old.bytes.now ≡ given_bits (bits_in part) ++ bits_called cursor.new.left cursor.new.bytes.now) }
+    ensures ok { IfOk result (λ part. bits_called cursor.old.left cursor.old.bytes.now
+        ≡ given_bits (bits_in part) ++ bits_called cursor.new.left cursor.new.bytes.now) }
     ensures shorter { IfOk result (λ part. length cursor.new.bytes.now < length cursor.old.bytes.now) }
-    ensures err { IfErr result (λ e. (e ≡ fault) × (bits_called cursor.old.left cursor.old.bytes.now ≡ Err fault ∷ []) × (cursor.new.left ≡ 0)) }
+    ensures err { IfErr result (λ e. (e ≡ fault) × (bits_called cursor.old.left cursor.old.bytes.now ≡ Err fault ∷ [])
+        × (cursor.new.left ≡ 0)) }
 {
     let mut decoder = Decoder::new(cursor.bytes, 1);
     match decoder.next() {
@@ -117,9 +123,12 @@ fn take_run<'a>(cursor: &mut Cursor<'a>) -> Result<HybridEncoded<'a>>
 /// The next run of which some bits are called for.
 pub fn take_part<'a>(cursor: &mut Cursor<'a>) -> Result<HybridEncoded<'a>>
     requires some { 0 < cursor.old.left }
-    ensures part { IfOk result (λ part. IsPart part × (0 < length (bits_in part)) × (cursor.new.left + length (bits_in part) ≡ cursor.old.left)) }
-    ensures ok { IfOk result (λ part. bits_called cursor.old.left cursor.old.bytes.now ≡ given_bits (bits_in part) ++ bits_called cursor.new.left cursor.new.bytes.now) }
-    ensures err { IfErr result (λ e. (e ≡ fault) × (bits_called cursor.old.left cursor.old.bytes.now ≡ Err fault ∷ []) × (cursor.new.left ≡ 0)) }
+    ensures part { IfOk result (λ part. IsPart part × (0 < length (bits_in part))
+        × (cursor.new.left + length (bits_in part) ≡ cursor.old.left)) }
+    ensures ok { IfOk result (λ part. bits_called cursor.old.left cursor.old.bytes.now
+        ≡ given_bits (bits_in part) ++ bits_called cursor.new.left cursor.new.bytes.now) }
+    ensures err { IfErr result (λ e. (e ≡ fault) × (bits_called cursor.old.left cursor.old.bytes.now ≡ Err fault ∷ [])
+        × (cursor.new.left ≡ 0)) }
 {
     let mut part = HybridEncoded::Repeated(false, 0);
     while part.len() == 0 {

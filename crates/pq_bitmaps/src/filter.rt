@@ -31,7 +31,8 @@ pub struct Filter<'a> {
 fn begin<'a>(filter: &mut Filter<'a>, interval: Interval)
     requires { IsBefore filter.old interval }
     ensures is { IsFilter filter.new }
-    ensures same { steps_by (gaps_from filter.old.place (interval ∷ filter.old.intervals.items)) (bits_left filter.old) ≡ steps_in filter.new }
+    ensures same { steps_by (gaps_from filter.old.place (interval ∷ filter.old.intervals.items)) (bits_left filter.old)
+        ≡ steps_in filter.new }
     ensures left { left_in filter.new ≡ selected (interval ∷ filter.old.intervals.items) }
     ensures fewer { length filter.new.intervals.items ≡ length filter.old.intervals.items }
 {
@@ -46,7 +47,8 @@ pub fn find_interval<'a>(filter: &mut Filter<'a>) -> bool
     ensures is { IsFilter filter.new }
     ensures steps { steps_in filter.new ≡ steps_in filter.old }
     ensures left { left_in filter.new ≡ left_in filter.old }
-    ensures found { MatchBool result (0 < filter.new.skip + filter.new.count) ((steps_in filter.new ≡ []) × (left_in filter.new ≡ 0)) }
+    ensures found { MatchBool result (0 < filter.new.skip + filter.new.count)
+        ((steps_in filter.new ≡ []) × (left_in filter.new ≡ 0)) }
 {
     while filter.skip == 0 && filter.count == 0 {
         match filter.intervals.pop_front() {
@@ -59,7 +61,8 @@ pub fn find_interval<'a>(filter: &mut Filter<'a>) -> bool
 
 // Ends where no bit stands.
 fn end<'a>(filter: &mut Filter<'a>)
-    ensures none { (filter.new.skip ≡ 0) × (filter.new.count ≡ 0) × (filter.new.intervals.items ≡ []) × (filter.new.place ≡ 0) }
+    ensures none { (filter.new.skip ≡ 0) × (filter.new.count ≡ 0) × (filter.new.intervals.items ≡ [])
+        × (filter.new.place ≡ 0) }
     ensures rest { (filter.new.rest ≡ filter.old.rest) × (filter.new.runs ≡ filter.old.runs) }
 {
     filter.skip = 0;
@@ -73,8 +76,11 @@ fn find_run<'a>(filter: &mut Filter<'a>) -> Result<()>
     requires is { IsFilter filter.old }
     requires some { 0 < filter.old.skip + filter.old.count }
     ensures is { IsFilter filter.new }
-    ensures ok { OnOk result ((steps_in filter.new ≡ steps_in filter.old) × (left_in filter.new ≡ left_in filter.old) × (0 < size_of filter.new.rest) × (filter.new.skip ≡ filter.old.skip) × (filter.new.count ≡ filter.old.count)) }
-    ensures err { IfErr result (λ e. (steps_in filter.old ≡ fails e ∷ []) × (steps_in filter.new ≡ []) × (left_in filter.new ≡ 0)) }
+    ensures ok { OnOk result ((steps_in filter.new ≡ steps_in filter.old) × (left_in filter.new ≡ left_in filter.old)
+        × (0 < size_of filter.new.rest) × (filter.new.skip ≡ filter.old.skip)
+        × (filter.new.count ≡ filter.old.count)) }
+    ensures err { IfErr result (λ e. (steps_in filter.old ≡ fails e ∷ []) × (steps_in filter.new ≡ [])
+        × (left_in filter.new ≡ 0)) }
 {
     if filter.rest.len() > 0 {
         return Ok(());
@@ -98,7 +104,8 @@ fn pass<'a>(filter: &mut Filter<'a>) -> usize
     requires some { 0 < filter.old.skip }
     requires rest { 0 < size_of filter.old.rest }
     ensures is { IsFilter filter.new }
-    ensures says { (said : List Step) × Says (FilteredHybridEncoded.Skipped result) said × (steps_in filter.old ≡ said ++ steps_in filter.new) }
+    ensures says { (said : List Step) × Says (FilteredHybridEncoded.Skipped result) said
+        × (steps_in filter.old ≡ said ++ steps_in filter.new) }
     ensures left { left_in filter.new ≡ left_in filter.old }
 {
     let count = filter.skip.min(filter.rest.len());

@@ -197,7 +197,8 @@ fn unit_from_member(id: i16, value: &Thrift) -> Result<Option<TimeUnit>, Misfit>
 
 /// The time unit that the last member of the union names.
 fn unit_from(value: Option<&Thrift>) -> Result<Option<TimeUnit>, Misfit>
-    ensures { option_map (option_map unit_view) (result_ok result) ≡ unit_of (option_map view (option_copied value.entry)) }
+    ensures { option_map (option_map unit_view) (result_ok result)
+        ≡ unit_of (option_map view (option_copied value.entry)) }
 {
     let Some(value) = value else {
         return Err(Misfit);
@@ -220,7 +221,8 @@ fn decimal_from(parts: &[(i16, Thrift)]) -> Result<Option<LogicalType>, Misfit>
 }
 
 fn time_from(parts: &[(i16, Thrift)]) -> Result<Option<LogicalType>, Misfit>
-    ensures { option_map (option_map logical_view) (result_ok result) ≡ logical_time Logical.time (fields_view parts.now) }
+    ensures { option_map (option_map logical_view) (result_ok result)
+        ≡ logical_time Logical.time (fields_view parts.now) }
 {
     let is_adjusted_to_utc = truth_from(last_with(parts, 1))?;
     let unit = unit_from(last_with(parts, 2))?;
@@ -234,7 +236,8 @@ fn time_from(parts: &[(i16, Thrift)]) -> Result<Option<LogicalType>, Misfit>
 }
 
 fn timestamp_from(parts: &[(i16, Thrift)]) -> Result<Option<LogicalType>, Misfit>
-    ensures { option_map (option_map logical_view) (result_ok result) ≡ logical_time Logical.timestamp (fields_view parts.now) }
+    ensures { option_map (option_map logical_view) (result_ok result)
+        ≡ logical_time Logical.timestamp (fields_view parts.now) }
 {
     let is_adjusted_to_utc = truth_from(last_with(parts, 1))?;
     let unit = unit_from(last_with(parts, 2))?;
@@ -331,7 +334,8 @@ fn logical_from_member(id: i16, value: &Thrift) -> Result<Option<LogicalType>, M
 /// The logical type that the union's last member names. An unknown one counts as absent, and one
 /// whose parts are not of their kinds is refused.
 pub fn logical_from(members: Option<&[(i16, Thrift)]>) -> Result<Option<LogicalType>, Misfit>
-    ensures { option_map (option_map logical_view) (result_ok result) ≡ logical_of (option_map fields_view (option_copied members.entry)) }
+    ensures { option_map (option_map logical_view) (result_ok result)
+        ≡ logical_of (option_map fields_view (option_copied members.entry)) }
 {
     let Some(members) = members else {
         return Ok(None);

@@ -24,7 +24,8 @@ fn is_encrypted_chunk(value: &Thrift) -> bool
 }
 
 fn any_chunk(values: &[Thrift]) -> bool
-    ensures { MatchBool result (AnyValue IsEncryptedChunk (values_view values.now)) (¬ AnyValue IsEncryptedChunk (values_view values.now)) }
+    ensures { MatchBool result (AnyValue IsEncryptedChunk (values_view values.now))
+        (¬ AnyValue IsEncryptedChunk (values_view values.now)) }
 {
     for value in values {
         if is_encrypted_chunk(value) {
@@ -50,7 +51,8 @@ fn has_encrypted_chunk(group: &Thrift) -> bool
 }
 
 fn any_group(values: &[Thrift]) -> bool
-    ensures { MatchBool result (AnyValue HasEncryptedChunk (values_view values.now)) (¬ AnyValue HasEncryptedChunk (values_view values.now)) }
+    ensures { MatchBool result (AnyValue HasEncryptedChunk (values_view values.now))
+        (¬ AnyValue HasEncryptedChunk (values_view values.now)) }
 {
     for value in values {
         if has_encrypted_chunk(value) {

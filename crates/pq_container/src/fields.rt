@@ -133,7 +133,8 @@ pub fn check_absent(fields: &[(i16, Thrift)], id: u8) -> Result<(), Misfit>
 
 /// The struct in the last field with the id, if there is one.
 pub fn optional_struct(fields: &[(i16, Thrift)], id: u8) -> Result<Option<&[(i16, Thrift)]>, Misfit>
-    ensures found { IfOk result (λ o. Holds struct id (fields_view fields.now) (option_map fields_view (option_copied o))) }
+    ensures found { IfOk result (λ o. Holds struct id (fields_view fields.now)
+        (option_map fields_view (option_copied o))) }
     ensures refused { OnErr result (HasNone (Holds struct id (fields_view fields.now))) }
 {
     let Some(value) = last_with(fields, id) else {

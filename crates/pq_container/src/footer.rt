@@ -25,7 +25,8 @@ fn schema_from(
     alloc: Global,
     values: &[Thrift],
 ) -> Result<(String, usize, Vec<SchemaElement>), Error>
-    ensures found { IfOk result (λ s. SpellsElements (values_view values.now) (string_bytes s.0) s.1 (map element_view s.2.items)) }
+    ensures found { IfOk result (λ s. SpellsElements (values_view values.now) (string_bytes s.0) s.1
+        (map element_view s.2.items)) }
     ensures refused { IfErr result (Refuses (OutOfSpec S1) (SpellsSchema (values_view values.now))) }
 {
     let [first, others @ ..] = values else {

@@ -156,7 +156,8 @@ pub fn read_page_header(alloc: Global, bytes: &[u8]) -> Result<(PageHeader, usiz
     ensures counted { IfOk result (λ x. IsCounted x.0.header) }
     ensures none { IfErr result (λ e. (e ≡ Memory) ⊎ HasNone (Begins IsHeaderText bytes.now)) }
     ensures other_type { ComesWhere (NotYetImplemented N4) (IsOfOtherType bytes.now) result }
-    ensures refused { ComesWhere (OutOfSpec S3) (HasNone (Begins IsHeaderText bytes.now) × (¬ (IsOfOtherType bytes.now))) result }
+    ensures refused { ComesWhere (OutOfSpec S3) (HasNone (Begins IsHeaderText bytes.now)
+        × (¬ (IsOfOtherType bytes.now))) result }
 {
     let (value, size) = match read_thrift(alloc, bytes) {
         Ok(read) => read,

@@ -32,7 +32,8 @@ fn some_pairs(pairs: Vec<KeyValue>) -> Option<Vec<KeyValue>>
 /// The footer with its nodes put together to trees.
 fn metadata_of(alloc: Global, footer: FlatFooter) -> Result<FileMetaData, Error>
     ensures found { IfOk result (λ m. flat_form (metadata_view m) ≡ flat_view footer) }
-    ensures described { IfOk result (λ m. GroupsAreDescribed (columns_in (metadata_view m).schema.fields) m.row_groups.items) }
+    ensures described { IfOk result (λ m. GroupsAreDescribed (columns_in
+        (metadata_view m).schema.fields) m.row_groups.items) }
     ensures shallow { IfOk result (λ m. schema_nesting (metadata_view m).schema ≤ 128) }
     ensures pairs { IfOk result (λ m. IfSome m.key_value_metadata (λ keys. 0 < length keys.items)) }
     ensures refused { IfErr result (RefusesTrees (flat_view footer).nodes footer.num_children) }
@@ -60,7 +61,8 @@ fn metadata_of(alloc: Global, footer: FlatFooter) -> Result<FileMetaData, Error>
 /// - `Memory`: memory ran out.
 pub fn read_footer_metadata(alloc: Global, bytes: &[u8]) -> Result<FileMetaData, Error>
     ensures found { IfOk result (λ m. Begins IsFooterText bytes.now (metadata_view m)) }
-    ensures described { IfOk result (λ m. GroupsAreDescribed (columns_in (metadata_view m).schema.fields) m.row_groups.items) }
+    ensures described { IfOk result (λ m. GroupsAreDescribed (columns_in
+        (metadata_view m).schema.fields) m.row_groups.items) }
     ensures shallow { IfOk result (λ m. schema_nesting (metadata_view m).schema ≤ 128) }
     ensures pairs { IfOk result (λ m. IfSome m.key_value_metadata (λ keys. 0 < length keys.items)) }
     ensures refused { IfErr result (RefusesMetadata bytes.now) }
@@ -87,7 +89,8 @@ pub fn read_footer_metadata(alloc: Global, bytes: &[u8]) -> Result<FileMetaData,
 pub fn read_metadata(alloc: Global, file: &[u8]) -> Result<FileMetaData, Error>
     ensures framed { OnOk result (HasFrame file.now) }
     ensures found { IfOk result (λ m. Begins IsFooterText (footer_of file.now) (metadata_view m)) }
-    ensures described { IfOk result (λ m. GroupsAreDescribed (columns_in (metadata_view m).schema.fields) m.row_groups.items) }
+    ensures described { IfOk result (λ m. GroupsAreDescribed (columns_in
+        (metadata_view m).schema.fields) m.row_groups.items) }
     ensures shallow { IfOk result (λ m. schema_nesting (metadata_view m).schema ≤ 128) }
     ensures pairs { IfOk result (λ m. IfSome m.key_value_metadata (λ keys. 0 < length keys.items)) }
     ensures refused { IfErr result (RefusesFile file.now) }

@@ -116,8 +116,10 @@ fn statistics_of(alloc: Global, fields: &[(i16, Thrift)]) -> Result<Statistics, 
 
 /// The statistics, if there are any. `OutOfSpec(S1)` where the value spells none.
 pub fn statistics_from(alloc: Global, value: Option<&Thrift>) -> Result<Option<Statistics>, Error>
-    ensures found { IfOk result (λ s. SaysStatistics (option_map view (option_copied value.entry)) (option_map statistics_view s)) }
-    ensures refused { IfErr result (Refuses (OutOfSpec S1) (SaysStatistics (option_map view (option_copied value.entry)))) }
+    ensures found { IfOk result (λ s. SaysStatistics (option_map view (option_copied value.entry))
+        (option_map statistics_view s)) }
+    ensures refused { IfErr result (Refuses (OutOfSpec S1)
+        (SaysStatistics (option_map view (option_copied value.entry)))) }
 {
     let Some(value) = value else {
         return Ok(None);

@@ -105,7 +105,8 @@ fn push_miniblock(out: &mut Vec<u8>, numbers: &[u64], width: u32) -> Result<(), 
     requires fits { width ≤ 64 }
     requires few { length numbers.now ≤ 32 }
     requires below { All (λ v. v < 2 ^ width) numbers.now }
-    ensures ok { OnOk result ((text : List ℕ) × (out.new.items ≡ out.old.items ++ text) × (length text ≡ 4 * width) × (unpacked width 32 text ≡ numbers.now ++ replicate (32 - length numbers.now) 0)) }
+    ensures ok { OnOk result ((text : List ℕ) × (out.new.items ≡ out.old.items ++ text) × (length text ≡ 4 * width)
+        × (unpacked width 32 text ≡ numbers.now ++ replicate (32 - length numbers.now) 0)) }
     ensures kept { Extends out.old.items out.new.items }
 {
     push_packed_wide(out, numbers, width)?;
@@ -116,7 +117,9 @@ fn push_miniblock(out: &mut Vec<u8>, numbers: &[u64], width: u32) -> Result<(), 
 // Appends the miniblocks that are needed.
 fn push_miniblocks(out: &mut Vec<u8>, numbers: &[u64], widths: &[u8]) -> Result<(), AllocError>
     requires { AreWidths widths.now numbers.now }
-    ensures ok { OnOk result ((text : List ℕ) × (out.new.items ≡ out.old.items ++ text) × ((most : ℕ) → All (λ m. m < 2 ^ most) numbers.now → WrittenMiniblocks most widths.now text numbers.now) × (length text ≤ 8 * length numbers.now + 248)) }
+    ensures ok { OnOk result ((text : List ℕ) × (out.new.items ≡ out.old.items ++ text)
+        × ((most : ℕ) → All (λ m. m < 2 ^ most) numbers.now → WrittenMiniblocks most widths.now text numbers.now)
+        × (length text ≤ 8 * length numbers.now + 248)) }
     ensures kept { Extends out.old.items out.new.items }
 {
     if numbers.is_empty() {
@@ -135,7 +138,8 @@ fn push_miniblocks(out: &mut Vec<u8>, numbers: &[u64], widths: &[u8]) -> Result<
 pub fn push_block(out: &mut Vec<u8>, deltas: &[i64]) -> Result<(), AllocError>
     requires some { 0 < length deltas.now }
     requires few { length deltas.now ≤ 128 }
-    ensures ok { OnOk result ((text : List ℕ) × (out.new.items ≡ out.old.items ++ text) × ((v : Width) → All (FitsSigned v) deltas.now → IsBlock v text deltas.now)) }
+    ensures ok { OnOk result ((text : List ℕ) × (out.new.items ≡ out.old.items ++ text)
+        × ((v : Width) → All (FitsSigned v) deltas.now → IsBlock v text deltas.now)) }
     ensures kept { Extends out.old.items out.new.items }
 {
     let least = least_of(deltas);

@@ -20,7 +20,8 @@ use std::alloc::AllocError;
 // Writes the differences that wait where they are a full block.
 fn make_room(out: &mut Vec<u8>, waiting: &mut Waiting) -> std::result::Result<(), AllocError>
     ensures room { OnOk result (length waiting.new < 128) }
-    ensures ok { OnOk result ((v : Width) (start : List ℕ) (latest : ℤ) (zs : List ℤ) → Going v start out.old.items waiting.old latest zs → Going v start out.new.items waiting.new latest zs) }
+    ensures ok { OnOk result ((v : Width) (start : List ℕ) (latest : ℤ) (zs : List ℤ)
+        → Going v start out.old.items waiting.old latest zs → Going v start out.new.items waiting.new latest zs) }
     ensures kept { Extends out.old.items out.new.items }
 {
     if waiting.len() == 128 {
@@ -36,7 +37,9 @@ fn push_difference(
     waiting: &mut Waiting,
     difference: i64,
 ) -> std::result::Result<(), AllocError>
-    ensures ok { OnOk result ((v : Width) (start : List ℕ) (latest value : ℤ) (zs : List ℤ) → FitsSigned v value → difference ≡ int_wrap v (value -ℤ latest) → Going v start out.old.items waiting.old latest zs → Going v start out.new.items waiting.new value (zs ++ value ∷ [])) }
+    ensures ok { OnOk result ((v : Width) (start : List ℕ) (latest value : ℤ) (zs : List ℤ) → FitsSigned v value
+        → difference ≡ int_wrap v (value -ℤ latest) → Going v start out.old.items waiting.old latest zs
+        → Going v start out.new.items waiting.new value (zs ++ value ∷ [])) }
     ensures kept { Extends out.old.items out.new.items }
 {
     make_room(out, waiting)?;
@@ -51,7 +54,8 @@ fn add(
     latest: Option<i64>,
     value: i64,
 ) -> std::result::Result<(), AllocError>
-    ensures ok { OnOk result ((start : List ℕ) (zs : List ℤ) → Begun w64 start out.old.items waiting.old latest zs → Begun w64 start out.new.items waiting.new (Some value) (zs ++ value ∷ [])) }
+    ensures ok { OnOk result ((start : List ℕ) (zs : List ℤ) → Begun w64 start out.old.items waiting.old latest zs
+        → Begun w64 start out.new.items waiting.new (Some value) (zs ++ value ∷ [])) }
     ensures kept { Extends out.old.items out.new.items }
 {
     match latest {
@@ -74,7 +78,8 @@ fn add_i32(
     latest: Option<i64>,
     value: i32,
 ) -> std::result::Result<(), AllocError>
-    ensures ok { OnOk result ((start : List ℕ) (zs : List ℤ) → Begun w32 start out.old.items waiting.old latest zs → Begun w32 start out.new.items waiting.new (Some value) (zs ++ value ∷ [])) }
+    ensures ok { OnOk result ((start : List ℕ) (zs : List ℤ) → Begun w32 start out.old.items waiting.old latest zs
+        → Begun w32 start out.new.items waiting.new (Some value) (zs ++ value ∷ [])) }
     ensures kept { Extends out.old.items out.new.items }
 {
     match latest {
@@ -88,7 +93,8 @@ fn add_i32(
 
 // Writes what waits, behind which nothing comes, and 0 in place of a first number where there is none.
 fn finish(out: &mut Vec<u8>, waiting: &Waiting, some: bool) -> std::result::Result<(), AllocError>
-    ensures ok { OnOk result ((v : Width) (start : List ℕ) (latest : Option ℤ) (zs : List ℤ) → some ≡ is_some latest → Begun v start out.old.items waiting.now latest zs → Deltas v start out.new.items zs) }
+    ensures ok { OnOk result ((v : Width) (start : List ℕ) (latest : Option ℤ) (zs : List ℤ) → some ≡ is_some latest
+        → Begun v start out.old.items waiting.now latest zs → Deltas v start out.new.items zs) }
     ensures kept { Extends out.old.items out.new.items }
 {
     if some {
@@ -169,7 +175,8 @@ impl Encoder {
     ///
     /// Want of memory.
     pub fn finish(&self, out: &mut Vec<u8>) -> std::result::Result<(), AllocError>
-        ensures ok { OnOk result ((v : Width) (start : List ℕ) (zs : List ℤ) → bits v ≤ 64 → IsEncoding v (count zs) start out.old.items self.now zs → AppendsDelta v start out.new.items zs) }
+        ensures ok { OnOk result ((v : Width) (start : List ℕ) (zs : List ℤ) → bits v ≤ 64
+            → IsEncoding v (count zs) start out.old.items self.now zs → AppendsDelta v start out.new.items zs) }
         ensures kept { Extends out.old.items out.new.items }
     {
         finish(out, &self.waiting, self.latest.is_some())
@@ -184,7 +191,8 @@ fn push_numbers<I: Iterator<Item = i64>>(
     requires can { I.can_next values }
     requires ends { IsFinite (I.remaining values) }
     requires gives { (vs : List ℤ) → Drains I.next_gives values vs → count vs ≡ length }
-    ensures ok { OnOk result ((vs : List ℤ) × Drains I.next_gives values vs × AppendsDelta w64 out.old.items out.new.items vs) }
+    ensures ok { OnOk result ((vs : List ℤ) × Drains I.next_gives values vs
+        × AppendsDelta w64 out.old.items out.new.items vs) }
     ensures kept { Extends out.old.items out.new.items }
 {
     let mut encoder = Encoder::new(out, length)?;
@@ -205,7 +213,8 @@ pub fn encode<I: Iterator<Item = i64>>(out: &mut Vec<u8>, values: I, length: usi
     requires can { I.can_next values }
     requires ends { IsFinite (I.remaining values) }
     requires gives { (vs : List ℤ) → Drains I.next_gives values vs → count vs ≡ length }
-    ensures ok { OnOk result ((vs : List ℤ) × Drains I.next_gives values vs × AppendsDelta w64 out.old.items out.new.items vs) }
+    ensures ok { OnOk result ((vs : List ℤ) × Drains I.next_gives values vs
+        × AppendsDelta w64 out.old.items out.new.items vs) }
     ensures err { IfErr result (λ e. (e ≡ Memory) × (out.new.items ≡ out.old.items)) }
 {
     let before = out.len();
@@ -224,7 +233,8 @@ fn push_numbers_i32<I: Iterator<Item = i32>>(
     requires can { I.can_next values }
     requires ends { IsFinite (I.remaining values) }
     requires gives { (vs : List ℤ) → Drains I.next_gives values vs → count vs ≡ length }
-    ensures ok { OnOk result ((vs : List ℤ) × Drains I.next_gives values vs × AppendsDelta w32 out.old.items out.new.items vs) }
+    ensures ok { OnOk result ((vs : List ℤ) × Drains I.next_gives values vs
+        × AppendsDelta w32 out.old.items out.new.items vs) }
     ensures kept { Extends out.old.items out.new.items }
 {
     let mut encoder = Encoder::new(out, length)?;
@@ -248,7 +258,8 @@ pub fn encode_i32<I: Iterator<Item = i32>>(
     requires can { I.can_next values }
     requires ends { IsFinite (I.remaining values) }
     requires gives { (vs : List ℤ) → Drains I.next_gives values vs → count vs ≡ length }
-    ensures ok { OnOk result ((vs : List ℤ) × Drains I.next_gives values vs × AppendsDelta w32 out.old.items out.new.items vs) }
+    ensures ok { OnOk result ((vs : List ℤ) × Drains I.next_gives values vs
+        × AppendsDelta w32 out.old.items out.new.items vs) }
     ensures err { IfErr result (λ e. (e ≡ Memory) × (out.new.items ≡ out.old.items)) }
 {
     let before = out.len();

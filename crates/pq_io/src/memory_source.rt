@@ -47,7 +47,8 @@ impl Source for MemorySource {
     /// Fails exactly at the calls of the list, and else gives what is left, or as much of it as the buffer holds.
     fn pull(&mut self, into: &mut [u8]) -> Result<usize, Failed>
         ensures bound { ReadsAtMost result into.new }
-        ensures bytes { ReadConsumes (Some (drop self.old.at self.old.bytes.items)) (Some (drop self.new.at self.new.bytes.items)) result into.new }
+        ensures bytes { ReadConsumes (Some (drop self.old.at self.old.bytes.items))
+            (Some (drop self.new.at self.new.bytes.items)) result into.new }
         ensures later { self.old.faults ≤ self.new.faults }
         ensures cause { OnErr result (Rose self.old.faults self.new.faults) }
         ensures fails { IsErr result ↔ IsToFail self.old }

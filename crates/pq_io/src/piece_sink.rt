@@ -62,7 +62,8 @@ impl PieceSink {
 
     // Puts what came in small pieces behind those that are kept.
     fn close_tail(&mut self) -> Result<(), SinkFault>
-        ensures closed { OnOk result ((joined self.new.pieces.items ≡ pieces_taken self.old) × (self.new.tail.items ≡ []) × (self.new.wants ≡ self.old.wants)) }
+        ensures closed { OnOk result ((joined self.new.pieces.items ≡ pieces_taken self.old)
+            × (self.new.tail.items ≡ []) × (self.new.wants ≡ self.old.wants)) }
         ensures same { pieces_taken self.new ≡ pieces_taken self.old }
         ensures later { self.old.wants ≤ self.new.wants }
         ensures err { IfErr result (λ e. (e ≡ SinkFault.Memory) × (self.new.wants ≡ raised self.old.wants)) }

@@ -35,7 +35,8 @@ impl Source for PlainSource {
     /// Gives what is left, or as much of it as the buffer holds.
     fn pull(&mut self, into: &mut [u8]) -> Result<usize, Failed>
         ensures bound { ReadsAtMost result into.new }
-        ensures bytes { ReadConsumes (Some (drop self.old.at self.old.bytes.items)) (Some (drop self.new.at self.new.bytes.items)) result into.new }
+        ensures bytes { ReadConsumes (Some (drop self.old.at self.old.bytes.items))
+            (Some (drop self.new.at self.new.bytes.items)) result into.new }
         ensures later { 0 ≤ 0 }
         ensures cause { OnErr result (Rose 0 0) }
         ensures gives { result ≡ Ok (min (length into.old) (length (plain_left self.old))) }

@@ -42,7 +42,9 @@ fn pull_behind<S: Source>(
 ) -> std::result::Result<usize, Failed>
     requires { filled ≤ length places.old }
     ensures len { length places.new ≡ length places.old }
-    ensures gave { IfOk result (λ n. (filled + n ≤ length places.new) × ((bs : List ℕ) × Consumes (S.left source.old) (S.left source.new) bs × (take (filled + n) places.new ≡ take filled places.old ++ bs))) }
+    ensures gave { IfOk result (λ n. (filled + n ≤ length places.new)
+        × ((bs : List ℕ) × Consumes (S.left source.old) (S.left source.new) bs
+        × (take (filled + n) places.new ≡ take filled places.old ++ bs))) }
     ensures end { IfOk result (λ n. n ≡ 0 → filled < length places.old → IsAtEnd (S.left source.new)) }
     ensures failed { IfErr result (λ _. Keeps (S.left source.old) (S.left source.new)) }
     ensures later { S.faults source.old ≤ S.faults source.new }
@@ -59,7 +61,8 @@ fn pull_behind<S: Source>(
 pub fn read_all<S: Source>(alloc: Global, source: &mut S, byte_limit: usize) -> Result<Vec<u8>>
     ensures ok { IfOk result (λ bytes. GaveAll byte_limit (S.left source.old) (S.left source.new) bytes.items) }
     ensures some { GaveSome byte_limit (S.left source.old) (S.left source.new) }
-    ensures limit { IsErrOf result (Error.InputLimit Limit.Bytes) → GavePast byte_limit (S.left source.old) (S.left source.new) }
+    ensures limit { IsErrOf result (Error.InputLimit Limit.Bytes) → GavePast byte_limit (S.left source.old)
+        (S.left source.new) }
     ensures later { S.faults source.old ≤ S.faults source.new }
     ensures fault { IsErrOf result Error.ReadFault → Rose (S.faults source.old) (S.faults source.new) }
     ensures only { IfErr result (λ e. (e ≡ Error.ReadFault) ⊎ (e ≡ Error.InputLimit Limit.Bytes) ⊎ (e ≡ Error.Memory)) }

@@ -38,7 +38,8 @@ pub fn push_varint(out: &mut Vec<u8>, n: u64) -> Result<(), AllocError>
 
 #[tactic(auto, unfolding(crate::specs::Varint::varint_up_to))]
 fn take_varint_up_to(most: u8, bytes: &[u8]) -> Option<(u64, &[u8])>
-    ensures gives { MatchOption result (varint_up_to most bytes.now ≡ None) (λ x. varint_up_to most bytes.now ≡ Some (x.0, x.1.now)) }
+    ensures gives { MatchOption result (varint_up_to most bytes.now ≡ None) (λ x. varint_up_to most bytes.now
+        ≡ Some (x.0, x.1.now)) }
     ensures shorter { IfSome result (λ x. length x.1.now < length bytes.now) }
 {
     if most == 0 {

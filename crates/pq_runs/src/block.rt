@@ -256,7 +256,9 @@ impl Block {
         requires few { length self.now ≤ 504 }
         requires whole { length self.now % 8 ≡ 0 }
         requires below { All (λ v. v < 2 ^ width) self.now }
-        ensures ok { OnOk result ((body : List ℕ) × (out.new.items ≡ out.old.items ++ (varint (2 * (length self.now / 8) + 1) ++ body)) × ArePacked width self.now body) }
+        ensures ok { OnOk result ((body : List ℕ)
+            × (out.new.items ≡ out.old.items ++ (varint (2 * (length self.now / 8) + 1) ++ body))
+            × ArePacked width self.now body) }
         ensures kept { Extends out.old.items out.new.items }
     {
         match &self.store {

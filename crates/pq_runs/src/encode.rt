@@ -28,7 +28,8 @@ fn encode_numbers<I: Iterator<Item = u32>>(
     requires ends { IsFinite (I.remaining values) }
     requires some { 1 ≤ width }
     requires fits { width ≤ 32 }
-    ensures ok { OnOk result ((vs : List ℕ) × Drains I.next_gives values vs × AppendsRuns width out.old.items out.new.items (map (λ v. v % 2 ^ width) vs)) }
+    ensures ok { OnOk result ((vs : List ℕ) × Drains I.next_gives values vs
+        × AppendsRuns width out.old.items out.new.items (map (λ v. v % 2 ^ width) vs)) }
     ensures kept { Extends out.old.items out.new.items }
 {
     let mut writer = RunWriter::new(width);
@@ -54,7 +55,8 @@ pub fn encode_u32<I: Iterator<Item = u32>>(
     requires ends { IsFinite (I.remaining values) }
     requires fits { width ≤ 32 }
     requires gives { (vs : List ℕ) → Drains I.next_gives values vs → (count vs ≡ length) × All (λ v. v < 2 ^ width) vs }
-    ensures ok { OnOk result ((vs : List ℕ) × Drains I.next_gives values vs × AppendsRuns width out.old.items out.new.items vs) }
+    ensures ok { OnOk result ((vs : List ℕ) × Drains I.next_gives values vs
+        × AppendsRuns width out.old.items out.new.items vs) }
     ensures err { IfErr result (λ e. (e ≡ Memory) × (out.new.items ≡ out.old.items)) }
 {
     if width == 0 {
@@ -83,7 +85,8 @@ fn encode_bools<I: Iterator<Item = bool>>(
 ) -> std::result::Result<(), AllocError>
     requires can { I.can_next values }
     requires ends { IsFinite (I.remaining values) }
-    ensures ok { OnOk result ((vs : List Bool) × Drains I.next_gives values vs × AppendsRuns 1 out.old.items out.new.items (map bit vs)) }
+    ensures ok { OnOk result ((vs : List Bool) × Drains I.next_gives values vs
+        × AppendsRuns 1 out.old.items out.new.items (map bit vs)) }
     ensures kept { Extends out.old.items out.new.items }
 {
     let mut writer = RunWriter::new(1);
@@ -106,7 +109,8 @@ pub fn encode_bool<I: Iterator<Item = bool>>(
     requires can { I.can_next values }
     requires ends { IsFinite (I.remaining values) }
     requires gives { (vs : List Bool) → Drains I.next_gives values vs → count vs ≡ length }
-    ensures ok { OnOk result ((vs : List Bool) × Drains I.next_gives values vs × AppendsRuns 1 out.old.items out.new.items (map bit vs)) }
+    ensures ok { OnOk result ((vs : List Bool) × Drains I.next_gives values vs
+        × AppendsRuns 1 out.old.items out.new.items (map bit vs)) }
     ensures err { IfErr result (λ e. (e ≡ Memory) × (out.new.items ≡ out.old.items)) }
 {
     let before = out.len();

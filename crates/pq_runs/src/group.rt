@@ -25,7 +25,8 @@ fn pairs_of(numbers: [u8; 8], width: u32) -> u64
 #[inline(always)]
 fn fours_of(pairs: u64, width: u32) -> u64
     requires fits { width ≤ 8 }
-    ensures { (xs : List ℕ) → length xs ≡ 4 → All (λ v. v < 2 ^ (2 * width)) xs → pairs ≡ word_of 16 xs → result ≡ word_of 32 (paired (2 * width) xs) }
+    ensures { (xs : List ℕ) → length xs ≡ 4 → All (λ v. v < 2 ^ (2 * width)) xs → pairs ≡ word_of 16 xs
+        → result ≡ word_of 32 (paired (2 * width) xs) }
 {
     let [a, b, c, d, e, f, g, h] = pairs.to_le_bytes();
     let first = u64::from_le_bytes([a, b, 0, 0, e, f, 0, 0]);
@@ -37,7 +38,8 @@ fn fours_of(pairs: u64, width: u32) -> u64
 #[inline(always)]
 fn joined(fours: u64, width: u32) -> u64
     requires fits { width ≤ 8 }
-    ensures { (xs : List ℕ) → length xs ≡ 2 → All (λ v. v < 2 ^ (4 * width)) xs → fours ≡ word_of 32 xs → result ≡ word_of (4 * width) xs }
+    ensures { (xs : List ℕ) → length xs ≡ 2 → All (λ v. v < 2 ^ (4 * width)) xs → fours ≡ word_of 32 xs
+        → result ≡ word_of (4 * width) xs }
 {
     (fours % (1 << 32)).wrapping_add((fours >> 32) << (4 * width))
 }
@@ -72,7 +74,8 @@ fn put_group(places: &mut [u8], at: usize, numbers: [u8; 8], width: u32)
     requires room { at + 8 ≤ length places.old }
     requires below { All (λ v. v < 2 ^ width) numbers }
     ensures len { length places.new ≡ length places.old }
-    ensures put { (text : List ℕ) × (take (at + width) places.new ≡ take at places.old ++ text) × (length text ≡ width) × (number_of text ≡ word_of width numbers) }
+    ensures put { (text : List ℕ) × (take (at + width) places.new ≡ take at places.old ++ text) × (length text ≡ width)
+        × (number_of text ≡ word_of width numbers) }
 {
     put_bytes(places, at, word_of(numbers, width).to_le_bytes());
 }
@@ -141,7 +144,8 @@ pub fn push_narrow(out: &mut Vec<u8>, numbers: &[u8], width: u32) -> Result<(), 
     requires few { length numbers.now ≤ 504 }
     requires whole { length numbers.now % 8 ≡ 0 }
     requires below { All (λ v. v < 2 ^ width) numbers.now }
-    ensures ok { OnOk result ((text : List ℕ) × (out.new.items ≡ out.old.items ++ text) × ArePacked width numbers.now text) }
+    ensures ok { OnOk result ((text : List ℕ) × (out.new.items ≡ out.old.items ++ text)
+        × ArePacked width numbers.now text) }
     ensures kept { Extends out.old.items out.new.items }
 {
     let mut places = [0; 504];

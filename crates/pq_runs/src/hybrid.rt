@@ -34,7 +34,8 @@ impl<'a> HybridRleDecoder<'a> {
     ///
     /// S6 exactly where `num_bits` is above 32.
     pub fn try_new(values: &'a [u8], num_bits: u32, num_values: usize) -> Result<Self>
-        ensures { MatchResult result (λ items. (num_bits ≤ 32) × (items ≡ hybrid num_bits num_values values.now)) (λ e. (e ≡ fault) × (32 < num_bits)) }
+        ensures { MatchResult result (λ items. (num_bits ≤ 32) × (items ≡ hybrid num_bits num_values values.now))
+            (λ e. (e ≡ fault) × (32 < num_bits)) }
     {
         if num_bits > 32 {
             return Err(Error::OutOfSpec(S::S6));

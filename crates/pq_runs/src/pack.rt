@@ -10,7 +10,8 @@ use std::alloc::AllocError;
 // Appends the whole bytes of so many bits, and gives what is left.
 pub fn push_whole_bytes(out: &mut Vec<u8>, held: u64, bits: u32) -> Result<u64, AllocError>
     requires { held < 2 ^ bits }
-    ensures ok { IfOk result (λ left. (text : List ℕ) × (out.new.items ≡ out.old.items ++ text) × HoldsIn bits held text (bits % 8) left) }
+    ensures ok { IfOk result (λ left. (text : List ℕ) × (out.new.items ≡ out.old.items ++ text)
+        × HoldsIn bits held text (bits % 8) left) }
     ensures kept { Extends out.old.items out.new.items }
 {
     let mut left = held;
@@ -27,7 +28,8 @@ pub fn push_whole_bytes(out: &mut Vec<u8>, held: u64, bits: u32) -> Result<u64, 
 pub fn push_word(out: &mut Vec<u8>, held: u64, bits: u32) -> Result<u64, AllocError>
     requires most { bits < 64 }
     requires small { held < 2 ^ bits }
-    ensures ok { IfOk result (λ left. (text : List ℕ) × (out.new.items ≡ out.old.items ++ text) × HoldsIn bits held text (bits % 32) left) }
+    ensures ok { IfOk result (λ left. (text : List ℕ) × (out.new.items ≡ out.old.items ++ text)
+        × HoldsIn bits held text (bits % 32) left) }
     ensures kept { Extends out.old.items out.new.items }
 {
     if bits < 32 {
@@ -42,7 +44,8 @@ pub fn push_word(out: &mut Vec<u8>, held: u64, bits: u32) -> Result<u64, AllocEr
 pub fn push_rest(out: &mut Vec<u8>, held: u64, bits: u32) -> Result<(), AllocError>
     requires most { bits < 64 }
     requires small { held < 2 ^ bits }
-    ensures ok { OnOk result ((text : List ℕ) × (out.new.items ≡ out.old.items ++ text) × (length text ≡ (bits + 7) / 8) × (number_of text ≡ held)) }
+    ensures ok { OnOk result ((text : List ℕ) × (out.new.items ≡ out.old.items ++ text) × (length text ≡ (bits + 7) / 8)
+        × (number_of text ≡ held)) }
     ensures kept { Extends out.old.items out.new.items }
 {
     push_whole_bytes(out, held, (bits + 7) / 8 * 8)?;
@@ -53,7 +56,8 @@ pub fn push_rest(out: &mut Vec<u8>, held: u64, bits: u32) -> Result<(), AllocErr
 pub fn push_packed(out: &mut Vec<u8>, numbers: &[u32], width: u32) -> Result<(), AllocError>
     requires fits { width ≤ 32 }
     requires below { All (λ v. v < 2 ^ width) numbers.now }
-    ensures ok { OnOk result ((text : List ℕ) × (out.new.items ≡ out.old.items ++ text) × ArePacked width numbers.now text) }
+    ensures ok { OnOk result ((text : List ℕ) × (out.new.items ≡ out.old.items ++ text)
+        × ArePacked width numbers.now text) }
     ensures kept { Extends out.old.items out.new.items }
 {
     let mut held: u64 = 0;

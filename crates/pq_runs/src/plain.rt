@@ -18,7 +18,8 @@ fn push_bits<I: Iterator<Item = bool>>(
 ) -> std::result::Result<(), AllocError>
     requires can { I.can_next values }
     requires ends { IsFinite (I.remaining values) }
-    ensures ok { OnOk result ((vs : List Bool) × Drains I.next_gives values vs × (text : List ℕ) × (out.new.items ≡ out.old.items ++ text) × ArePacked 1 (map bit vs) text) }
+    ensures ok { OnOk result ((vs : List Bool) × Drains I.next_gives values vs × (text : List ℕ)
+        × (out.new.items ≡ out.old.items ++ text) × ArePacked 1 (map bit vs) text) }
     ensures kept { Extends out.old.items out.new.items }
 {
     let mut held: u64 = 0;
@@ -44,7 +45,8 @@ pub fn bitpacked_encode<I: Iterator<Item = bool>>(
     requires can { I.can_next values }
     requires ends { IsFinite (I.remaining values) }
     requires gives { (vs : List Bool) → Drains I.next_gives values vs → count vs ≡ length }
-    ensures ok { OnOk result ((vs : List Bool) × Drains I.next_gives values vs × (text : List ℕ) × (out.new.items ≡ out.old.items ++ text) × ArePacked 1 (map bit vs) text) }
+    ensures ok { OnOk result ((vs : List Bool) × Drains I.next_gives values vs × (text : List ℕ)
+        × (out.new.items ≡ out.old.items ++ text) × ArePacked 1 (map bit vs) text) }
     ensures err { IfErr result (λ e. (e ≡ Memory) × (out.new.items ≡ out.old.items)) }
 {
     let before = out.len();

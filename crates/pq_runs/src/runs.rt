@@ -18,7 +18,9 @@ pub fn push_groups(out: &mut Vec<u8>, numbers: &[u32], width: u32) -> Result<(),
     requires few { length numbers.now ≤ 504 }
     requires whole { length numbers.now % 8 ≡ 0 }
     requires below { All (λ v. v < 2 ^ width) numbers.now }
-    ensures ok { OnOk result ((body : List ℕ) × (out.new.items ≡ out.old.items ++ (varint (2 * (length numbers.now / 8) + 1) ++ body)) × ArePacked width numbers.now body) }
+    ensures ok { OnOk result ((body : List ℕ)
+        × (out.new.items ≡ out.old.items ++ (varint (2 * (length numbers.now / 8) + 1) ++ body))
+        × ArePacked width numbers.now body) }
     ensures kept { Extends out.old.items out.new.items }
 {
     push_varint(out, 2 * (numbers.len() as u64 / 8) + 1)?;
@@ -31,7 +33,9 @@ pub fn push_narrow_groups(out: &mut Vec<u8>, numbers: &[u8], width: u32) -> Resu
     requires few { length numbers.now ≤ 504 }
     requires whole { length numbers.now % 8 ≡ 0 }
     requires below { All (λ v. v < 2 ^ width) numbers.now }
-    ensures ok { OnOk result ((body : List ℕ) × (out.new.items ≡ out.old.items ++ (varint (2 * (length numbers.now / 8) + 1) ++ body)) × ArePacked width numbers.now body) }
+    ensures ok { OnOk result ((body : List ℕ)
+        × (out.new.items ≡ out.old.items ++ (varint (2 * (length numbers.now / 8) + 1) ++ body))
+        × ArePacked width numbers.now body) }
     ensures kept { Extends out.old.items out.new.items }
 {
     let groups = numbers.len() as u64 / 8;
@@ -42,7 +46,9 @@ pub fn push_narrow_groups(out: &mut Vec<u8>, numbers: &[u8], width: u32) -> Resu
 // A run of packed numbers of one bit, which are whole groups.
 pub fn push_bit_groups(out: &mut Vec<u8>, bits: &BitBlock) -> Result<(), AllocError>
     requires whole { length bits.now % 8 ≡ 0 }
-    ensures ok { OnOk result ((body : List ℕ) × (out.new.items ≡ out.old.items ++ (varint (2 * (length bits.now / 8) + 1) ++ body)) × ArePacked 1 bits.now body) }
+    ensures ok { OnOk result ((body : List ℕ)
+        × (out.new.items ≡ out.old.items ++ (varint (2 * (length bits.now / 8) + 1) ++ body))
+        × ArePacked 1 bits.now body) }
     ensures kept { Extends out.old.items out.new.items }
 {
     push_varint(out, 2 * (bits.len() as u64 / 8) + 1)?;
@@ -54,7 +60,8 @@ pub fn push_copies(out: &mut Vec<u8>, number: u32, count: u64, width: u32) -> Re
     requires fits { width ≤ 32 }
     requires few { count < 2 ^ 62 }
     requires below { number < 2 ^ width }
-    ensures ok { OnOk result ((text : List ℕ) × (out.new.items ≡ out.old.items ++ (varint (2 * count) ++ text)) × IsWhole width number text) }
+    ensures ok { OnOk result ((text : List ℕ) × (out.new.items ≡ out.old.items ++ (varint (2 * count) ++ text))
+        × IsWhole width number text) }
     ensures kept { Extends out.old.items out.new.items }
 {
     push_varint(out, 2 * count)?;
@@ -68,7 +75,8 @@ pub fn flush(out: &mut Vec<u8>, block: &mut Block, width: u32) -> Result<(), All
     requires fits { width ≤ 32 }
     requires whole { length block.old % 8 ≡ 0 }
     requires below { All (λ v. v < 2 ^ width) block.old }
-    ensures ok { OnOk result ((block.new ≡ []) × ((start xs : List ℕ) → Wrote width start out.old.items block.old xs → Wrote width start out.new.items [] xs)) }
+    ensures ok { OnOk result ((block.new ≡ []) × ((start xs : List ℕ) → Wrote width start out.old.items block.old xs
+        → Wrote width start out.new.items [] xs)) }
     ensures size { OnOk result (8 * length out.new.items ≤ 8 * length out.old.items + 8 + width * length block.old) }
     ensures kept { Extends out.old.items out.new.items }
 {

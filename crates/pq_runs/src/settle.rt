@@ -38,9 +38,13 @@ fn settle_many(
     requires number { number < 2 ^ width }
     ensures room { OnOk result (length block.new < 504) }
     ensures below { OnOk result (All (λ v. v < 2 ^ width) block.new) }
-    ensures wrote { OnOk result ((start xs : List ℕ) → Wrote width start out.old.items block.old xs → Wrote width start out.new.items block.new (xs ++ replicate count number)) }
-    ensures tight { OnOk result ((start done : ℕ) → IsTight width start (length out.old.items) done → (more : ℕ) × (done + length block.old + count ≡ more + length block.new) × IsTight width start (length out.new.items) more) }
-    ensures short { OnOk result (Takes width out.old.items block.old out.new.items block.new (stretch_bits width * one_if_any count)) }
+    ensures wrote { OnOk result ((start xs : List ℕ) → Wrote width start out.old.items block.old xs
+        → Wrote width start out.new.items block.new (xs ++ replicate count number)) }
+    ensures tight { OnOk result ((start done : ℕ) → IsTight width start (length out.old.items) done → (more : ℕ)
+        × (done + length block.old + count ≡ more + length block.new)
+        × IsTight width start (length out.new.items) more) }
+    ensures short { OnOk result (Takes width out.old.items block.old out.new.items block.new
+        (stretch_bits width * one_if_any count)) }
     ensures kept { Extends out.old.items out.new.items }
 {
     let many = fewest(width);
@@ -77,9 +81,13 @@ pub fn settle(
     requires number { number < 2 ^ width }
     ensures room { OnOk result (length block.new < 504) }
     ensures below { OnOk result (All (λ v. v < 2 ^ width) block.new) }
-    ensures wrote { OnOk result ((start xs : List ℕ) → Wrote width start out.old.items block.old xs → Wrote width start out.new.items block.new (xs ++ replicate count number)) }
-    ensures tight { OnOk result ((start done : ℕ) → IsTight width start (length out.old.items) done → (more : ℕ) × (done + length block.old + count ≡ more + length block.new) × IsTight width start (length out.new.items) more) }
-    ensures short { OnOk result (Takes width out.old.items block.old out.new.items block.new (stretch_bits width * one_if_any count)) }
+    ensures wrote { OnOk result ((start xs : List ℕ) → Wrote width start out.old.items block.old xs
+        → Wrote width start out.new.items block.new (xs ++ replicate count number)) }
+    ensures tight { OnOk result ((start done : ℕ) → IsTight width start (length out.old.items) done → (more : ℕ)
+        × (done + length block.old + count ≡ more + length block.new)
+        × IsTight width start (length out.new.items) more) }
+    ensures short { OnOk result (Takes width out.old.items block.old out.new.items block.new
+        (stretch_bits width * one_if_any count)) }
     ensures kept { Extends out.old.items out.new.items }
 {
     if count <= 8 && block.len() < 496 {
@@ -140,9 +148,13 @@ pub fn pack(
     requires numbers { All (λ v. v < 2 ^ width) numbers.now }
     ensures room { OnOk result (length block.new < 504) }
     ensures below { OnOk result (All (λ v. v < 2 ^ width) block.new) }
-    ensures wrote { OnOk result ((start xs : List ℕ) → Wrote width start out.old.items block.old xs → Wrote width start out.new.items block.new (xs ++ numbers.now)) }
-    ensures tight { OnOk result ((start done : ℕ) → IsTight width start (length out.old.items) done → (more : ℕ) × (done + length block.old + length numbers.now ≡ more + length block.new) × IsTight width start (length out.new.items) more) }
-    ensures short { OnOk result (Takes width out.old.items block.old out.new.items block.new (width * (length numbers.now + 7) + 8)) }
+    ensures wrote { OnOk result ((start xs : List ℕ) → Wrote width start out.old.items block.old xs
+        → Wrote width start out.new.items block.new (xs ++ numbers.now)) }
+    ensures tight { OnOk result ((start done : ℕ) → IsTight width start (length out.old.items) done → (more : ℕ)
+        × (done + length block.old + length numbers.now ≡ more + length block.new)
+        × IsTight width start (length out.new.items) more) }
+    ensures short { OnOk result (Takes width out.old.items block.old out.new.items block.new
+        (width * (length numbers.now + 7) + 8)) }
     ensures kept { Extends out.old.items out.new.items }
 {
     let room = 504 - block.len();
@@ -171,9 +183,13 @@ pub fn pack_narrow(
     requires numbers { All (λ v. v < 2 ^ width) numbers.now }
     ensures room { OnOk result (length block.new < 504) }
     ensures below { OnOk result (All (λ v. v < 2 ^ width) block.new) }
-    ensures wrote { OnOk result ((start xs : List ℕ) → Wrote width start out.old.items block.old xs → Wrote width start out.new.items block.new (xs ++ numbers.now)) }
-    ensures tight { OnOk result ((start done : ℕ) → IsTight width start (length out.old.items) done → (more : ℕ) × (done + length block.old + length numbers.now ≡ more + length block.new) × IsTight width start (length out.new.items) more) }
-    ensures short { OnOk result (Takes width out.old.items block.old out.new.items block.new (width * (length numbers.now + 7) + 8)) }
+    ensures wrote { OnOk result ((start xs : List ℕ) → Wrote width start out.old.items block.old xs
+        → Wrote width start out.new.items block.new (xs ++ numbers.now)) }
+    ensures tight { OnOk result ((start done : ℕ) → IsTight width start (length out.old.items) done → (more : ℕ)
+        × (done + length block.old + length numbers.now ≡ more + length block.new)
+        × IsTight width start (length out.new.items) more) }
+    ensures short { OnOk result (Takes width out.old.items block.old out.new.items block.new
+        (width * (length numbers.now + 7) + 8)) }
     ensures kept { Extends out.old.items out.new.items }
 {
     let room = 504 - block.len();
@@ -205,9 +221,13 @@ pub fn pack_bits(
     requires numbers { All (λ v. v < 2 ^ width) (bit_numbers low word 0 count) }
     ensures room { OnOk result (length block.new < 504) }
     ensures below { OnOk result (All (λ v. v < 2 ^ width) block.new) }
-    ensures wrote { OnOk result ((start xs : List ℕ) → Wrote width start out.old.items block.old xs → Wrote width start out.new.items block.new (xs ++ bit_numbers low word 0 count)) }
-    ensures tight { OnOk result ((start done : ℕ) → IsTight width start (length out.old.items) done → (more : ℕ) × (done + length block.old + length (bit_numbers low word 0 count) ≡ more + length block.new) × IsTight width start (length out.new.items) more) }
-    ensures short { OnOk result (Takes width out.old.items block.old out.new.items block.new (width * (length (bit_numbers low word 0 count) + 7) + 8)) }
+    ensures wrote { OnOk result ((start xs : List ℕ) → Wrote width start out.old.items block.old xs
+        → Wrote width start out.new.items block.new (xs ++ bit_numbers low word 0 count)) }
+    ensures tight { OnOk result ((start done : ℕ) → IsTight width start (length out.old.items) done → (more : ℕ)
+        × (done + length block.old + length (bit_numbers low word 0 count) ≡ more + length block.new)
+        × IsTight width start (length out.new.items) more) }
+    ensures short { OnOk result (Takes width out.old.items block.old out.new.items block.new
+        (width * (length (bit_numbers low word 0 count) + 7) + 8)) }
     ensures kept { Extends out.old.items out.new.items }
 {
     let room = 504 - block.len();

@@ -89,7 +89,8 @@ fn fail<'a>(state: &mut State<'a>)
 pub fn find<'a>(state: &mut State<'a>) -> Result<()>
     requires is { IsState state.old }
     requires some { 0 < state.old.left }
-    ensures found { OnOk result (IsState state.new × (items state.new ≡ items state.old) × (0 < state.new.copies + state.new.standing)) }
+    ensures found { OnOk result (IsState state.new × (items state.new ≡ items state.old)
+        × (0 < state.new.copies + state.new.standing)) }
     ensures failed { IfErr result (λ e. IsState state.new × (items state.old ≡ Err e ∷ []) × (items state.new ≡ [])) }
 {
     while state.copies == 0 && state.standing == 0 {

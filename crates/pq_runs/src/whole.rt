@@ -108,9 +108,12 @@ fn append_run<'a>(
     requires some { 0 < width }
     requires fits { width ≤ 32 }
     requires called { 0 < left }
-    ensures ok { IfOk result (λ rest. (xs : List ℕ) × (numbers.new.items ≡ numbers.old.items ++ xs) × (length xs ≤ left) × (runs_items (length bytes.now) width left bytes.now ≡ given xs ++ runs_items (length rest.now) width (left - length xs) rest.now)) }
+    ensures ok { IfOk result (λ rest. (xs : List ℕ) × (numbers.new.items ≡ numbers.old.items ++ xs) × (length xs ≤ left)
+        × (runs_items (length bytes.now) width left bytes.now
+        ≡ given xs ++ runs_items (length rest.now) width (left - length xs) rest.now)) }
     ensures shorter { IfOk result (λ rest. length rest.now < length bytes.now) }
-    ensures err { IfErr result (λ e. (e ≡ Memory) ⊎ ((e ≡ fault) × (runs_items (length bytes.now) width left bytes.now ≡ Err fault ∷ []))) }
+    ensures err { IfErr result (λ e. (e ≡ Memory) ⊎ ((e ≡ fault)
+        × (runs_items (length bytes.now) width left bytes.now ≡ Err fault ∷ []))) }
 {
     match take_run(bytes, width) {
         None => Err(Error::OutOfSpec(S::S6)),
@@ -134,7 +137,8 @@ fn append_run<'a>(
 pub fn decode(alloc: Global, bytes: &[u8], width: u32, called: usize) -> Result<Vec<u32>>
     requires fits { width ≤ 32 }
     ensures ok { IfOk result (λ numbers. Spelled width called bytes.now numbers.items) }
-    ensures err { IfErr result (λ e. (e ≡ Memory) ⊎ ((e ≡ fault) × ((xs : List ℕ) → Spelled width called bytes.now xs → ⊥))) }
+    ensures err { IfErr result (λ e. (e ≡ Memory) ⊎ ((e ≡ fault)
+        × ((xs : List ℕ) → Spelled width called bytes.now xs → ⊥))) }
 {
     let mut numbers = Vec::new(alloc);
     if width == 0 {

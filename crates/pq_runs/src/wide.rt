@@ -12,7 +12,8 @@ use std::alloc::AllocError;
 fn push_double_word(out: &mut Vec<u8>, held: u128, bits: u32) -> Result<u128, AllocError>
     requires most { bits < 128 }
     requires small { held < 2 ^ bits }
-    ensures ok { IfOk result (λ left. (text : List ℕ) × (out.new.items ≡ out.old.items ++ text) × HoldsIn bits held text (bits % 64) left) }
+    ensures ok { IfOk result (λ left. (text : List ℕ) × (out.new.items ≡ out.old.items ++ text)
+        × HoldsIn bits held text (bits % 64) left) }
     ensures kept { Extends out.old.items out.new.items }
 {
     if bits < 64 {
@@ -27,7 +28,8 @@ fn push_double_word(out: &mut Vec<u8>, held: u128, bits: u32) -> Result<u128, Al
 pub fn push_packed_wide(out: &mut Vec<u8>, numbers: &[u64], width: u32) -> Result<(), AllocError>
     requires fits { width ≤ 64 }
     requires below { All (λ v. v < 2 ^ width) numbers.now }
-    ensures ok { OnOk result ((text : List ℕ) × (out.new.items ≡ out.old.items ++ text) × ArePacked width numbers.now text) }
+    ensures ok { OnOk result ((text : List ℕ) × (out.new.items ≡ out.old.items ++ text)
+        × ArePacked width numbers.now text) }
     ensures kept { Extends out.old.items out.new.items }
 {
     let mut held: u128 = 0;

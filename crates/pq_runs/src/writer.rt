@@ -64,7 +64,8 @@ impl RunWriter {
         requires some { 0 < count }
         requires few { count ≤ 2 ^ 40 }
         ensures width { self.new.width ≡ self.old.width }
-        ensures added { OnOk result ((start xs : List ℕ) → Keeps start out.old.items self.old xs → Keeps start out.new.items self.new (xs ++ replicate count number)) }
+        ensures added { OnOk result ((start xs : List ℕ) → Keeps start out.old.items self.old xs
+            → Keeps start out.new.items self.new (xs ++ replicate count number)) }
         ensures kept { Extends out.old.items out.new.items }
     {
         if number == self.number && self.count < MOST_COPIES {
@@ -86,7 +87,8 @@ impl RunWriter {
     fn push_many(&mut self, out: &mut Vec<u8>, number: u32, count: u64) -> Result<(), AllocError>
         requires low { number < 2 ^ self.old.width }
         ensures width { self.new.width ≡ self.old.width }
-        ensures added { OnOk result ((start xs : List ℕ) → Keeps start out.old.items self.old xs → Keeps start out.new.items self.new (xs ++ replicate count number)) }
+        ensures added { OnOk result ((start xs : List ℕ) → Keeps start out.old.items self.old xs
+            → Keeps start out.new.items self.new (xs ++ replicate count number)) }
         ensures kept { Extends out.old.items out.new.items }
     {
         let mut left = count;
@@ -106,7 +108,8 @@ impl RunWriter {
     pub fn push(&mut self, out: &mut Vec<u8>, number: u32, count: usize) -> Result<(), AllocError>
         requires low { number < 2 ^ self.old.width }
         ensures width { self.new.width ≡ self.old.width }
-        ensures added { OnOk result ((start xs : List ℕ) → Keeps start out.old.items self.old xs → Keeps start out.new.items self.new (xs ++ replicate count number)) }
+        ensures added { OnOk result ((start xs : List ℕ) → Keeps start out.old.items self.old xs
+            → Keeps start out.new.items self.new (xs ++ replicate count number)) }
         ensures kept { Extends out.old.items out.new.items }
     {
         let count = count as u64;
@@ -120,7 +123,8 @@ impl RunWriter {
     fn push_others(&mut self, out: &mut Vec<u8>, numbers: &[u32]) -> Result<(), AllocError>
         requires low { All (λ v. v < 2 ^ self.old.width) numbers.now }
         ensures width { self.new.width ≡ self.old.width }
-        ensures added { OnOk result ((start xs : List ℕ) → Keeps start out.old.items self.old xs → Keeps start out.new.items self.new (xs ++ numbers.now)) }
+        ensures added { OnOk result ((start xs : List ℕ) → Keeps start out.old.items self.old xs
+            → Keeps start out.new.items self.new (xs ++ numbers.now)) }
         ensures kept { Extends out.old.items out.new.items }
     {
         for number in numbers {
@@ -136,7 +140,8 @@ impl RunWriter {
         requires few { length numbers.now ≤ 504 }
         requires mixed { length numbers.now + 34 ≤ 14 * stretches numbers.now }
         ensures width { self.new.width ≡ self.old.width }
-        ensures added { OnOk result ((start xs : List ℕ) → Keeps start out.old.items self.old xs → Keeps start out.new.items self.new (xs ++ numbers.now)) }
+        ensures added { OnOk result ((start xs : List ℕ) → Keeps start out.old.items self.old xs
+            → Keeps start out.new.items self.new (xs ++ numbers.now)) }
         ensures kept { Extends out.old.items out.new.items }
     {
         let rest = numbers.len() - 1;
@@ -163,7 +168,8 @@ impl RunWriter {
     pub fn push_each(&mut self, out: &mut Vec<u8>, numbers: &[u32]) -> Result<(), AllocError>
         requires low { All (λ v. v < 2 ^ self.old.width) numbers.now }
         ensures width { self.new.width ≡ self.old.width }
-        ensures added { OnOk result ((start xs : List ℕ) → Keeps start out.old.items self.old xs → Keeps start out.new.items self.new (xs ++ numbers.now)) }
+        ensures added { OnOk result ((start xs : List ℕ) → Keeps start out.old.items self.old xs
+            → Keeps start out.new.items self.new (xs ++ numbers.now)) }
         ensures kept { Extends out.old.items out.new.items }
     {
         if numbers.is_empty() {
@@ -183,7 +189,8 @@ impl RunWriter {
     fn push_narrow_others(&mut self, out: &mut Vec<u8>, numbers: &[u8]) -> Result<(), AllocError>
         requires low { All (λ v. v < 2 ^ self.old.width) numbers.now }
         ensures width { self.new.width ≡ self.old.width }
-        ensures added { OnOk result ((start xs : List ℕ) → Keeps start out.old.items self.old xs → Keeps start out.new.items self.new (xs ++ numbers.now)) }
+        ensures added { OnOk result ((start xs : List ℕ) → Keeps start out.old.items self.old xs
+            → Keeps start out.new.items self.new (xs ++ numbers.now)) }
         ensures kept { Extends out.old.items out.new.items }
     {
         for number in numbers {
@@ -199,7 +206,8 @@ impl RunWriter {
         requires few { length numbers.now ≤ 504 }
         requires mixed { length numbers.now + 34 ≤ 14 * stretches numbers.now }
         ensures width { self.new.width ≡ self.old.width }
-        ensures added { OnOk result ((start xs : List ℕ) → Keeps start out.old.items self.old xs → Keeps start out.new.items self.new (xs ++ numbers.now)) }
+        ensures added { OnOk result ((start xs : List ℕ) → Keeps start out.old.items self.old xs
+            → Keeps start out.new.items self.new (xs ++ numbers.now)) }
         ensures kept { Extends out.old.items out.new.items }
     {
         let rest = numbers.len() - 1;
@@ -231,7 +239,8 @@ impl RunWriter {
     pub fn push_bytes(&mut self, out: &mut Vec<u8>, numbers: &[u8]) -> Result<(), AllocError>
         requires low { All (λ v. v < 2 ^ self.old.width) numbers.now }
         ensures width { self.new.width ≡ self.old.width }
-        ensures added { OnOk result ((start xs : List ℕ) → Keeps start out.old.items self.old xs → Keeps start out.new.items self.new (xs ++ numbers.now)) }
+        ensures added { OnOk result ((start xs : List ℕ) → Keeps start out.old.items self.old xs
+            → Keeps start out.new.items self.new (xs ++ numbers.now)) }
         ensures kept { Extends out.old.items out.new.items }
     {
         if numbers.is_empty() {
@@ -264,7 +273,8 @@ impl RunWriter {
         requires few { count ≤ 64 }
         requires mixed { count + 34 ≤ 14 * stretches (bit_numbers low word 0 count) }
         ensures width { self.new.width ≡ self.old.width }
-        ensures added { OnOk result ((start xs : List ℕ) → Keeps start out.old.items self.old xs → Keeps start out.new.items self.new (xs ++ bit_numbers low word 0 count)) }
+        ensures added { OnOk result ((start xs : List ℕ) → Keeps start out.old.items self.old xs
+            → Keeps start out.new.items self.new (xs ++ bit_numbers low word 0 count)) }
         ensures kept { Extends out.old.items out.new.items }
     {
         let _width = &self.width;
@@ -295,7 +305,8 @@ impl RunWriter {
         requires few { count ≤ 64 }
         requires mixed { count + 34 ≤ 14 * stretches (bit_numbers low word 0 count) }
         ensures width { self.new.width ≡ self.old.width }
-        ensures added { OnOk result ((start xs : List ℕ) → Keeps start out.old.items self.old xs → Keeps start out.new.items self.new (xs ++ bit_numbers low word 0 count)) }
+        ensures added { OnOk result ((start xs : List ℕ) → Keeps start out.old.items self.old xs
+            → Keeps start out.new.items self.new (xs ++ bit_numbers low word 0 count)) }
         ensures kept { Extends out.old.items out.new.items }
     {
         let _width = &self.width;
@@ -328,7 +339,8 @@ impl RunWriter {
         requires few { count ≤ 64 }
         requires low { All (λ v. v < 2 ^ self.old.width) (bit_numbers low word 0 count) }
         ensures width { self.new.width ≡ self.old.width }
-        ensures added { OnOk result ((start xs : List ℕ) → Keeps start out.old.items self.old xs → Keeps start out.new.items self.new (xs ++ bit_numbers low word 0 count)) }
+        ensures added { OnOk result ((start xs : List ℕ) → Keeps start out.old.items self.old xs
+            → Keeps start out.new.items self.new (xs ++ bit_numbers low word 0 count)) }
         ensures kept { Extends out.old.items out.new.items }
     {
         let _width = &self.width;
@@ -357,7 +369,8 @@ impl RunWriter {
         requires few { count ≤ 64 }
         requires low { All (λ v. v < 2 ^ self.old.width) (bit_numbers low word 0 count) }
         ensures width { self.new.width ≡ self.old.width }
-        ensures added { OnOk result ((start xs : List ℕ) → Keeps start out.old.items self.old xs → Keeps start out.new.items self.new (xs ++ bit_numbers low word 0 count)) }
+        ensures added { OnOk result ((start xs : List ℕ) → Keeps start out.old.items self.old xs
+            → Keeps start out.new.items self.new (xs ++ bit_numbers low word 0 count)) }
         ensures kept { Extends out.old.items out.new.items }
     {
         if count == 0 {
@@ -379,7 +392,8 @@ impl RunWriter {
     ///
     /// Want of memory; `out` has what it had in front.
     pub fn finish(mut self, out: &mut Vec<u8>) -> Result<(), AllocError>
-        ensures ok { OnOk result ((start xs : List ℕ) → Keeps start out.old.items self xs → AppendsRuns self.width start out.new.items xs) }
+        ensures ok { OnOk result ((start xs : List ℕ) → Keeps start out.old.items self xs
+            → AppendsRuns self.width start out.new.items xs) }
         ensures kept { Extends out.old.items out.new.items }
     {
         settle(out, &mut self.block, self.number, self.count, self.width)?;
@@ -441,8 +455,10 @@ fn push_last(out: &mut Vec<u8>, block: &mut Block, width: u32) -> Result<(), All
     requires fits { width ≤ 32 }
     requires room { length block.old < 504 }
     requires below { All (λ v. v < 2 ^ width) block.old }
-    ensures ok { OnOk result ((start xs : List ℕ) → Wrote width start out.old.items block.old xs → (text : List ℕ) × (out.new.items ≡ start ++ text) × WrittenRuns width text xs) }
-    ensures size { OnOk result (8 * length out.new.items ≤ 8 * length out.old.items + 8 + width * filled_up (length block.old)) }
+    ensures ok { OnOk result ((start xs : List ℕ) → Wrote width start out.old.items block.old xs → (text : List ℕ)
+        × (out.new.items ≡ start ++ text) × WrittenRuns width text xs) }
+    ensures size { OnOk result (8 * length out.new.items ≤ 8 * length out.old.items + 8
+        + width * filled_up (length block.old)) }
     ensures kept { Extends out.old.items out.new.items }
 {
     if block.len() == 0 {

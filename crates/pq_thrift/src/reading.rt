@@ -132,7 +132,8 @@ fn take_values(
     bytes: &[u8],
     depth: u8,
 ) -> Result<(Vec<Thrift>, &[u8]), Refusal>
-    ensures gives { Gives (λ x. (values_view x.0.items, x.1.now)) result (values_at (part_with (value_at depth) number) count bytes.now) }
+    ensures gives { Gives (λ x. (values_view x.0.items, x.1.now)) result
+        (values_at (part_with (value_at depth) number) count bytes.now) }
     ensures no_longer { IfOk result (λ x. length x.1.now ≤ length bytes.now) }
 {
     let mut values = Vec::new(alloc);
@@ -169,7 +170,8 @@ fn take_pair(
     bytes: &[u8],
     depth: u8,
 ) -> Result<((Thrift, Thrift), &[u8]), Refusal>
-    ensures gives { Gives (λ x. (pair_view x.0, x.1.now)) result (pair_with (part_with (value_at depth) keys) (part_with (value_at depth) values) bytes.now) }
+    ensures gives { Gives (λ x. (pair_view x.0, x.1.now)) result (pair_with (part_with (value_at depth) keys)
+        (part_with (value_at depth) values) bytes.now) }
     ensures no_longer { IfOk result (λ x. length x.1.now ≤ length bytes.now) }
 {
     let (key, rest) = take_part(alloc, keys, bytes, depth)?;
@@ -187,7 +189,8 @@ fn take_pairs(
     bytes: &[u8],
     depth: u8,
 ) -> Result<(Vec<(Thrift, Thrift)>, &[u8]), Refusal>
-    ensures gives { Gives (λ x. (pairs_view x.0.items, x.1.now)) result (pairs_at (pair_with (part_with (value_at depth) keys) (part_with (value_at depth) values)) count bytes.now) }
+    ensures gives { Gives (λ x. (pairs_view x.0.items, x.1.now)) result
+        (pairs_at (pair_with (part_with (value_at depth) keys) (part_with (value_at depth) values)) count bytes.now) }
     ensures no_longer { IfOk result (λ x. length x.1.now ≤ length bytes.now) }
 {
     let mut pairs = Vec::new(alloc);
@@ -202,7 +205,8 @@ fn take_pairs(
 
 /// A truth value that stands in a field's header.
 fn take_truth(truth: bool, bytes: &[u8], depth: u8) -> Result<(Thrift, &[u8]), Refusal>
-    ensures gives { Gives (λ x. (view x.0, x.1.now)) result (field_with (value_at depth) (if truth then true_kind else false_kind) bytes.now) }
+    ensures gives { Gives (λ x. (view x.0, x.1.now)) result (field_with (value_at depth)
+        (if truth then true_kind else false_kind) bytes.now) }
     ensures no_longer { IfOk result (λ x. length x.1.now ≤ length bytes.now) }
 {
     if depth == 0 {
@@ -312,11 +316,13 @@ fn take_thrift(alloc: Global, bytes: &[u8]) -> Outcome<(Thrift, usize)>
 /// - `Memory`: memory ran out.
 pub fn read_thrift(alloc: Global, bytes: &[u8]) -> Outcome<(Thrift, usize)>
     // What is read is spelled so, and nests no deeper than the limit.
-    ensures ok { IfOk result (λ x. (x.1 ≤ length bytes.now) × Spells (take x.1 bytes.now) (view x.0) × (depth (view x.0) ≤ max_depth)) }
+    ensures ok { IfOk result (λ x. (x.1 ≤ length bytes.now) × Spells (take x.1 bytes.now) (view x.0)
+        × (depth (view x.0) ≤ max_depth)) }
     // It can be written again.
     ensures writable { IfOk result (λ x. IsStruct (view x.0) × IsWritable (view x.0)) }
     // What is spelled so and nests no deeper is read, unless memory runs out.
-    ensures complete { (v : Value) (text rest : List ℕ) → Spells text v → depth v ≤ max_depth → bytes.now ≡ text ++ rest → ReadsAs bytes.now result (Ok (v, rest)) }
+    ensures complete { (v : Value) (text rest : List ℕ) → Spells text v → depth v ≤ max_depth → bytes.now ≡ text ++ rest
+        → ReadsAs bytes.now result (Ok (v, rest)) }
     // It is too deep only where it nests past the limit, whatever follows the place where it does ..
     ensures only_deep { result ≡ Err (Error.NotYetImplemented N7) → NestsPast max_depth struct_kind bytes.now }
     // .. and there always, unless memory runs out.

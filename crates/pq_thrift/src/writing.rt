@@ -168,7 +168,8 @@ fn push_map(
 ) -> Result<(), AllocError>
     requires types { HasTypes keys values (pairs_view pairs.now.items) }
     requires writable { ArePairsWritable (pairs_view pairs.now.items) keys values }
-    ensures spelled { OnOk result (out.new.items ≡ out.old.items ++ spell (map keys values (pairs_view pairs.now.items))) }
+    ensures spelled { OnOk result (out.new.items ≡ out.old.items ++ spell
+        (map keys values (pairs_view pairs.now.items))) }
     ensures fits { OnOk result (Fits (map keys values (pairs_view pairs.now.items))) }
 {
     push_map_head(out, keys, values, pairs.len())?;
@@ -183,7 +184,8 @@ fn push_map(
 #[cycle(write)]
 fn push_in_field(out: &mut Vec<u8>, value: &Thrift) -> Result<(), AllocError>
     requires { IsWritable (view value.now) }
-    ensures spelled { OnOk result (out.new.items ≡ out.old.items ++ behind_head (view value.now) (spell (view value.now))) }
+    ensures spelled { OnOk result (out.new.items ≡ out.old.items ++ behind_head (view value.now)
+        (spell (view value.now))) }
     ensures fits { OnOk result (Fits (view value.now)) }
 {
     match value {
@@ -224,7 +226,8 @@ pub fn write_thrift(value: &Thrift, out: &mut Vec<u8>) -> Outcome<()>
     requires is_struct { IsStruct (view value.now) }
     requires writable { IsWritable (view value.now) }
     // What is written spells the value, without padding.
-    ensures written { OnOk result ((text : List ℕ) × IsWritten text (view value.now) × (out.new.items ≡ out.old.items ++ text)) }
+    ensures written { OnOk result ((text : List ℕ) × IsWritten text (view value.now)
+        × (out.new.items ≡ out.old.items ++ text)) }
     // The same as an equation.
     ensures exact { OnOk result (out.new.items ≡ out.old.items ++ spell (view value.now)) }
     // The numbers are of their types, which the view alone does not tell.

@@ -70,7 +70,8 @@ fn push_column(
 ) -> Result<(), Error>
     requires defines { definition + 1 ≤ 255 }
     requires repeats { repetition + 1 ≤ 255 }
-    ensures found { OnOk result (map column_view columns.new.items ≡ map column_view columns.old.items ++ columns_under definition repetition (leaf_view leaf.now)) }
+    ensures found { OnOk result (map column_view columns.new.items
+        ≡ map column_view columns.old.items ++ columns_under definition repetition (leaf_view leaf.now)) }
     ensures refused { IfErr result (λ e. e ≡ Memory) }
 {
     let primitive_type = leaf.clone(alloc)?;
@@ -94,7 +95,8 @@ fn push_columns(
 ) -> Result<(), Error>
     requires defines { definition + nesting (tree_view tree.now) ≤ 255 }
     requires repeats { repetition + nesting (tree_view tree.now) ≤ 255 }
-    ensures found { OnOk result (map column_view columns.new.items ≡ map column_view columns.old.items ++ columns_under definition repetition (tree_view tree.now)) }
+    ensures found { OnOk result (map column_view columns.new.items
+        ≡ map column_view columns.old.items ++ columns_under definition repetition (tree_view tree.now)) }
     ensures refused { IfErr result (λ e. e ≡ Memory) }
 {
     match tree {
@@ -126,7 +128,8 @@ pub fn push_all_columns(
 ) -> Result<(), Error>
     requires defines { definition + nesting_of (trees_view trees.now.items) ≤ 255 }
     requires repeats { repetition + nesting_of (trees_view trees.now.items) ≤ 255 }
-    ensures found { OnOk result (map column_view columns.new.items ≡ map column_view columns.old.items ++ columns_beneath definition repetition (trees_view trees.now.items)) }
+    ensures found { OnOk result (map column_view columns.new.items
+        ≡ map column_view columns.old.items ++ columns_beneath definition repetition (trees_view trees.now.items)) }
     ensures refused { IfErr result (λ e. e ≡ Memory) }
 {
     for tree in trees {

@@ -38,7 +38,8 @@ fn push_paths(
     names: &[String],
     paths: &mut Vec<Vec<String>>,
 ) -> Result<(), Error>
-    ensures ok { OnOk result (map path_view paths.new.items ≡ map path_view paths.old.items ++ paths_under (map string_bytes names.now) (tree_view tree.now)) }
+    ensures ok { OnOk result (map path_view paths.new.items ≡ map path_view paths.old.items
+        ++ paths_under (map string_bytes names.now) (tree_view tree.now)) }
     ensures err { IfErr result (λ e. e ≡ Memory) }
 {
     match tree {
@@ -65,7 +66,8 @@ pub fn push_all_paths(
     names: &[String],
     paths: &mut Vec<Vec<String>>,
 ) -> Result<(), Error>
-    ensures ok { OnOk result (map path_view paths.new.items ≡ map path_view paths.old.items ++ paths_beneath (map string_bytes names.now) (trees_view trees.now.items)) }
+    ensures ok { OnOk result (map path_view paths.new.items ≡ map path_view paths.old.items
+        ++ paths_beneath (map string_bytes names.now) (trees_view trees.now.items)) }
     ensures err { IfErr result (λ e. e ≡ Memory) }
 {
     for tree in trees {

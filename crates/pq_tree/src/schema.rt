@@ -59,7 +59,8 @@ impl SchemaDescriptor {
         ensures name { IfOk result (λ s. s.name ≡ string_bytes name) }
         ensures fields { IfOk result (λ s. s.fields ≡ fields.items) }
         ensures shallow { IfOk result (λ s. nesting_of (trees_view fields.items) ≤ max_nesting) }
-        ensures refused { IfErr result (λ e. (e ≡ Memory) ⊎ ((e ≡ NotYetImplemented N7) × (max_nesting < nesting_of (trees_view fields.items)))) }
+        ensures refused { IfErr result (λ e. (e ≡ Memory) ⊎ ((e ≡ NotYetImplemented N7)
+            × (max_nesting < nesting_of (trees_view fields.items)))) }
     {
         if !all_nest_within(&fields, MAX_NESTING) {
             return Err(Error::NotYetImplemented(N::N7));

@@ -20,7 +20,8 @@ fn take_tree(
     elements: &[SchemaElement],
     depth: u8,
 ) -> Result<(ParquetType, &[SchemaElement]), Error>
-    ensures { Gives (λ x. (tree_view x.0, map element_view x.1.now)) result (tree_at depth (map element_view elements.now)) }
+    ensures { Gives (λ x. (tree_view x.0, map element_view x.1.now)) result
+        (tree_at depth (map element_view elements.now)) }
 {
     if depth == 0 {
         return Err(Error::NotYetImplemented(N::N7));
@@ -59,7 +60,8 @@ fn take_group<'a>(
     elements: &'a [SchemaElement],
     depth: u8,
 ) -> Result<(ParquetType, &'a [SchemaElement]), Error>
-    ensures { Gives (λ x. (tree_view x.0, map element_view x.1.now)) result (group_with (trees_at depth) (element_view element.now) (map element_view elements.now)) }
+    ensures { Gives (λ x. (tree_view x.0, map element_view x.1.now)) result
+        (group_with (trees_at depth) (element_view element.now) (map element_view elements.now)) }
 {
     let (fields, rest) = take_trees(alloc, element.num_children, elements, depth)?;
     let group = ParquetType::GroupType {
@@ -79,7 +81,8 @@ fn take_trees(
     elements: &[SchemaElement],
     depth: u8,
 ) -> Result<(Vec<ParquetType>, &[SchemaElement]), Error>
-    ensures { Gives (λ x. (trees_view x.0.items, map element_view x.1.now)) result (trees_at depth count (map element_view elements.now)) }
+    ensures { Gives (λ x. (trees_view x.0.items, map element_view x.1.now)) result
+        (trees_at depth count (map element_view elements.now)) }
 {
     let mut trees = Vec::new(alloc);
     let mut rest = elements;

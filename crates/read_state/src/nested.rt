@@ -184,8 +184,8 @@ impl NestedState {
         Ok(())
     }
 
-    /// The number of parts.
-    pub fn parts(&self) -> usize
+    /// The number of its parts: the state's depth, the leaf among them.
+    pub fn depth(&self) -> usize
         ensures { result ≡ list_length self.now }
     {
         self.nested.len()

@@ -461,7 +461,7 @@ pub fn may_take(
     ensures { IsTrue result → MayTake nested.now levels.top before reps.now defs.now }
 {
     let (lists, top, floor) = (levels.lists, levels.top, levels.floor);
-    if nested.parts() >= 64 {
+    if nested.depth() >= 64 {
         return false;
     }
     if lists > 255 {

@@ -26,7 +26,8 @@ pub fn place_of(input: &[u8]) -> Result<usize>
 
 /// What is left of a limit once a chunk's claim is taken from it. A negative claim counts as none.
 fn spend(left: u64, chunk: &ColumnChunkMetaData) -> Option<u64>
-    ensures { MatchOption result (left < claimed chunk.now.num_values) (λ rest. rest + claimed chunk.now.num_values ≡ left) }
+    ensures { MatchOption result (left < claimed chunk.now.num_values) (λ rest. rest + claimed chunk.now.num_values
+        ≡ left) }
 {
     match u64::try_from(chunk.num_values) {
         Ok(pairs) if pairs > left => None,
@@ -37,7 +38,8 @@ fn spend(left: u64, chunk: &ColumnChunkMetaData) -> Option<u64>
 
 /// The same for a group.
 fn spend_group(left: u64, group: &RowGroupMetaData) -> Option<u64>
-    ensures { MatchOption result (left < group_claims (group_view group.now)) (λ rest. rest + group_claims (group_view group.now) ≡ left) }
+    ensures { MatchOption result (left < group_claims (group_view group.now))
+        (λ rest. rest + group_claims (group_view group.now) ≡ left) }
 {
     let mut rest = left;
     for chunk in &group.columns {
@@ -52,7 +54,8 @@ fn spend_group(left: u64, group: &RowGroupMetaData) -> Option<u64>
 /// Finds that the chunks together claim no more pairs than the limit.
 pub fn check_pairs(metadata: &FileMetaData, pair_limit: u64) -> Result<()>
     ensures ok { OnOk result (pairs_claimed (metadata_view metadata.now) ≤ pair_limit) }
-    ensures err { IfErr result (λ e. (e ≡ Memory) ⊎ ((e ≡ InputLimit Pairs) × (pair_limit < pairs_claimed (metadata_view metadata.now)))) }
+    ensures err { IfErr result (λ e. (e ≡ Memory) ⊎ ((e ≡ InputLimit Pairs)
+        × (pair_limit < pairs_claimed (metadata_view metadata.now)))) }
 {
     let mut rest = pair_limit;
     for group in &metadata.row_groups {

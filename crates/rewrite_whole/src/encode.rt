@@ -65,10 +65,12 @@ fn put(alloc: Global, job: &Job, chunk: Chunk, writer: &mut FileWriter<PieceSink
     requires piece { IsPieceOf job.now chunk }
     requires schema { schema_view writer.old.file.schema ≡ schema_view job.now.plan.now.schema }
     requires options { writer.old.options ≡ write_options (asked_of job.now) }
-    ensures ok { (groups : List OutGroup) → IsWriting taken_by (Some []) writer.old groups → OnOk result (PutsGroup job.now chunk groups writer.new) }
+    ensures ok { (groups : List OutGroup) → IsWriting taken_by (Some []) writer.old groups
+        → OnOk result (PutsGroup job.now chunk groups writer.new) }
     ensures schema { writer.new.file.schema ≡ writer.old.file.schema }
     ensures options { writer.new.options ≡ writer.old.options }
-    ensures err { (groups : List OutGroup) → IsWriting taken_by (Some []) writer.old groups → IfErr result (λ e. (e ≡ Memory) ⊎ RefusesChunk (asked_of job.now) (fields_in job.now) groups chunk e) }
+    ensures err { (groups : List OutGroup) → IsWriting taken_by (Some []) writer.old groups
+        → IfErr result (λ e. (e ≡ Memory) ⊎ RefusesChunk (asked_of job.now) (fields_in job.now) groups chunk e) }
 {
     know_sound(&chunk);
     suiting_chunks_are_taken();
@@ -100,8 +102,11 @@ fn keep(refusal: &mut Option<Error>, error: Error) -> Result<()>
 pub fn encode_piece(alloc: Global, job: &Job, chunk: Chunk, output: &mut Output) -> Result<()>
     requires ready { IsReady job.now }
     requires piece { IsPieceOf job.now chunk }
-    requires output { (chunks : List ArrayTrees) × IsOutput (schema_view job.now.plan.now.schema) (asked_of job.now) output.old chunks }
-    ensures ok { (chunks : List ArrayTrees) → IsOutput (schema_view job.now.plan.now.schema) (asked_of job.now) output.old chunks → OnOk result (IsOutput (schema_view job.now.plan.now.schema) (asked_of job.now) output.new (chunks ++ chunk ∷ [])) }
+    requires output { (chunks : List ArrayTrees) × IsOutput (schema_view job.now.plan.now.schema)
+        (asked_of job.now) output.old chunks }
+    ensures ok { (chunks : List ArrayTrees) → IsOutput (schema_view job.now.plan.now.schema)
+        (asked_of job.now) output.old chunks → OnOk result
+        (IsOutput (schema_view job.now.plan.now.schema) (asked_of job.now) output.new (chunks ++ chunk ∷ [])) }
     ensures err { IfErr result (λ e. e ≡ Memory) }
 {
     let None = output.refusal else {

@@ -46,8 +46,11 @@ fn end_output<C: SchemaCodec>(
 ) -> Result<(PieceSink, Report)>
     requires schema { schema_view writer.file.schema ≡ schema_view job.now.plan.now.schema }
     requires options { writer.options ≡ write_options (asked_of job.now) }
-    ensures ok { (outs : List OutGroup) → IsWriting taken_by (Some []) writer outs → IfOk result (λ made. IsEnded (codec_of (C.bytes_of codec.now) (C.reads codec.now)) job.now outs (pieces_taken made.0) made.1) }
-    ensures err { (outs : List OutGroup) → IsWriting taken_by (Some []) writer outs → IfErr result (EndRefuses (codec_of (C.bytes_of codec.now) (C.reads codec.now)) job.now outs) }
+    ensures ok { (outs : List OutGroup) → IsWriting taken_by (Some []) writer outs
+        → IfOk result (λ made. IsEnded (codec_of (C.bytes_of codec.now) (C.reads codec.now)) job.now outs
+        (pieces_taken made.0) made.1) }
+    ensures err { (outs : List OutGroup) → IsWriting taken_by (Some []) writer outs
+        → IfErr result (EndRefuses (codec_of (C.bytes_of codec.now) (C.reads codec.now)) job.now outs) }
 {
     let mut writer = writer;
     let report = Report {
@@ -72,9 +75,15 @@ pub fn finish_output<C: SchemaCodec>(
     output: Output,
     codec: &C,
 ) -> Result<(PieceSink, Report)>
-    requires output { (chunks : List ArrayTrees) × IsOutput (schema_view job.now.plan.now.schema) (asked_of job.now) output chunks }
-    ensures ok { (chunks : List ArrayTrees) → IsOutput (schema_view job.now.plan.now.schema) (asked_of job.now) output chunks → IfOk result (λ made. Finishes (codec_of (C.bytes_of codec.now) (C.reads codec.now)) job.now chunks (pieces_taken made.0) made.1) }
-    ensures err { (chunks : List ArrayTrees) → IsOutput (schema_view job.now.plan.now.schema) (asked_of job.now) output chunks → IfErr result (FinishRefuses (codec_of (C.bytes_of codec.now) (C.reads codec.now)) job.now chunks) }
+    requires output { (chunks : List ArrayTrees) × IsOutput (schema_view job.now.plan.now.schema)
+        (asked_of job.now) output chunks }
+    ensures ok { (chunks : List ArrayTrees) → IsOutput (schema_view job.now.plan.now.schema)
+        (asked_of job.now) output chunks
+        → IfOk result (λ made. Finishes (codec_of (C.bytes_of codec.now) (C.reads codec.now)) job.now chunks
+        (pieces_taken made.0) made.1) }
+    ensures err { (chunks : List ArrayTrees) → IsOutput (schema_view job.now.plan.now.schema)
+        (asked_of job.now) output chunks
+        → IfErr result (FinishRefuses (codec_of (C.bytes_of codec.now) (C.reads codec.now)) job.now chunks) }
 {
     match output.refusal {
         Some(error) => Err(error),

@@ -30,9 +30,16 @@ pub fn rewrite<S: Source, K: Sink, C: SchemaCodec, V: View>(
 ) -> Result<Report>
     // Of a chunk size of no rows nothing is read.
     ensures no_rows { IsErrOf result (Error.InvalidArgumentError A.A1) ↔ (options.chunk_size ≡ Some 0) }
-    ensures untouched { options.chunk_size ≡ Some 0 → (source.new ≡ source.old) × (sink.new ≡ sink.old) × (view.new ≡ view.old) }
+    ensures untouched { options.chunk_size ≡ Some 0 → (source.new ≡ source.old) × (sink.new ≡ sink.old)
+        × (view.new ≡ view.old) }
     // What every other answer says.
-    ensures answer { options.chunk_size ≢ Some 0 → Rewrote (meaning (Gives (codec_of (C.bytes_of codec.now) (C.reads codec.now)) (asked_by options) (V.seen view.old) (V.seen view.new)) (Causes (codec_of (C.bytes_of codec.now) (C.reads codec.now)) (asked_by options))) options.byte_limit (ends S.left S.faults K.taken K.faults source.old source.new sink.old sink.new) result }
+    ensures answer { options.chunk_size ≢ Some 0
+        → Rewrote
+        (meaning
+        (Gives (codec_of (C.bytes_of codec.now) (C.reads codec.now)) (asked_by options) (V.seen view.old)
+        (V.seen view.new))
+        (Causes (codec_of (C.bytes_of codec.now) (C.reads codec.now)) (asked_by options))) options.byte_limit
+        (ends S.left S.faults K.taken K.faults source.old source.new sink.old sink.new) result }
     ensures kept { KeptUnlessWritten (sink.new ≡ sink.old) result }
     ensures read_some { GaveSome options.byte_limit (S.left source.old) (S.left source.new) }
     ensures reads_later { S.faults source.old ≤ S.faults source.new }

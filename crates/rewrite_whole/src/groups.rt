@@ -35,8 +35,10 @@ fn write_group<V: View>(
 ) -> Result<()>
     requires ready { IsReady job.now }
     requires group { IsGroup job.now group.now }
-    requires output { (chunks : List ArrayTrees) × IsOutput (schema_view job.now.plan.now.schema) (asked_of job.now) output.old chunks }
-    ensures ok { OnOk result (Did job.now (group_view group.now) (V.seen view.old) (V.seen view.new) output.old output.new) }
+    requires output { (chunks : List ArrayTrees) × IsOutput (schema_view job.now.plan.now.schema)
+        (asked_of job.now) output.old chunks }
+    ensures ok { OnOk result (Did job.now (group_view group.now) (V.seen view.old)
+        (V.seen view.new) output.old output.new) }
     ensures err { IfErr result (RefusesGroup job.now (group_view group.now)) }
     ensures grows { Grows (V.seen view.old) (V.seen view.new) }
 {
@@ -62,7 +64,8 @@ pub fn write_groups<V: View>(
 ) -> Result<()>
     requires ready { IsReady job.now }
     requires empty { IsOutput (schema_view job.now.plan.now.schema) (asked_of job.now) output.old [] }
-    ensures ok { OnOk result (DidAll job.now (metadata_view job.now.metadata.now).groups (V.seen view.old) (V.seen view.new) output.new) }
+    ensures ok { OnOk result (DidAll job.now (metadata_view job.now.metadata.now).groups (V.seen view.old)
+        (V.seen view.new) output.new) }
     ensures err { IfErr result (RefusesSome job.now) }
     ensures grows { Grows (V.seen view.old) (V.seen view.new) }
 {

@@ -58,7 +58,8 @@ pub fn has_key(rule: KeyRule, entries: &Option<Vec<KeyValue>>) -> bool
 }
 
 fn other_pairs(alloc: Global, entries: &[KeyValue]) -> Result<Vec<KeyValue>>
-    ensures ok { IfOk result (λ v. map key_view v.items ≡ filter (λ k. not (are_same k.key schema_key)) (map key_view entries.now)) }
+    ensures ok { IfOk result (λ v. map key_view v.items ≡ filter (λ k. not (are_same k.key schema_key))
+        (map key_view entries.now)) }
     ensures err { IfErr result (λ e. e ≡ Memory) }
 {
     let mut others = Vec::new(alloc);

@@ -16,7 +16,10 @@ use schema_fit::agrees;
 /// The place of the next tree with a column, from a place on.
 fn next_tree(trees: &[ParquetType], from: usize) -> Option<usize>
     requires nesting { nesting_of (trees_view trees.now) ≤ 128 }
-    ensures { MatchOption result (trees_with_columns (trees_view (drop from trees.now)) ≡ []) (λ n. (n < length trees.now) × ((t : ParquetType) → t ≡ get_or trees.now n t → trees_with_columns (trees_view (drop from trees.now)) ≡ tree_view t ∷ trees_with_columns (trees_view (drop (n + 1) trees.now)))) }
+    ensures { MatchOption result (trees_with_columns (trees_view (drop from trees.now)) ≡ [])
+        (λ n. (n < length trees.now) × ((t : ParquetType) → t ≡ get_or trees.now n t
+        → trees_with_columns (trees_view (drop from trees.now))
+        ≡ tree_view t ∷ trees_with_columns (trees_view (drop (n + 1) trees.now)))) }
 {
     for i in from..trees.len() {
         if holds_column(&trees[i]) {

@@ -37,7 +37,8 @@ fn open_chunk<'a>(
     input: &'a [u8],
 ) -> Result<PageReader<'a>>
     requires { (place : ℕ) × (l : Leaf) × (place ≤ length input.now) × IsChunkOf place chunk.now l }
-    ensures ok { (place : ℕ) (l : Leaf) → IsChunkOf place chunk.now l → IfOk result (λ r. OpensOne input.entry.now place (chunk_view chunk.now) l r.outcomes) }
+    ensures ok { (place : ℕ) (l : Leaf) → IsChunkOf place chunk.now l
+        → IfOk result (λ r. OpensOne input.entry.now place (chunk_view chunk.now) l r.outcomes) }
     ensures err { IfErr result (λ e. e ≡ Memory) }
 {
     let size = size_of(chunk);
@@ -47,7 +48,8 @@ fn open_chunk<'a>(
 /// The type of the leaf of a chunk.
 fn leaf_type(alloc: Global, chunk: &ColumnChunkMetaData) -> Result<PrimitiveType>
     requires { (l : Leaf) × (descriptor_view chunk.now ≡ Some (column_of l)) }
-    ensures ok { (l : Leaf) → descriptor_view chunk.now ≡ Some (column_of l) → IfOk result (λ t. l.physical ≡ physical_view t.physical_type) }
+    ensures ok { (l : Leaf) → descriptor_view chunk.now ≡ Some (column_of l)
+        → IfOk result (λ t. l.physical ≡ physical_view t.physical_type) }
     ensures err { IfErr result (λ e. e ≡ Memory) }
 {
     match &chunk.descriptor {
@@ -72,7 +74,9 @@ fn open_columns<'a>(
 ) -> Result<Columns<'a>>
     requires within { job.now.place ≤ length job.now.input.now }
     requires chunks { (ls : List Leaf) × AllZip (IsChunkOf job.now.place) chunks.now ls }
-    ensures ok { (ls : List Leaf) → AllZip (IsChunkOf job.now.place) chunks.now ls → IfOk result (λ k. OpensColumns job.now.input.now job.now.place (map chunk_view chunks.now) ls (map (λ r. r.outcomes) k.readers.items) k.types.items) }
+    ensures ok { (ls : List Leaf) → AllZip (IsChunkOf job.now.place) chunks.now ls
+        → IfOk result (λ k. OpensColumns job.now.input.now job.now.place (map chunk_view chunks.now) ls
+        (map (λ r. r.outcomes) k.readers.items) k.types.items) }
     ensures err { IfErr result (λ e. e ≡ Memory) }
 {
     let mut readers = Vec::new(alloc);
@@ -94,7 +98,10 @@ fn open_field<'a>(
 ) -> Result<ArrayIter<PageReader<'a>>>
     requires ready { IsReady job.now }
     requires field { (ls : List Leaf) × IsFieldOf job.now.place (field_view field.now) chunks.now ls }
-    ensures ok { (ls : List Leaf) → IsFieldOf job.now.place (field_view field.now) chunks.now ls → IfOk result (λ it. (o : Opening) × OpensField job.now.input.now job.now.place num_rows job.now.options.now.chunk_size (field_view field.now) ls (map chunk_view chunks.now) o × IsGiving o [] it) }
+    ensures ok { (ls : List Leaf) → IsFieldOf job.now.place (field_view field.now) chunks.now ls
+        → IfOk result (λ it. (o : Opening)
+        × OpensField job.now.input.now job.now.place num_rows job.now.options.now.chunk_size
+        (field_view field.now) ls (map chunk_view chunks.now) o × IsGiving o [] it) }
     ensures err { IfErr result (λ e. e ≡ Memory) }
 {
     let columns = open_columns(alloc, job, chunks)?;

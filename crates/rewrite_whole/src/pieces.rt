@@ -21,8 +21,11 @@ pub fn next_arrays<I: Pages + Drop>(
     alloc: Global,
     iters: &mut Vec<ArrayIter<I>>,
 ) -> Result<Vec<ArrayBox>>
-    ensures ok { (rows : ℕ) (n : Option ℕ) (os : List Opening) (chunks : List ArrayTrees) → IsUnderWay rows n os iters.old.items chunks → rows_in_chunks chunks < rows → IfOk result (λ arrays. TakesPiece rows n os iters.new.items chunks (all_boxed arrays.items)) }
-    ensures err { (rows : ℕ) (n : Option ℕ) (os : List Opening) (chunks : List ArrayTrees) → IsUnderWay rows n os iters.old.items chunks → rows_in_chunks chunks < rows → IfErr result (RefusesAny os) }
+    ensures ok { (rows : ℕ) (n : Option ℕ) (os : List Opening) (chunks : List ArrayTrees)
+        → IsUnderWay rows n os iters.old.items chunks → rows_in_chunks chunks < rows
+        → IfOk result (λ arrays. TakesPiece rows n os iters.new.items chunks (all_boxed arrays.items)) }
+    ensures err { (rows : ℕ) (n : Option ℕ) (os : List Opening) (chunks : List ArrayTrees)
+        → IsUnderWay rows n os iters.old.items chunks → rows_in_chunks chunks < rows → IfErr result (RefusesAny os) }
 {
     let mut arrays = Vec::new(alloc);
     for iter in iters.iter_mut() {
@@ -38,8 +41,11 @@ pub fn next_arrays<I: Pages + Drop>(
 
 /// Takes the next piece.
 pub fn next_chunk<I: Pages + Drop>(alloc: Global, iters: &mut Vec<ArrayIter<I>>) -> Result<Chunk>
-    ensures ok { (rows : ℕ) (n : Option ℕ) (os : List Opening) (chunks : List ArrayTrees) → IsUnderWay rows n os iters.old.items chunks → rows_in_chunks chunks < rows → IfOk result (λ piece. TakesPiece rows n os iters.new.items chunks piece) }
-    ensures err { (rows : ℕ) (n : Option ℕ) (os : List Opening) (chunks : List ArrayTrees) → IsUnderWay rows n os iters.old.items chunks → rows_in_chunks chunks < rows → IfErr result (RefusesAny os) }
+    ensures ok { (rows : ℕ) (n : Option ℕ) (os : List Opening) (chunks : List ArrayTrees)
+        → IsUnderWay rows n os iters.old.items chunks → rows_in_chunks chunks < rows
+        → IfOk result (λ piece. TakesPiece rows n os iters.new.items chunks piece) }
+    ensures err { (rows : ℕ) (n : Option ℕ) (os : List Opening) (chunks : List ArrayTrees)
+        → IsUnderWay rows n os iters.old.items chunks → rows_in_chunks chunks < rows → IfErr result (RefusesAny os) }
 {
     match next_arrays(alloc, iters) {
         Ok(arrays) => Chunk::try_new(arrays),
@@ -69,8 +75,11 @@ fn reason_of(item: Result<ArrayBox>) -> Error
 
 /// Finds that no field has anything left, once all rows were taken.
 pub fn expect_ends<I: Pages + Drop>(iters: &mut Vec<ArrayIter<I>>) -> Result<()>
-    ensures ok { (rows : ℕ) (n : Option ℕ) (os : List Opening) (chunks : List ArrayTrees) → IsUnderWay rows n os iters.old.items chunks → rows_in_chunks chunks ≡ rows → OnOk result (AreAssembled 0 os chunks) }
-    ensures err { (rows : ℕ) (n : Option ℕ) (os : List Opening) (chunks : List ArrayTrees) → IsUnderWay rows n os iters.old.items chunks → rows_in_chunks chunks ≡ rows → IfErr result (RefusesAny os) }
+    ensures ok { (rows : ℕ) (n : Option ℕ) (os : List Opening) (chunks : List ArrayTrees)
+        → IsUnderWay rows n os iters.old.items chunks → rows_in_chunks chunks ≡ rows
+        → OnOk result (AreAssembled 0 os chunks) }
+    ensures err { (rows : ℕ) (n : Option ℕ) (os : List Opening) (chunks : List ArrayTrees)
+        → IsUnderWay rows n os iters.old.items chunks → rows_in_chunks chunks ≡ rows → IfErr result (RefusesAny os) }
 {
     for iter in iters.iter_mut() {
         if let Some(item) = iter.next() {

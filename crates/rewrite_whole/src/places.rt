@@ -78,8 +78,10 @@ fn is_here(file_path: &Option<String>) -> bool
 
 /// Finds that a chunk is of the column, and lies between the magic bytes and the footer of this file, as it is.
 fn check_chunk(chunk: &ColumnChunkMetaData, column: &Descriptor, place: usize) -> Result<()>
-    ensures ok { (l : Leaf) → column_view column.now ≡ column_of l → OnOk result (ChunkIsPlaced place (chunk_view chunk.now) l) }
-    ensures err { (l : Leaf) → column_view column.now ≡ column_of l → IfErr result (RefusesChunk place (chunk_view chunk.now) l) }
+    ensures ok { (l : Leaf) → column_view column.now ≡ column_of l
+        → OnOk result (ChunkIsPlaced place (chunk_view chunk.now) l) }
+    ensures err { (l : Leaf) → column_view column.now ≡ column_of l
+        → IfErr result (RefusesChunk place (chunk_view chunk.now) l) }
 {
     if chunk.physical_type != number_of(column.primitive_type.physical_type) {
         return Err(Error::OutOfSpec(S::S2));
@@ -98,8 +100,10 @@ fn check_chunk(chunk: &ColumnChunkMetaData, column: &Descriptor, place: usize) -
 
 /// Finds the same of the chunks of a group, one for each column.
 fn check_group(group: &RowGroupMetaData, columns: &[Descriptor], place: usize) -> Result<()>
-    ensures ok { (ls : List Leaf) → map column_view columns.now ≡ map column_of ls → OnOk result (GroupIsPlaced place ls (group_view group.now)) }
-    ensures err { (ls : List Leaf) → map column_view columns.now ≡ map column_of ls → IfErr result (RefusesPlaces place ls (group_view group.now)) }
+    ensures ok { (ls : List Leaf) → map column_view columns.now ≡ map column_of ls
+        → OnOk result (GroupIsPlaced place ls (group_view group.now)) }
+    ensures err { (ls : List Leaf) → map column_view columns.now ≡ map column_of ls
+        → IfErr result (RefusesPlaces place ls (group_view group.now)) }
 {
     if group.num_rows < 0 {
         return Err(Error::OutOfSpec(S::S2));
@@ -117,7 +121,8 @@ fn check_group(group: &RowGroupMetaData, columns: &[Descriptor], place: usize) -
 
 /// Finds that each chunk is the leaf's at its place, and lies between the magic bytes and the footer.
 pub fn check_groups(metadata: &FileMetaData, place: usize) -> Result<()>
-    ensures ok { OnOk result (All (GroupIsPlaced place (columns_of (metadata_view metadata.now).schema)) (metadata_view metadata.now).groups) }
+    ensures ok { OnOk result (All (GroupIsPlaced place (columns_of (metadata_view metadata.now).schema))
+        (metadata_view metadata.now).groups) }
     ensures err { IfErr result (RefusesStage5 place (metadata_view metadata.now)) }
 {
     let columns = metadata.schema_descr.columns();

@@ -61,7 +61,8 @@ fn is_leaf(data_type: &DataType) -> bool
 
 /// The encoding of a leaf of a field of the type: where deltas are wanted and the leaf is the field's own the one that its type allows, else PLAIN.
 fn encoding_of(data_type: &DataType, physical_type: PhysicalType, wants_deltas: bool) -> Encoding
-    ensures { result ≡ encoding_name (cond (wants_deltas && is_leaf (base (type_view data_type.now))) (delta_of (leaf_type (type_view data_type.now)) (physical_view physical_type)) plain) }
+    ensures { result ≡ encoding_name (cond (wants_deltas && is_leaf (base (type_view data_type.now)))
+        (delta_of (leaf_type (type_view data_type.now)) (physical_view physical_type)) plain) }
 {
     if !wants_deltas {
         return Encoding::Plain;
@@ -82,7 +83,8 @@ fn push_encodings(
     wants_deltas: bool,
 ) -> Result<()>
     requires { nesting (tree_view node.now) ≤ 128 }
-    ensures ok { OnOk result (encodings.new.items ≡ encodings.old.items ++ names_of wants_deltas (type_view data_type.now) (leaves (tree_view node.now))) }
+    ensures ok { OnOk result (encodings.new.items ≡ encodings.old.items
+        ++ names_of wants_deltas (type_view data_type.now) (leaves (tree_view node.now))) }
     ensures err { IfErr result (λ e. e ≡ Memory) }
 {
     match node {
@@ -105,7 +107,8 @@ fn push_all_encodings(
     wants_deltas: bool,
 ) -> Result<()>
     requires { nesting_of (trees_view nodes.now.items) ≤ 128 }
-    ensures ok { OnOk result (encodings.new.items ≡ encodings.old.items ++ names_of wants_deltas (type_view data_type.now) (leaves_of (trees_view nodes.now.items))) }
+    ensures ok { OnOk result (encodings.new.items ≡ encodings.old.items
+        ++ names_of wants_deltas (type_view data_type.now) (leaves_of (trees_view nodes.now.items))) }
     ensures err { IfErr result (λ e. e ≡ Memory) }
 {
     for node in nodes {
@@ -122,7 +125,8 @@ fn encodings_in(
     wants_deltas: bool,
 ) -> Result<Vec<Encoding>>
     requires { nesting (tree_view node.now) ≤ 128 }
-    ensures ok { IfOk result (λ v. v.items ≡ names_of wants_deltas (type_view data_type.now) (leaves (tree_view node.now))) }
+    ensures ok { IfOk result (λ v. v.items ≡ names_of wants_deltas (type_view data_type.now)
+        (leaves (tree_view node.now))) }
     ensures err { IfErr result (λ e. e ≡ Memory) }
 {
     let mut encodings = Vec::new(alloc);
@@ -168,8 +172,10 @@ fn have_rows(fields: &Vec<Field>, trees: &[ParquetType]) -> bool
 /// The tree that a schema is written as, where all of it is served.
 fn tree_to_write(alloc: Global, schema: &Schema) -> Result<SchemaDescriptor>
     requires { fields_nesting (schema_view schema.now).fields ≤ 128 }
-    ensures ok { IfOk result (λ s. (tree_schema s ≡ schema_of (schema_view schema.now).fields) × AreWritten (schema_view schema.now).fields) }
-    ensures held { OnOk result (HaveRows (schema_view schema.now).fields × (are_served_fields (schema_view schema.now).fields ≡ true)) }
+    ensures ok { IfOk result (λ s. (tree_schema s ≡ schema_of (schema_view schema.now).fields)
+        × AreWritten (schema_view schema.now).fields) }
+    ensures held { OnOk result (HaveRows (schema_view schema.now).fields
+        × (are_served_fields (schema_view schema.now).fields ≡ true)) }
     ensures err { IfErr result (λ e. (e ≡ Memory) ⊎ RefusesTree (schema_view schema.now).fields e) }
 {
     let tree = match to_parquet_schema(alloc, schema) {
@@ -212,8 +218,10 @@ pub fn plan_schema<C: SchemaCodec>(
     wants_deltas: bool,
     codec: &C,
 ) -> Result<Plan>
-    ensures ok { IfOk result (IsPlan (codec_of (C.bytes_of codec.now) (C.reads codec.now)) rule wants_deltas (metadata_view metadata.now)) }
-    ensures refused { IfErr result (λ e. (e ≡ Memory) ⊎ RefusesSchema6 (codec_of (C.bytes_of codec.now) (C.reads codec.now)) rule (metadata_view metadata.now) e) }
+    ensures ok { IfOk result (IsPlan (codec_of (C.bytes_of codec.now) (C.reads codec.now)) rule wants_deltas
+        (metadata_view metadata.now)) }
+    ensures refused { IfErr result (λ e. (e ≡ Memory) ⊎ RefusesSchema6
+        (codec_of (C.bytes_of codec.now) (C.reads codec.now)) rule (metadata_view metadata.now) e) }
 {
     settled_schemas_fit();
     let schema = match infer_schema(alloc, metadata, rule, codec) {

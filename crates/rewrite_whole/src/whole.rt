@@ -27,8 +27,10 @@ pub fn convert<C: SchemaCodec, V: View>(
     view: &mut V,
 ) -> Result<(PieceSink, Report)>
     requires rows { options.now.chunk_size ≢ Some 0 }
-    ensures ok { IfOk result (λ made. Gives (codec_of (C.bytes_of codec.now) (C.reads codec.now)) (asked_by options.now) (V.seen view.old) (V.seen view.new) input.now (pieces_taken made.0) made.1) }
-    ensures err { IfErr result (Says (codec_of (C.bytes_of codec.now) (C.reads codec.now)) (asked_by options.now) input.now) }
+    ensures ok { IfOk result (λ made. Gives (codec_of (C.bytes_of codec.now) (C.reads codec.now)) (asked_by options.now)
+        (V.seen view.old) (V.seen view.new) input.now (pieces_taken made.0) made.1) }
+    ensures err { IfErr result (Says (codec_of (C.bytes_of codec.now) (C.reads codec.now))
+        (asked_by options.now) input.now) }
     ensures grows { Grows (V.seen view.old) (V.seen view.new) }
 {
     frames_are_told();

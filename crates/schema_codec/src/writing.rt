@@ -138,7 +138,8 @@ fn push_timestamp(
     unit: TimeUnit,
     zone: &Option<String>,
 ) -> Result<(), AllocError>
-    ensures { OnOk result (out.new.items ≡ out.old.items ++ unit_number unit ∷ optional_text_bytes (option_map string_bytes zone.now)) }
+    ensures { OnOk result (out.new.items ≡ out.old.items ++ unit_number unit
+        ∷ optional_text_bytes (option_map string_bytes zone.now)) }
 {
     push_unit(out, unit)?;
     push_optional_text(out, zone)
@@ -202,7 +203,8 @@ fn push_field(out: &mut Vec<u8>, field: &Field) -> Result<(), AllocError>
 /// The count of the fields, and the fields.
 #[cycle(write)]
 fn push_fields(out: &mut Vec<u8>, fields: &Vec<Field>) -> Result<(), AllocError>
-    ensures { OnOk result (out.new.items ≡ out.old.items ++ (count_bytes (count (fields_view fields.now.items)) ++ fields_bytes (fields_view fields.now.items))) }
+    ensures { OnOk result (out.new.items ≡ out.old.items
+        ++ (count_bytes (count (fields_view fields.now.items)) ++ fields_bytes (fields_view fields.now.items))) }
 {
     push_count(out, fields.len())?;
     for field in fields {

@@ -76,9 +76,20 @@ impl<W: Sink + Drop> SchemaFile<W> {
 
     // Adds a group whose columns are as many as the schema's leaves.
     fn put_columns<P: ChunkPages>(&mut self, columns: &mut [P], rows: u64) -> Result<()>
-        ensures ok { (before : Option (List ℕ)) (version : PageVersion) (groups : List OutGroup) (g : OutGroup) → IsOpen W.taken before version groups self.old → AllGive P.begins version (columns_of (schema_of (fields_in self.old))) g.chunks columns.old → HasRows g → g.rows ≡ rows → OnOk result (IsOpen W.taken before version (groups ++ g ∷ []) self.new) }
+        ensures ok { (before : Option (List ℕ)) (version : PageVersion) (groups : List OutGroup) (g : OutGroup)
+            → IsOpen W.taken before version groups self.old → AllGive P.begins version
+            (columns_of (schema_of (fields_in self.old))) g.chunks columns.old → HasRows g → g.rows ≡ rows
+            → OnOk result (IsOpen W.taken before version (groups ++ g ∷ []) self.new) }
         ensures kept { (self.new.schema ≡ self.old.schema) × (self.new.refusal ≡ self.old.refusal) }
-        ensures refused { (before : Option (List ℕ)) (version : PageVersion) (groups : List OutGroup) (g : OutGroup) → IsOpen W.taken before version groups self.old → AllGive P.begins version (columns_of (schema_of (fields_in self.old))) g.chunks columns.old → g.rows ≡ rows → IfErr result (λ e. (e ≡ Memory) ⊎ ((e ≡ WriteFault) × (Rose (W.faults self.old.body.writer) (W.faults self.new.body.writer) ⊎ SomeRefuses P.refuses columns.old WriteFault)) ⊎ ((e ≡ Overflow V3) × GroupPasses version (columns_of (schema_of (fields_in self.old))) groups g) ⊎ SomeRefuses P.refuses columns.old e) }
+        ensures refused { (before : Option (List ℕ)) (version : PageVersion) (groups : List OutGroup) (g : OutGroup)
+            → IsOpen W.taken before version groups self.old → AllGive P.begins version
+            (columns_of (schema_of (fields_in self.old))) g.chunks columns.old → g.rows ≡ rows
+            → IfErr result (λ e. (e ≡ Memory) ⊎ ((e ≡ WriteFault)
+            ×
+            (Rose (W.faults self.old.body.writer) (W.faults self.new.body.writer)
+            ⊎ SomeRefuses P.refuses columns.old WriteFault))
+            ⊎ ((e ≡ Overflow V3) × GroupPasses version (columns_of (schema_of (fields_in self.old))) groups g)
+            ⊎ SomeRefuses P.refuses columns.old e) }
         ensures later { W.faults self.old.body.writer ≤ W.faults self.new.body.writer }
     {
         if !are_so_many(&self.body.leaves, columns.len()) {
@@ -101,9 +112,20 @@ impl<W: Sink + Drop> SchemaFile<W> {
     /// - `Overflow(V3)`: the rows of the file, the level pairs of a column or the bytes of the pages pass 2^63 - 1.
     /// - Those of the pages.
     pub fn put<P: ChunkPages>(&mut self, columns: &mut [P], rows: u64) -> Result<()>
-        ensures ok { (before : Option (List ℕ)) (version : PageVersion) (groups : List OutGroup) (g : OutGroup) → IsOpen W.taken before version groups self.old → AllGive P.begins version (columns_of (schema_of (fields_in self.old))) g.chunks columns.old → HasRows g → g.rows ≡ rows → OnOk result (IsOpen W.taken before version (groups ++ g ∷ []) self.new) }
+        ensures ok { (before : Option (List ℕ)) (version : PageVersion) (groups : List OutGroup) (g : OutGroup)
+            → IsOpen W.taken before version groups self.old → AllGive P.begins version
+            (columns_of (schema_of (fields_in self.old))) g.chunks columns.old → HasRows g → g.rows ≡ rows
+            → OnOk result (IsOpen W.taken before version (groups ++ g ∷ []) self.new) }
         ensures schema { self.new.schema ≡ self.old.schema }
-        ensures refused { (before : Option (List ℕ)) (version : PageVersion) (groups : List OutGroup) (g : OutGroup) → IsOpen W.taken before version groups self.old → AllGive P.begins version (columns_of (schema_of (fields_in self.old))) g.chunks columns.old → g.rows ≡ rows → IfErr result (λ e. (e ≡ Memory) ⊎ ((e ≡ WriteFault) × (Rose (W.faults self.old.body.writer) (W.faults self.new.body.writer) ⊎ SomeRefuses P.refuses columns.old WriteFault)) ⊎ ((e ≡ Overflow V3) × GroupPasses version (columns_of (schema_of (fields_in self.old))) groups g) ⊎ SomeRefuses P.refuses columns.old e) }
+        ensures refused { (before : Option (List ℕ)) (version : PageVersion) (groups : List OutGroup) (g : OutGroup)
+            → IsOpen W.taken before version groups self.old → AllGive P.begins version
+            (columns_of (schema_of (fields_in self.old))) g.chunks columns.old → g.rows ≡ rows
+            → IfErr result (λ e. (e ≡ Memory) ⊎ ((e ≡ WriteFault)
+            ×
+            (Rose (W.faults self.old.body.writer) (W.faults self.new.body.writer)
+            ⊎ SomeRefuses P.refuses columns.old WriteFault))
+            ⊎ ((e ≡ Overflow V3) × GroupPasses version (columns_of (schema_of (fields_in self.old))) groups g)
+            ⊎ SomeRefuses P.refuses columns.old e) }
         ensures again { (e : Fault) → self.old.refusal ≡ Some e → (result ≡ Err e) × (self.new ≡ self.old) }
         ensures stays { IfErr result (λ e. self.new.refusal ≡ Some e) }
         ensures later { W.faults self.old.body.writer ≤ W.faults self.new.body.writer }
@@ -122,9 +144,19 @@ impl<W: Sink + Drop> SchemaFile<W> {
 
     // Writes the footer.
     fn put_footer<C: SchemaCodec>(&mut self, keys: Option<Vec<KeyValue>>, codec: &C) -> Result<u64>
-        ensures ok { IfOk result (λ size. (before : Option (List ℕ)) (version : PageVersion) (groups : List OutGroup) → IsOpen W.taken before version groups self.old → HasFileStating before (W.taken self.new.body.writer) (schema_of (fields_in self.old)) (keys_in keys ++ schema_entry (C.bytes_of codec.now (schema_view self.old.schema)) ∷ []) version groups size (footer_view self.new.body.metadata)) }
+        ensures ok { IfOk result (λ size. (before : Option (List ℕ)) (version : PageVersion) (groups : List OutGroup)
+            → IsOpen W.taken before version groups self.old → HasFileStating before (W.taken self.new.body.writer)
+            (schema_of (fields_in self.old)) (keys_in keys ++ schema_entry
+            (C.bytes_of codec.now (schema_view self.old.schema)) ∷ []) version groups size
+            (footer_view self.new.body.metadata)) }
         ensures kept { (self.new.schema ≡ self.old.schema) × (self.new.refusal ≡ self.old.refusal) }
-        ensures refused { IfErr result (λ e. (before : Option (List ℕ)) (version : PageVersion) (groups : List OutGroup) → IsOpen W.taken before version groups self.old → (e ≡ Memory) ⊎ ((e ≡ WriteFault) × Rose (W.faults self.old.body.writer) (W.faults self.new.body.writer)) ⊎ ((e ≡ Overflow V3) × ((max_size < length (C.bytes_of codec.now (schema_view self.old.schema))) ⊎ (max_size < footer_room (planned_footer (schema_of (fields_in self.old)) (keys_in keys ++ schema_entry (C.bytes_of codec.now (schema_view self.old.schema)) ∷ []) groups))))) }
+        ensures refused { IfErr result (λ e. (before : Option (List ℕ)) (version : PageVersion) (groups : List OutGroup)
+            → IsOpen W.taken before version groups self.old → (e ≡ Memory)
+            ⊎ ((e ≡ WriteFault) × Rose (W.faults self.old.body.writer) (W.faults self.new.body.writer))
+            ⊎ ((e ≡ Overflow V3) × ((max_size < length (C.bytes_of codec.now (schema_view self.old.schema)))
+            ⊎
+            (max_size < footer_room (planned_footer (schema_of (fields_in self.old))
+            (keys_in keys ++ schema_entry (C.bytes_of codec.now (schema_view self.old.schema)) ∷ []) groups))))) }
         ensures later { W.faults self.old.body.writer ≤ W.faults self.new.body.writer }
     {
         let alloc = *self.body.leaves.physicals.allocator();
@@ -148,9 +180,19 @@ impl<W: Sink + Drop> SchemaFile<W> {
     /// - `WriteFault`: the sink failed. `Memory`: memory ran out.
     /// - `Overflow(V3)`: the bytes of the schema or the footer's room pass 2^31 - 1.
     pub fn end<C: SchemaCodec>(&mut self, keys: Option<Vec<KeyValue>>, codec: &C) -> Result<u64>
-        ensures ok { IfOk result (λ size. (before : Option (List ℕ)) (version : PageVersion) (groups : List OutGroup) → IsOpen W.taken before version groups self.old → HasFileStating before (W.taken self.new.body.writer) (schema_of (fields_in self.old)) (keys_in keys ++ schema_entry (C.bytes_of codec.now (schema_view self.old.schema)) ∷ []) version groups size (footer_view self.new.body.metadata)) }
+        ensures ok { IfOk result (λ size. (before : Option (List ℕ)) (version : PageVersion) (groups : List OutGroup)
+            → IsOpen W.taken before version groups self.old → HasFileStating before (W.taken self.new.body.writer)
+            (schema_of (fields_in self.old)) (keys_in keys ++ schema_entry
+            (C.bytes_of codec.now (schema_view self.old.schema)) ∷ []) version groups size
+            (footer_view self.new.body.metadata)) }
         ensures schema { self.new.schema ≡ self.old.schema }
-        ensures refused { IfErr result (λ e. (before : Option (List ℕ)) (version : PageVersion) (groups : List OutGroup) → IsOpen W.taken before version groups self.old → (e ≡ Memory) ⊎ ((e ≡ WriteFault) × Rose (W.faults self.old.body.writer) (W.faults self.new.body.writer)) ⊎ ((e ≡ Overflow V3) × ((max_size < length (C.bytes_of codec.now (schema_view self.old.schema))) ⊎ (max_size < footer_room (planned_footer (schema_of (fields_in self.old)) (keys_in keys ++ schema_entry (C.bytes_of codec.now (schema_view self.old.schema)) ∷ []) groups))))) }
+        ensures refused { IfErr result (λ e. (before : Option (List ℕ)) (version : PageVersion) (groups : List OutGroup)
+            → IsOpen W.taken before version groups self.old → (e ≡ Memory)
+            ⊎ ((e ≡ WriteFault) × Rose (W.faults self.old.body.writer) (W.faults self.new.body.writer))
+            ⊎ ((e ≡ Overflow V3) × ((max_size < length (C.bytes_of codec.now (schema_view self.old.schema)))
+            ⊎
+            (max_size < footer_room (planned_footer (schema_of (fields_in self.old))
+            (keys_in keys ++ schema_entry (C.bytes_of codec.now (schema_view self.old.schema)) ∷ []) groups))))) }
         ensures again { (e : Fault) → self.old.refusal ≡ Some e → (result ≡ Err e) × (self.new ≡ self.old) }
         ensures stays { IfErr result (λ e. self.new.refusal ≡ Some e) }
         ensures ended { IfOk result (λ _. self.new.refusal ≡ Some (InvalidArgumentError A8)) }

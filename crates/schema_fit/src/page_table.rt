@@ -238,7 +238,8 @@ pub fn goes_together(
     data_type: &DataType,
     leaf: &PrimitiveType,
 ) -> bool
-    ensures { result ≡ go_together asked (record { data_type = type_view data_type.now; is_nullable = is_nullable }) (leaf_view leaf.now) }
+    ensures { result ≡ go_together asked (record { data_type = type_view data_type.now; is_nullable = is_nullable })
+        (leaf_view leaf.now) }
 {
     let Some(row) = row_of_leaf(is_nullable, data_type) else {
         return matches!(asked, Asked::Agreement);

@@ -62,7 +62,8 @@ fn repetition(node: &ParquetType) -> Repetition
 
 fn give_once<'a>(found: Found<'a>, path: &mut [usize]) -> Option<Found<'a>>
     requires { 0 < length path.old }
-    ensures next { Steps result (once (next_at path.old) (bone (found_bone found.entry) no_bones)) (once (next_at path.new) (bone (found_bone found.entry) no_bones)) }
+    ensures next { Steps result (once (next_at path.old) (bone (found_bone found.entry) no_bones))
+        (once (next_at path.new) (bone (found_bone found.entry) no_bones)) }
     ensures same { IfSome result (λ b. b ≡ found.entry) }
 {
     if path[0] > 0 {
@@ -127,7 +128,8 @@ fn next_of_node<'a>(node: &'a ParquetType, path: &mut [usize]) -> Option<Found<'
 fn next_beneath<'a>(node: &'a ParquetType, path: &mut [usize]) -> Option<Found<'a>>
     requires { nesting (tree_view node.now) < length path.old }
     ensures at { next_at path.new ≡ next_at path.old }
-    ensures next { Steps result (rest_of (tree_view node.now) (beneath path.old)) (rest_of (tree_view node.now) (beneath path.new)) }
+    ensures next { Steps result (rest_of (tree_view node.now) (beneath path.old))
+        (rest_of (tree_view node.now) (beneath path.new)) }
     ensures shallow { IfSome result (λ b. found_nesting b ≤ nesting (tree_view node.now)) }
 {
     next_of_node(node, &mut path[1..])
@@ -137,7 +139,8 @@ fn next_beneath<'a>(node: &'a ParquetType, path: &mut [usize]) -> Option<Found<'
 #[cycle(places)]
 fn next_of_nodes<'a>(nodes: &'a [ParquetType], path: &mut [usize]) -> Option<Found<'a>>
     requires { nesting_of (trees_view nodes.now) < length path.old }
-    ensures next { Steps result (rest_in (trees_view nodes.now) (next_at path.old) (beneath path.old)) (rest_in (trees_view nodes.now) (next_at path.new) (beneath path.new)) }
+    ensures next { Steps result (rest_in (trees_view nodes.now) (next_at path.old) (beneath path.old))
+        (rest_in (trees_view nodes.now) (next_at path.new) (beneath path.new)) }
     ensures shallow { IfSome result (λ b. found_nesting b ≤ nesting_of (trees_view nodes.now)) }
 {
     'nodes: loop {
@@ -155,7 +158,8 @@ fn next_of_nodes<'a>(nodes: &'a [ParquetType], path: &mut [usize]) -> Option<Fou
 /// The next part of the source.
 pub fn next<'a>(source: Source<'a>, path: &mut [usize]) -> Option<Found<'a>>
     requires { nesting (tree_view source.node.now) ≤ length path.old }
-    ensures next { Steps result (rest_from source.entry.is_inside (tree_view source.entry.node.now) path.old) (rest_from source.entry.is_inside (tree_view source.entry.node.now) path.new) }
+    ensures next { Steps result (rest_from source.entry.is_inside (tree_view source.entry.node.now) path.old)
+        (rest_from source.entry.is_inside (tree_view source.entry.node.now) path.new) }
     ensures shallow { IfSome result (λ b. found_nesting b ≤ nesting (tree_view source.entry.node.now)) }
 {
     if source.is_inside {

@@ -59,7 +59,9 @@ fn hold_leaf(fields: &[Field]) -> bool
 fn eat_field(asked: Asked, field: &Field, source: Source<'_>, path: &mut [usize]) -> bool
     requires deep { nesting (tree_view source.node.now) ≤ 128 }
     requires room { length path.old ≡ 128 }
-    ensures { Eats (go_together asked) result (field_bones (field_view field.now)) (rest_from source.entry.is_inside (tree_view source.entry.node.now) path.old) (rest_from source.entry.is_inside (tree_view source.entry.node.now) path.new) }
+    ensures { Eats (go_together asked) result (field_bones (field_view field.now))
+        (rest_from source.entry.is_inside (tree_view source.entry.node.now) path.old)
+        (rest_from source.entry.is_inside (tree_view source.entry.node.now) path.new) }
 {
     if !field.is_nullable {
         return eat_type(asked, false, &field.data_type, source, path);
@@ -88,7 +90,9 @@ fn eat_type(
 ) -> bool
     requires deep { nesting (tree_view source.node.now) ≤ 128 }
     requires room { length path.old ≡ 128 }
-    ensures { Eats (go_together asked) result (type_bones is_nullable (type_view data_type.now)) (rest_from source.entry.is_inside (tree_view source.entry.node.now) path.old) (rest_from source.entry.is_inside (tree_view source.entry.node.now) path.new) }
+    ensures { Eats (go_together asked) result (type_bones is_nullable (type_view data_type.now))
+        (rest_from source.entry.is_inside (tree_view source.entry.node.now) path.old)
+        (rest_from source.entry.is_inside (tree_view source.entry.node.now) path.new) }
 {
     match data_type {
         DataType::List(item) | DataType::LargeList(item) => eat_items(asked, item, source, path),
@@ -104,7 +108,9 @@ fn eat_type(
 fn eat_items(asked: Asked, item: &Field, source: Source<'_>, path: &mut [usize]) -> bool
     requires deep { nesting (tree_view source.node.now) ≤ 128 }
     requires room { length path.old ≡ 128 }
-    ensures { Eats (go_together asked) result (under repeated (field_bones (field_view item.now))) (rest_from source.entry.is_inside (tree_view source.entry.node.now) path.old) (rest_from source.entry.is_inside (tree_view source.entry.node.now) path.new) }
+    ensures { Eats (go_together asked) result (under repeated (field_bones (field_view item.now)))
+        (rest_from source.entry.is_inside (tree_view source.entry.node.now) path.old)
+        (rest_from source.entry.is_inside (tree_view source.entry.node.now) path.new) }
 {
     if !field_holds_leaf(item) {
         return true;
@@ -124,7 +130,9 @@ fn eat_items(asked: Asked, item: &Field, source: Source<'_>, path: &mut [usize])
 fn eat_fields(asked: Asked, fields: &[Field], source: Source<'_>, path: &mut [usize]) -> bool
     requires deep { nesting (tree_view source.node.now) ≤ 128 }
     requires room { length path.old ≡ 128 }
-    ensures { Eats (go_together asked) result (fields_bones (fields_view fields.now)) (rest_from source.entry.is_inside (tree_view source.entry.node.now) path.old) (rest_from source.entry.is_inside (tree_view source.entry.node.now) path.new) }
+    ensures { Eats (go_together asked) result (fields_bones (fields_view fields.now))
+        (rest_from source.entry.is_inside (tree_view source.entry.node.now) path.old)
+        (rest_from source.entry.is_inside (tree_view source.entry.node.now) path.new) }
 {
     for field in fields {
         if !eat_field(asked, field, source, path) {
@@ -144,7 +152,9 @@ fn eat_leaf(
 ) -> bool
     requires deep { nesting (tree_view source.node.now) ≤ 128 }
     requires room { length path.old ≡ 128 }
-    ensures { Eats (go_together asked) result (leaf_alone is_nullable (type_view data_type.now)) (rest_from source.entry.is_inside (tree_view source.entry.node.now) path.old) (rest_from source.entry.is_inside (tree_view source.entry.node.now) path.new) }
+    ensures { Eats (go_together asked) result (leaf_alone is_nullable (type_view data_type.now))
+        (rest_from source.entry.is_inside (tree_view source.entry.node.now) path.old)
+        (rest_from source.entry.is_inside (tree_view source.entry.node.now) path.new) }
 {
     let Some(found) = next(source, path) else {
         return false;
@@ -160,7 +170,8 @@ fn eat_leaf(
 #[cycle(walk)]
 fn is_type_inside(asked: Asked, is_nullable: bool, data_type: &DataType, node: &ParquetType) -> bool
     requires { nesting (tree_view node.now) ≤ 128 }
-    ensures { result ≡ same_bones (go_together asked) (type_bones is_nullable (type_view data_type.now)) (inner_bones (tree_view node.now)) }
+    ensures { result ≡ same_bones (go_together asked) (type_bones is_nullable (type_view data_type.now))
+        (inner_bones (tree_view node.now)) }
 {
     let mut path = [0; MAX_NESTING];
     let source = Source {
@@ -177,7 +188,8 @@ fn is_type_inside(asked: Asked, is_nullable: bool, data_type: &DataType, node: &
 #[cycle(walk)]
 fn is_field_inside(asked: Asked, field: &Field, node: &ParquetType) -> bool
     requires { nesting (tree_view node.now) ≤ 128 }
-    ensures { result ≡ same_bones (go_together asked) (field_bones (field_view field.now)) (inner_bones (tree_view node.now)) }
+    ensures { result ≡ same_bones (go_together asked) (field_bones (field_view field.now))
+        (inner_bones (tree_view node.now)) }
 {
     let mut path = [0; MAX_NESTING];
     let source = Source {

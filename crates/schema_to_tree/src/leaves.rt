@@ -59,7 +59,8 @@ pub fn transverse<T: Drop, F: Fn(&DataType) -> T + Drop>(
 ) -> Result<Vec<T>>
     requires depth { nesting (type_view data_type.now) ≤ 128 }
     requires taken { TakesEach F.Fn map (leaf_types (type_view data_type.now)) }
-    ensures ok { IfOk result (λ v. AnswersEach F.Fn map (leaf_types (type_view data_type.now)) v.items × HasLeaves (type_view data_type.now)) }
+    ensures ok { IfOk result (λ v. AnswersEach F.Fn map (leaf_types (type_view data_type.now)) v.items
+        × HasLeaves (type_view data_type.now)) }
     ensures err { IfErr result (λ e. RefusesLeaves (type_view data_type.now) e) }
     ensures first { IfErr result (IsFirst (way_fault (type_view data_type.now))) }
 {
@@ -79,7 +80,8 @@ fn push_leaves<'a>(
     leaves: &mut Vec<&'a DataType>,
 ) -> Result<()>
     requires { nesting (type_view data_type.now) ≤ 128 }
-    ensures { Pushes (shown leaves.old.items) (shown leaves.new.items) (leaves_as (type_view outer.now) (type_view data_type.now)) (way_fault (type_view data_type.now)) result }
+    ensures { Pushes (shown leaves.old.items) (shown leaves.new.items)
+        (leaves_as (type_view outer.now) (type_view data_type.now)) (way_fault (type_view data_type.now)) result }
 {
     match data_type {
         DataType::List(item) | DataType::LargeList(item) | DataType::FixedSizeList(item, _) => {
@@ -101,7 +103,8 @@ fn push_leaves<'a>(
 #[cycle(push)]
 fn push_leaves_of<'a>(fields: &'a Vec<Field>, leaves: &mut Vec<&'a DataType>) -> Result<()>
     requires { fields_nesting (fields_view fields.now.items) ≤ 128 }
-    ensures { Pushes (shown leaves.old.items) (shown leaves.new.items) (fields_leaf_types (fields_view fields.now.items)) (fields_way_fault (fields_view fields.now.items)) result }
+    ensures { Pushes (shown leaves.old.items) (shown leaves.new.items)
+        (fields_leaf_types (fields_view fields.now.items)) (fields_way_fault (fields_view fields.now.items)) result }
 {
     for field in fields {
         push_leaves(&field.data_type, &field.data_type, leaves)?;
@@ -115,7 +118,8 @@ fn push_leaf<'a>(
     leaves: &mut Vec<&'a DataType>,
 ) -> Result<()>
     requires { is_branch (type_view data_type.now) ≡ false }
-    ensures { Pushes (shown leaves.old.items) (shown leaves.new.items) (leaves_as (type_view outer.now) (type_view data_type.now)) (way_fault (type_view data_type.now)) result }
+    ensures { Pushes (shown leaves.old.items) (shown leaves.new.items)
+        (leaves_as (type_view outer.now) (type_view data_type.now)) (way_fault (type_view data_type.now)) result }
 {
     leaves.push(outer)?;
     Ok(())

@@ -44,7 +44,8 @@ pub fn over(
     middle: &str,
     part: ParquetType,
 ) -> Result<ParquetType, AllocError>
-    ensures { IfOk result (λ p. tree_view p ≡ over (info_view field_info None None) (converted_view converted_type) (logical_view logical_type) middle.now (tree_view part)) }
+    ensures { IfOk result (λ p. tree_view p ≡ over (info_view field_info None None) (converted_view converted_type)
+        (logical_view logical_type) middle.now (tree_view part)) }
 {
     let mut parts = Vec::with_capacity(alloc, 1)?;
     parts.push(part)?;

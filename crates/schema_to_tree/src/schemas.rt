@@ -17,7 +17,8 @@ use std::alloc::Global;
 /// The trees of a schema's fields, in order, under the root `root` (Parquet format, "Metadata"). Each field is refused as by
 /// `to_parquet_type`, but A6 goes before N5 over all fields, and N7 counts the tree from its root.
 pub fn to_parquet_schema(alloc: Global, schema: &Schema) -> Result<SchemaDescriptor>
-    ensures ok { IfOk result (λ s. (trees.schema_view s ≡ schema_of (schema_view schema.now).fields) × AreWritten (schema_view schema.now).fields) }
+    ensures ok { IfOk result (λ s. (trees.schema_view s ≡ schema_of (schema_view schema.now).fields)
+        × AreWritten (schema_view schema.now).fields) }
     ensures err { IfErr result (RefusesSchema (schema_view schema.now).fields) }
     ensures first { IfErr result (IsFirst (schema_refusal (schema_view schema.now).fields)) }
 {

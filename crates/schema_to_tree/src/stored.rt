@@ -41,7 +41,8 @@ fn whole(
     converted_type: ConvertedType,
     integer: IntegerType,
 ) -> StoredAs
-    ensures { stored_view result ≡ table.stored (physical_view physical_type) (Some (converted_view converted_type)) (Some (integer_view integer)) }
+    ensures { stored_view result ≡ table.stored (physical_view physical_type) (Some (converted_view converted_type))
+        (Some (integer_view integer)) }
 {
     StoredAs {
         physical_type,
@@ -125,7 +126,8 @@ fn time(
     converted_type: Option<ConvertedType>,
     unit: ParquetUnit,
 ) -> StoredAs
-    ensures { stored_view result ≡ table.stored (physical_view physical_type) (option_map converted_view converted_type) (Some (Logical.time false (unit_view unit))) }
+    ensures { stored_view result ≡ table.stored (physical_view physical_type) (option_map converted_view converted_type)
+        (Some (Logical.time false (unit_view unit))) }
 {
     StoredAs {
         physical_type,
@@ -167,7 +169,8 @@ fn time64(unit: TimeUnit) -> Result<StoredAs>
 
 /// Bytes of a fixed number, which a file counts in 31 bits.
 fn fixed(size: usize) -> Result<StoredAs>
-    ensures { Gives stored_view (table.stored_as (t_fixed_size_binary size)) (leaf_fault (t_fixed_size_binary size)) result }
+    ensures { Gives stored_view (table.stored_as (t_fixed_size_binary size))
+        (leaf_fault (t_fixed_size_binary size)) result }
 {
     if size == 0 || size >= 1 << 31 {
         return Err(UNWRITTEN);
@@ -190,7 +193,8 @@ fn decimal_physical(precision: usize) -> PhysicalType
 }
 
 fn decimal(precision: usize, scale: usize) -> Result<StoredAs>
-    ensures { Gives stored_view (table.stored_as (t_decimal precision scale)) (leaf_fault (t_decimal precision scale)) result }
+    ensures { Gives stored_view (table.stored_as (t_decimal precision scale))
+        (leaf_fault (t_decimal precision scale)) result }
 {
     if precision < 1 || precision > 38 || scale > precision {
         return Err(Error::InvalidArgumentError(A::A5));
@@ -206,7 +210,8 @@ fn decimal(precision: usize, scale: usize) -> Result<StoredAs>
 /// milliseconds, N5 for a type that is not written.
 pub fn stored_as(data_type: &DataType) -> Result<StoredAs>
     requires { table.is_compound (type_view data_type.now) ≡ false }
-    ensures { Gives stored_view (table.stored_as (type_view data_type.now)) (leaf_fault (type_view data_type.now)) result }
+    ensures { Gives stored_view (table.stored_as (type_view data_type.now))
+        (leaf_fault (type_view data_type.now)) result }
 {
     let (int32, int64) = (PhysicalType::Int32, PhysicalType::Int64);
     match data_type {

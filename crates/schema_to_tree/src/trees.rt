@@ -46,7 +46,8 @@ pub fn to_parquet_type(alloc: Global, field: &Field) -> Result<ParquetType>
 #[cycle(trees)]
 fn type_tree(alloc: Global, field_info: FieldInfo, data_type: &DataType) -> Result<ParquetType>
     requires { nesting (type_view data_type.now) ≤ 128 }
-    ensures { Gives tree_view (type_tree (info_view field_info None None) (type_view data_type.now)) (fault (type_view data_type.now)) result }
+    ensures { Gives tree_view (type_tree (info_view field_info None None) (type_view data_type.now))
+        (fault (type_view data_type.now)) result }
 {
     match data_type {
         DataType::List(item) | DataType::LargeList(item) | DataType::FixedSizeList(item, _) => {
@@ -62,7 +63,8 @@ fn type_tree(alloc: Global, field_info: FieldInfo, data_type: &DataType) -> Resu
 
 fn leaf_tree(field_info: FieldInfo, data_type: &DataType) -> Result<ParquetType>
     requires { is_compound (type_view data_type.now) ≡ false }
-    ensures { Gives tree_view (type_tree (info_view field_info None None) (type_view data_type.now)) (fault (type_view data_type.now)) result }
+    ensures { Gives tree_view (type_tree (info_view field_info None None) (type_view data_type.now))
+        (fault (type_view data_type.now)) result }
 {
     Ok(leaf_of(field_info, stored_as(data_type)?))
 }
@@ -70,7 +72,8 @@ fn leaf_tree(field_info: FieldInfo, data_type: &DataType) -> Result<ParquetType>
 #[cycle(trees)]
 fn list_tree(alloc: Global, field_info: FieldInfo, item: &Field) -> Result<ParquetType>
     requires { field_nesting (field_view item.now) ≤ 128 }
-    ensures { Gives tree_view (list_over (info_view field_info None None) (tree_of (field_view item.now))) (field_fault (field_view item.now)) result }
+    ensures { Gives tree_view (list_over (info_view field_info None None) (tree_of (field_view item.now)))
+        (field_fault (field_view item.now)) result }
 {
     let (converted, logical) = (ConvertedType::List, LogicalType::List);
     let item = field_tree(alloc, item)?;
@@ -80,7 +83,8 @@ fn list_tree(alloc: Global, field_info: FieldInfo, item: &Field) -> Result<Parqu
 #[cycle(trees)]
 fn map_tree(alloc: Global, field_info: FieldInfo, entry: &Field) -> Result<ParquetType>
     requires { field_nesting (field_view entry.now) ≤ 128 }
-    ensures { Gives tree_view (map_over (info_view field_info None None) (tree_of (field_view entry.now))) (field_fault (field_view entry.now)) result }
+    ensures { Gives tree_view (map_over (info_view field_info None None) (tree_of (field_view entry.now)))
+        (field_fault (field_view entry.now)) result }
 {
     let (converted, logical) = (ConvertedType::Map, LogicalType::Map);
     let entry = field_tree(alloc, entry)?;
@@ -90,7 +94,8 @@ fn map_tree(alloc: Global, field_info: FieldInfo, entry: &Field) -> Result<Parqu
 #[cycle(trees)]
 fn struct_tree(alloc: Global, field_info: FieldInfo, fields: &Vec<Field>) -> Result<ParquetType>
     requires { fields_nesting (fields_view fields.now.items) ≤ 128 }
-    ensures { Gives tree_view (type_tree (info_view field_info None None) (t_struct (fields_view fields.now.items))) (fault (t_struct (fields_view fields.now.items))) result }
+    ensures { Gives tree_view (type_tree (info_view field_info None None) (t_struct (fields_view fields.now.items)))
+        (fault (t_struct (fields_view fields.now.items))) result }
 {
     if fields.is_empty() {
         return Err(Error::InvalidArgumentError(A::A4));
@@ -120,7 +125,8 @@ fn field_tree(alloc: Global, field: &Field) -> Result<ParquetType>
 #[cycle(trees)]
 pub fn field_trees(alloc: Global, fields: &Vec<Field>) -> Result<Vec<ParquetType>>
     requires { fields_nesting (fields_view fields.now.items) ≤ 128 }
-    ensures { Gives (λ v. trees_view v.items) (trees_of (fields_view fields.now.items)) (fields_fault (fields_view fields.now.items)) result }
+    ensures { Gives (λ v. trees_view v.items) (trees_of (fields_view fields.now.items))
+        (fields_fault (fields_view fields.now.items)) result }
 {
     let mut trees = Vec::with_capacity(alloc, fields.len())?;
     for field in fields {

@@ -56,7 +56,8 @@ fn ordinal(i: usize) -> Option<i16>
 // What the footer states of a group at its place, from its start on.
 fn group_from(chunks: Chunks, rows: Count, start: Count, place: usize) -> ThriftRowGroup
     requires few { start + chunks.pages ≤ chunks.end }
-    ensures { (size : ℕ) → chunks.end ≡ start + size → row_group_view result ≡ group_record place (map chunk_view chunks.metas.items) rows start size }
+    ensures { (size : ℕ) → chunks.end ≡ start + size → row_group_view result
+        ≡ group_record place (map chunk_view chunks.metas.items) rows start size }
 {
     let size = chunks.end.minus(start).stated();
     ThriftRowGroup {
@@ -133,9 +134,13 @@ impl<W: Sink + Drop> FileBody<W> {
 
     // Pushes what a file begins with, where nothing was pushed.
     fn begin(&mut self) -> Result<()>
-        ensures ok { OnOk result ((before : Option (List ℕ)) (tree : Schema) (version : PageVersion) (groups : List OutGroup) → HasWritten W.taken before tree version groups self.old → HasWritten W.taken before tree version groups self.new) }
+        ensures ok { OnOk result ((before : Option (List ℕ)) (tree : Schema) (version : PageVersion)
+            (groups : List OutGroup) → HasWritten W.taken before tree version groups self.old
+            → HasWritten W.taken before tree version groups self.new) }
         ensures begun { OnOk result (0 < self.new.pushed) }
-        ensures kept { (self.new.metadata ≡ self.old.metadata) × (self.new.version ≡ self.old.version) × (self.new.leaves ≡ self.old.leaves) × (self.new.rows ≡ self.old.rows) × (self.new.data_pages ≡ self.old.data_pages) }
+        ensures kept { (self.new.metadata ≡ self.old.metadata) × (self.new.version ≡ self.old.version)
+            × (self.new.leaves ≡ self.old.leaves) × (self.new.rows ≡ self.old.rows)
+            × (self.new.data_pages ≡ self.old.data_pages) }
         ensures later { W.faults self.old.writer ≤ W.faults self.new.writer }
         ensures fault { IsErrOf result WriteFault → Rose (W.faults self.old.writer) (W.faults self.new.writer) }
         ensures refused { IfErr result (λ e. (e ≡ Memory) ⊎ (e ≡ WriteFault)) }
@@ -161,10 +166,21 @@ impl<W: Sink + Drop> FileBody<W> {
     pub fn write_group<P: ChunkPages>(&mut self, columns: &mut [P], rows: u64) -> Result<()>
         requires even { length self.old.leaves.physicals.items ≡ length columns.old }
         requires named { length self.old.leaves.paths.items ≡ length columns.old }
-        ensures ok { OnOk result ((before : Option (List ℕ)) (tree : Schema) (version : PageVersion) (groups : List OutGroup) (g : OutGroup) → HasWritten W.taken before tree version groups self.old → AllGive P.begins version (columns_of tree) g.chunks columns.old → HasRows g → g.rows ≡ rows → HasWritten W.taken before tree version (groups ++ g ∷ []) self.new) }
+        ensures ok { OnOk result ((before : Option (List ℕ)) (tree : Schema) (version : PageVersion)
+            (groups : List OutGroup) (g : OutGroup) → HasWritten W.taken before tree version groups self.old
+            → AllGive P.begins version (columns_of tree) g.chunks columns.old → HasRows g → g.rows ≡ rows
+            → HasWritten W.taken before tree version (groups ++ g ∷ []) self.new) }
         ensures later { W.faults self.old.writer ≤ W.faults self.new.writer }
-        ensures fault { IsErrOf result WriteFault → Rose (W.faults self.old.writer) (W.faults self.new.writer) ⊎ SomeRefuses P.refuses columns.old WriteFault }
-        ensures refused { IfErr result (λ e. (e ≡ Memory) ⊎ (e ≡ WriteFault) ⊎ ((e ≡ Overflow V3) × ((before : Option (List ℕ)) (tree : Schema) (version : PageVersion) (groups : List OutGroup) (g : OutGroup) → HasWritten W.taken before tree version groups self.old → AllGive P.begins version (columns_of tree) g.chunks columns.old → g.rows ≡ rows → GroupPasses version (columns_of tree) groups g)) ⊎ SomeRefuses P.refuses columns.old e) }
+        ensures fault { IsErrOf result WriteFault → Rose (W.faults self.old.writer) (W.faults self.new.writer)
+            ⊎ SomeRefuses P.refuses columns.old WriteFault }
+        ensures refused { IfErr result (λ e. (e ≡ Memory) ⊎ (e ≡ WriteFault)
+            ⊎
+            ((e ≡ Overflow V3)
+            ×
+            ((before : Option (List ℕ)) (tree : Schema) (version : PageVersion) (groups : List OutGroup)
+            (g : OutGroup) → HasWritten W.taken before tree version groups self.old
+            → AllGive P.begins version (columns_of tree) g.chunks columns.old → g.rows ≡ rows
+            → GroupPasses version (columns_of tree) groups g)) ⊎ SomeRefuses P.refuses columns.old e) }
     {
         let rows = match rows_after(self.rows, rows) {
             Ok(rows) => rows,
@@ -201,10 +217,18 @@ impl<W: Sink + Drop> FileBody<W> {
     ///
     /// After an error nothing is said of what is kept.
     pub fn write_footer(&mut self, keys: Option<Vec<KeyValue>>) -> Result<u64>
-        ensures ok { IfOk result (λ size. (before : Option (List ℕ)) (tree : Schema) (version : PageVersion) (groups : List OutGroup) → HasWritten W.taken before tree version groups self.old → SpellsTree (elements_of tree) tree → HasFileStating before (W.taken self.new.writer) tree (pairs_view keys) version groups size (footer_view self.new.metadata)) }
+        ensures ok { IfOk result (λ size. (before : Option (List ℕ)) (tree : Schema) (version : PageVersion)
+            (groups : List OutGroup) → HasWritten W.taken before tree version groups self.old
+            → SpellsTree (elements_of tree) tree → HasFileStating before (W.taken self.new.writer) tree
+            (pairs_view keys) version groups size (footer_view self.new.metadata)) }
         ensures later { W.faults self.old.writer ≤ W.faults self.new.writer }
         ensures fault { IsErrOf result WriteFault → Rose (W.faults self.old.writer) (W.faults self.new.writer) }
-        ensures refused { IfErr result (λ e. (e ≡ Memory) ⊎ (e ≡ WriteFault) ⊎ ((e ≡ Overflow V3) × ((before : Option (List ℕ)) (tree : Schema) (version : PageVersion) (groups : List OutGroup) → HasWritten W.taken before tree version groups self.old → TreesFit tree.fields → max_size < footer_room (planned_footer tree (pairs_view keys) groups)))) }
+        ensures refused { IfErr result (λ e. (e ≡ Memory) ⊎ (e ≡ WriteFault)
+            ⊎
+            ((e ≡ Overflow V3)
+            × ((before : Option (List ℕ)) (tree : Schema) (version : PageVersion) (groups : List OutGroup)
+            → HasWritten W.taken before tree version groups self.old → TreesFit tree.fields
+            → max_size < footer_room (planned_footer tree (pairs_view keys) groups)))) }
     {
         self.begin()?;
         self.metadata.key_value_metadata = keys;

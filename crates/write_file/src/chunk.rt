@@ -28,7 +28,8 @@ use std::alloc::Global;
 
 // The encodings of levels and of data that is not plain, ascending, behind that of the dictionary page, where there is one.
 fn encodings_with(alloc: Global, encoding: i32, has_dictionary: bool) -> Result<Vec<i32>>
-    ensures ok { IfOk result (λ v. v.items ≡ cond has_dictionary (pos 0 ∷ pos 3 ∷ encoding ∷ []) (pos 3 ∷ encoding ∷ [])) }
+    ensures ok { IfOk result (λ v. v.items ≡ cond has_dictionary (pos 0 ∷ pos 3 ∷ encoding ∷ [])
+        (pos 3 ∷ encoding ∷ [])) }
     ensures err { IfErr result (λ e. e ≡ Memory) }
 {
     let encodings = if has_dictionary {
@@ -41,7 +42,8 @@ fn encodings_with(alloc: Global, encoding: i32, has_dictionary: bool) -> Result<
 
 // The encodings of the pages of a chunk, ascending and each once (Parquet format, `ColumnMetaData.encodings`).
 fn encodings_from(alloc: Global, encoding: Encoding, has_dictionary: bool) -> Result<Vec<i32>>
-    ensures ok { IfOk result (λ v. (e : PageEncoding) → encoding_view encoding ≡ Some e → v.items ≡ map (λ n. pos n) (encodings_of e has_dictionary)) }
+    ensures ok { IfOk result (λ v. (e : PageEncoding) → encoding_view encoding ≡ Some e
+        → v.items ≡ map (λ n. pos n) (encodings_of e has_dictionary)) }
     ensures err { IfErr result (λ e. e ≡ Memory) }
 {
     match encoding {
@@ -120,12 +122,22 @@ pub(crate) fn push_chunk<W: Sink, P: ChunkPages>(
     pages: &mut P,
     start: Count,
 ) -> Result<Chunk>
-    ensures ok { IfOk result (λ k. (version : Version) (l : Leaf) (c : OutChunk) → physical_view physical ≡ l.physical → map string_bytes path.now ≡ names_of l → P.begins pages.old version l c → 0 < length c.pages → (text : List ℕ) × (w : Place) × Appends (W.taken sink.old) (W.taken sink.new) text × (w.start ≡ start) × IsWrittenChunk version l c w text × (chunk_view k.meta ≡ chunk_record l c w) × (k.end ≡ start + length text) × (k.pages ≡ length c.pages)) }
+    ensures ok { IfOk result (λ k. (version : Version) (l : Leaf) (c : OutChunk) → physical_view physical ≡ l.physical
+        → map string_bytes path.now ≡ names_of l → P.begins pages.old version l c → 0 < length c.pages
+        → (text : List ℕ) × (w : Place) × Appends (W.taken sink.old) (W.taken sink.new) text × (w.start ≡ start)
+        × IsWrittenChunk version l c w text × (chunk_view k.meta ≡ chunk_record l c w)
+        × (k.end ≡ start + length text) × (k.pages ≡ length c.pages)) }
     ensures few { IfOk result (λ k. start + k.pages ≤ k.end) }
     ensures most { IfOk result (λ k. k.end ≤ max_count) }
     ensures later { W.faults sink.old ≤ W.faults sink.new }
-    ensures fault { IsErrOf result WriteFault → Rose (W.faults sink.old) (W.faults sink.new) ⊎ P.refuses pages.old WriteFault }
-    ensures refused { IfErr result (λ e. (e ≡ Memory) ⊎ (e ≡ WriteFault) ⊎ ((e ≡ Overflow V3) × ((version : Version) (l : Leaf) (c : OutChunk) → P.begins pages.old version l c → ColumnPasses version l c start)) ⊎ P.refuses pages.old e) }
+    ensures fault { IsErrOf result WriteFault → Rose (W.faults sink.old) (W.faults sink.new)
+        ⊎ P.refuses pages.old WriteFault }
+    ensures refused { IfErr result (λ e. (e ≡ Memory) ⊎ (e ≡ WriteFault)
+        ⊎
+        ((e ≡ Overflow V3)
+        ×
+        ((version : Version) (l : Leaf) (c : OutChunk) → P.begins pages.old version l c
+        → ColumnPasses version l c start)) ⊎ P.refuses pages.old e) }
 {
     let path_in_schema = copy_path(alloc, path)?;
     let statistics = copy_statistics(alloc, pages.statistics())?;

@@ -41,12 +41,22 @@ pub(crate) fn push_column<W: Sink, P: ChunkPages>(
     pages: &mut P,
     start: Count,
 ) -> Result<Placed>
-    ensures ok { IfOk result (λ k. (version : Version) (l : Leaf) (c : OutChunk) → IsDictionaryOf l c.entries dictionary → P.gives pages.old version l c → (first : List ℕ) × (text : List ℕ) × Appends (W.taken sink.old) (W.taken sink.new) (first ++ text) × HasDictionary l c.entries first × ArePages version l c.entries c.pages text × (k.behind ≡ start + length first) × (k.end ≡ k.behind + length text) × (k.pairs ≡ pairs_in c) × (k.pages ≡ length c.pages)) }
+    ensures ok { IfOk result (λ k. (version : Version) (l : Leaf) (c : OutChunk) → IsDictionaryOf l c.entries dictionary
+        → P.gives pages.old version l c → (first : List ℕ) × (text : List ℕ)
+        × Appends (W.taken sink.old) (W.taken sink.new) (first ++ text) × HasDictionary l c.entries first
+        × ArePages version l c.entries c.pages text × (k.behind ≡ start + length first)
+        × (k.end ≡ k.behind + length text) × (k.pairs ≡ pairs_in c) × (k.pages ≡ length c.pages)) }
     ensures few { IfOk result (λ k. start + k.pages ≤ k.end) }
     ensures most { IfOk result (λ k. k.end ≤ max_count) }
     ensures later { W.faults sink.old ≤ W.faults sink.new }
-    ensures fault { IsErrOf result WriteFault → Rose (W.faults sink.old) (W.faults sink.new) ⊎ P.refuses pages.old WriteFault }
-    ensures refused { IfErr result (λ e. (e ≡ Memory) ⊎ (e ≡ WriteFault) ⊎ ((e ≡ Overflow V3) × ((version : Version) (l : Leaf) (c : OutChunk) → IsDictionaryOf l c.entries dictionary → P.gives pages.old version l c → ColumnPasses version l c start)) ⊎ P.refuses pages.old e) }
+    ensures fault { IsErrOf result WriteFault → Rose (W.faults sink.old) (W.faults sink.new)
+        ⊎ P.refuses pages.old WriteFault }
+    ensures refused { IfErr result (λ e. (e ≡ Memory) ⊎ (e ≡ WriteFault)
+        ⊎
+        ((e ≡ Overflow V3)
+        ×
+        ((version : Version) (l : Leaf) (c : OutChunk) → IsDictionaryOf l c.entries dictionary
+        → P.gives pages.old version l c → ColumnPasses version l c start)) ⊎ P.refuses pages.old e) }
 {
     let first = match push_dictionary(alloc, sink, dictionary) {
         Ok(first) => first,

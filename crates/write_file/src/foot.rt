@@ -21,7 +21,8 @@ use std::alloc::Global;
 /// - `Memory`: memory ran out.
 pub(crate) fn foot_of(alloc: Global, metadata: &ThriftFileMetaData) -> Result<Vec<u8>>
     ensures ok { IfOk result (λ v. IsFoot (footer_view metadata.now) v.items) }
-    ensures refused { IfErr result (λ e. (e ≡ Memory) ⊎ ((e ≡ Overflow V3) × (IsBrief (footer_view metadata.now) → ¬ FooterFits (footer_view metadata.now)))) }
+    ensures refused { IfErr result (λ e. (e ≡ Memory) ⊎ ((e ≡ Overflow V3)
+        × (IsBrief (footer_view metadata.now) → ¬ FooterFits (footer_view metadata.now)))) }
 {
     bytes_spell_numbers();
     let mut foot = Vec::new(alloc);

@@ -43,12 +43,23 @@ pub(crate) fn push_columns<W: Sink, P: ChunkPages>(
 ) -> Result<Chunks>
     requires even { length leaves.now.physicals.items ≡ length columns.old }
     requires named { length leaves.now.paths.items ≡ length columns.old }
-    ensures ok { IfOk result (λ k. (version : Version) (ls : List Leaf) (cs : List OutChunk) → AreMetasOf ls leaves.now → AllGive P.begins version ls cs columns.old → (text : List ℕ) × Appends (W.taken sink.old) (W.taken sink.new) text × AreChunks version ls cs start text (map chunk_view k.metas.items) × (k.end ≡ start + length text) × (k.pages ≡ sum_by (λ c. length c.pages) cs)) }
+    ensures ok { IfOk result (λ k. (version : Version) (ls : List Leaf) (cs : List OutChunk) → AreMetasOf ls leaves.now
+        → AllGive P.begins version ls cs columns.old → (text : List ℕ)
+        × Appends (W.taken sink.old) (W.taken sink.new) text
+        × AreChunks version ls cs start text (map chunk_view k.metas.items) × (k.end ≡ start + length text)
+        × (k.pages ≡ sum_by (λ c. length c.pages) cs)) }
     ensures few { IfOk result (λ k. start + k.pages ≤ k.end) }
     ensures most { IfOk result (λ k. k.end ≤ max_count) }
     ensures later { W.faults sink.old ≤ W.faults sink.new }
-    ensures fault { IsErrOf result WriteFault → Rose (W.faults sink.old) (W.faults sink.new) ⊎ SomeRefuses P.refuses columns.old WriteFault }
-    ensures refused { IfErr result (λ e. (e ≡ Memory) ⊎ (e ≡ WriteFault) ⊎ ((e ≡ Overflow V3) × ((version : Version) (ls : List Leaf) (cs : List OutChunk) → AreMetasOf ls leaves.now → AllGive P.begins version ls cs columns.old → SomeColumnPasses version ls cs start)) ⊎ SomeRefuses P.refuses columns.old e) }
+    ensures fault { IsErrOf result WriteFault → Rose (W.faults sink.old) (W.faults sink.new)
+        ⊎ SomeRefuses P.refuses columns.old WriteFault }
+    ensures refused { IfErr result (λ e. (e ≡ Memory) ⊎ (e ≡ WriteFault)
+        ⊎
+        ((e ≡ Overflow V3)
+        ×
+        ((version : Version) (ls : List Leaf) (cs : List OutChunk) → AreMetasOf ls leaves.now
+        → AllGive P.begins version ls cs columns.old → SomeColumnPasses version ls cs start))
+        ⊎ SomeRefuses P.refuses columns.old e) }
 {
     let mut metas = Vec::new(alloc);
     let mut end = start;

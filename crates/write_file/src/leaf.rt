@@ -19,7 +19,8 @@ pub struct LeafMetas {
 }
 
 fn physicals_of(alloc: Global, columns: &[Descriptor]) -> Result<Vec<PhysicalType>>
-    ensures ok { IfOk result (λ v. map physical_view v.items ≡ map (λ d. physical_view d.primitive_type.physical_type) columns.now) }
+    ensures ok { IfOk result (λ v. map physical_view v.items ≡ map
+        (λ d. physical_view d.primitive_type.physical_type) columns.now) }
     ensures err { IfErr result (λ e. e ≡ Memory) }
 {
     let mut physicals = Vec::new(alloc);

@@ -29,23 +29,28 @@ pub trait ChunkPages {
 
     /// The dictionary page, where the chunk has one. It is asked for once, before the data pages.
     fn dictionary_page(&mut self) -> Result<Option<DictPage>>
-        ensures page { IfOk result (λ d. (version : Version) (l : Leaf) (c : OutChunk) → begins self.old version l c → IsDictionaryOf l c.entries d × gives self.new version l c) }
+        ensures page { IfOk result (λ d. (version : Version) (l : Leaf) (c : OutChunk) → begins self.old version l c
+            → IsDictionaryOf l c.entries d × gives self.new version l c) }
         ensures fewer { left self.new ≤ left self.old }
         ensures refused { IfErr result (refuses self.old) }
         ensures later { (e : Fault) → refuses self.new e → refuses self.old e };
 
     /// The next data page; none at the end.
     fn next_page(&mut self) -> Option<Result<DataPage>>
-        ensures page { (version : Version) (l : Leaf) (c : OutChunk) → gives self.old version l c → GivesNext gives version l c result self.new }
+        ensures page { (version : Version) (l : Leaf) (c : OutChunk) → gives self.old version l c
+            → GivesNext gives version l c result self.new }
         ensures fewer { IfSome result (λ _. left self.new < left self.old) }
         ensures refused { IfSome result (λ r. IfErr r (refuses self.old)) }
         ensures later { (e : Fault) → refuses self.new e → refuses self.old e };
 
     /// The encoding of the values in all its data pages.
     fn encoding(&self) -> Encoding
-        ensures { (version : Version) (l : Leaf) (c : OutChunk) → gives self.now version l c → All (λ o. encoding_view result ≡ Some o.encoding) c.pages };
+        ensures { (version : Version) (l : Leaf) (c : OutChunk) → gives self.now version l c
+            → All (λ o. encoding_view result ≡ Some o.encoding) c.pages };
 
     /// The statistics of the whole chunk, where they are written. Of a chunk with more pairs or entries than a file counts nothing is known.
     fn statistics(&self) -> &Option<Statistics>
-        ensures { (version : Version) (l : Leaf) (c : OutChunk) → begins self.now version l c → pairs_in c ≤ max_count → entry_count c.entries ≤ max_count → option_map statistics_view result.now ≡ option_map statistics_of c.statistics };
+        ensures { (version : Version) (l : Leaf) (c : OutChunk) → begins self.now version l c → pairs_in c ≤ max_count
+            → entry_count c.entries ≤ max_count → option_map statistics_view result.now
+            ≡ option_map statistics_of c.statistics };
 }

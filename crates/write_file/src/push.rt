@@ -50,11 +50,14 @@ fn bytes_of(head: &[u8], body: &[u8]) -> Result<Count>
 
 // Pushes a page behind its header, and gives the number of their bytes.
 fn push_headed<W: Sink>(alloc: Global, sink: &mut W, page: Page) -> Result<Count>
-    ensures ok { IfOk result (λ n. (text : List ℕ) × Appends (W.taken sink.old) (W.taken sink.new) text × (n ≡ length text) × IsHeaded page text) }
+    ensures ok { IfOk result (λ n. (text : List ℕ) × Appends (W.taken sink.old) (W.taken sink.new) text
+        × (n ≡ length text) × IsHeaded page text) }
     ensures some { IfOk result (λ n. 1 ≤ n) }
     ensures later { W.faults sink.old ≤ W.faults sink.new }
     ensures fault { IsErrOf result WriteFault → Rose (W.faults sink.old) (W.faults sink.new) }
-    ensures refused { IfErr result (λ e. (e ≡ Memory) ⊎ (e ≡ WriteFault) ⊎ ((e ≡ Overflow V3) × (IsTooLong page ⊎ ((text : List ℕ) × IsHeaded page text × (max_count < length text))))) }
+    ensures refused { IfErr result (λ e. (e ≡ Memory) ⊎ (e ≡ WriteFault)
+        ⊎ ((e ≡ Overflow V3) × (IsTooLong page
+        ⊎ ((text : List ℕ) × IsHeaded page text × (max_count < length text))))) }
 {
     let mut head = Vec::new(alloc);
     write_page_header(&page, &mut head)?;
@@ -70,12 +73,17 @@ fn push_headed<W: Sink>(alloc: Global, sink: &mut W, page: Page) -> Result<Count
 
 // Pushes a data page behind its header.
 fn push_page<W: Sink>(alloc: Global, sink: &mut W, page: DataPage) -> Result<Pushed>
-    ensures ok { IfOk result (λ n. (text : List ℕ) × Appends (W.taken sink.old) (W.taken sink.new) text × (n.bytes ≡ length text) × ((version : Version) (l : Leaf) (entries : Option (List Value)) (o : OutPage) → IsGiven version l entries o page → (n.pairs ≡ length o.triples) × IsWrittenPage version l entries o text)) }
+    ensures ok { IfOk result (λ n. (text : List ℕ) × Appends (W.taken sink.old) (W.taken sink.new) text
+        × (n.bytes ≡ length text) × ((version : Version) (l : Leaf) (entries : Option (List Value)) (o : OutPage)
+        → IsGiven version l entries o page → (n.pairs ≡ length o.triples) × IsWrittenPage version l entries o text)) }
     ensures one { IfOk result (λ n. n.pages ≡ 1) }
     ensures some { IfOk result (λ n. 1 ≤ n.bytes) }
     ensures later { W.faults sink.old ≤ W.faults sink.new }
     ensures fault { IsErrOf result WriteFault → Rose (W.faults sink.old) (W.faults sink.new) }
-    ensures refused { IfErr result (λ e. (e ≡ Memory) ⊎ (e ≡ WriteFault) ⊎ ((e ≡ Overflow V3) × ((version : Version) (l : Leaf) (entries : Option (List Value)) (o : OutPage) → IsGiven version l entries o page → (max_count < length o.triples) ⊎ ((text : List ℕ) × IsWrittenPage version l entries o text × (max_count < length text))))) }
+    ensures refused { IfErr result (λ e. (e ≡ Memory) ⊎ (e ≡ WriteFault)
+        ⊎ ((e ≡ Overflow V3) × ((version : Version) (l : Leaf) (entries : Option (List Value)) (o : OutPage)
+        → IsGiven version l entries o page → (max_count < length o.triples)
+        ⊎ ((text : List ℕ) × IsWrittenPage version l entries o text × (max_count < length text))))) }
 {
     let pairs = Count::zero().plus(page.num_values() as u64)?;
     let pages = Count::zero().plus(1)?;
@@ -103,10 +111,14 @@ pub(crate) fn push_dictionary<W: Sink>(
     sink: &mut W,
     page: Option<DictPage>,
 ) -> Result<Count>
-    ensures ok { IfOk result (λ n. (text : List ℕ) × Appends (W.taken sink.old) (W.taken sink.new) text × (n ≡ length text) × ((l : Leaf) (entries : Option (List Value)) → IsDictionaryOf l entries page → HasDictionary l entries text)) }
+    ensures ok { IfOk result (λ n. (text : List ℕ) × Appends (W.taken sink.old) (W.taken sink.new) text
+        × (n ≡ length text) × ((l : Leaf) (entries : Option (List Value)) → IsDictionaryOf l entries page
+        → HasDictionary l entries text)) }
     ensures later { W.faults sink.old ≤ W.faults sink.new }
     ensures fault { IsErrOf result WriteFault → Rose (W.faults sink.old) (W.faults sink.new) }
-    ensures refused { IfErr result (λ e. (e ≡ Memory) ⊎ (e ≡ WriteFault) ⊎ ((e ≡ Overflow V3) × ((l : Leaf) (entries : Option (List Value)) → IsDictionaryOf l entries page → (text : List ℕ) × HasDictionary l entries text × (max_count < length text)))) }
+    ensures refused { IfErr result (λ e. (e ≡ Memory) ⊎ (e ≡ WriteFault)
+        ⊎ ((e ≡ Overflow V3) × ((l : Leaf) (entries : Option (List Value)) → IsDictionaryOf l entries page
+        → (text : List ℕ) × HasDictionary l entries text × (max_count < length text)))) }
 {
     let Some(page) = page else {
         return Ok(Count::zero());
@@ -120,8 +132,10 @@ pub(crate) fn push_dictionary<W: Sink>(
 fn with_page(a: Pushed, page: Pushed) -> Result<Pushed>
     requires few { a.pages ≤ a.bytes }
     requires one { page.pages ≤ page.bytes }
-    ensures ok { IfOk result (λ n. (n.bytes ≡ a.bytes + page.bytes) × (n.pairs ≡ a.pairs + page.pairs) × (n.pages ≡ a.pages + page.pages)) }
-    ensures refused { IfErr result (λ e. (e ≡ Overflow V3) × ((max_count < a.bytes + page.bytes) ⊎ (max_count < a.pairs + page.pairs))) }
+    ensures ok { IfOk result (λ n. (n.bytes ≡ a.bytes + page.bytes) × (n.pairs ≡ a.pairs + page.pairs)
+        × (n.pages ≡ a.pages + page.pages)) }
+    ensures refused { IfErr result (λ e. (e ≡ Overflow V3) × ((max_count < a.bytes + page.bytes)
+        ⊎ (max_count < a.pairs + page.pairs))) }
 {
     let bytes = a.bytes.plus(page.bytes.get())?;
     let pairs = a.pairs.plus(page.pairs.get())?;
@@ -145,11 +159,19 @@ pub(crate) fn push_pages<W: Sink, P: ChunkPages>(
     sink: &mut W,
     pages: &mut P,
 ) -> Result<Pushed>
-    ensures ok { IfOk result (λ n. (version : Version) (l : Leaf) (c : OutChunk) → P.gives pages.old version l c → (text : List ℕ) × Appends (W.taken sink.old) (W.taken sink.new) text × (n.bytes ≡ length text) × (n.pairs ≡ pairs_in c) × (n.pages ≡ length c.pages) × ArePages version l c.entries c.pages text) }
+    ensures ok { IfOk result (λ n. (version : Version) (l : Leaf) (c : OutChunk) → P.gives pages.old version l c
+        → (text : List ℕ) × Appends (W.taken sink.old) (W.taken sink.new) text × (n.bytes ≡ length text)
+        × (n.pairs ≡ pairs_in c) × (n.pages ≡ length c.pages) × ArePages version l c.entries c.pages text) }
     ensures few { IfOk result (λ n. n.pages ≤ n.bytes) }
     ensures later { W.faults sink.old ≤ W.faults sink.new }
-    ensures fault { IsErrOf result WriteFault → Rose (W.faults sink.old) (W.faults sink.new) ⊎ P.refuses pages.old WriteFault }
-    ensures refused { IfErr result (λ e. (e ≡ Memory) ⊎ (e ≡ WriteFault) ⊎ ((e ≡ Overflow V3) × ((version : Version) (l : Leaf) (c : OutChunk) (dictionary : List ℕ) → P.gives pages.old version l c → HasDictionary l c.entries dictionary → ColumnPasses version l c 0)) ⊎ P.refuses pages.old e) }
+    ensures fault { IsErrOf result WriteFault → Rose (W.faults sink.old) (W.faults sink.new)
+        ⊎ P.refuses pages.old WriteFault }
+    ensures refused { IfErr result (λ e. (e ≡ Memory) ⊎ (e ≡ WriteFault)
+        ⊎
+        ((e ≡ Overflow V3)
+        ×
+        ((version : Version) (l : Leaf) (c : OutChunk) (dictionary : List ℕ) → P.gives pages.old version l c
+        → HasDictionary l c.entries dictionary → ColumnPasses version l c 0)) ⊎ P.refuses pages.old e) }
 {
     let mut pushed = Pushed {
         bytes: Count::zero(),

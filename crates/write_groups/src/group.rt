@@ -50,8 +50,10 @@ fn push_field(
     encodings: &[Encoding],
     columns: &mut Vec<ChunkColumn>,
 ) -> Result<()>
-    ensures ok { OnOk result ((mine : List Column) × (columns.new.items ≡ columns.old.items ++ mine) × AreFieldColumns options (boxed array.now) (tree_view tree.now) encodings.now mine) }
-    ensures err { IfErr result (λ e. (e ≡ Memory) ⊎ RefusesField options (boxed array.now) (tree_view tree.now) encodings.now e) }
+    ensures ok { OnOk result ((mine : List Column) × (columns.new.items ≡ columns.old.items ++ mine)
+        × AreFieldColumns options (boxed array.now) (tree_view tree.now) encodings.now mine) }
+    ensures err { IfErr result (λ e. (e ≡ Memory) ⊎ RefusesField options (boxed array.now)
+        (tree_view tree.now) encodings.now e) }
 {
     if !nests_within(tree, MAX_NESTING) {
         return Err(Error::NotYetImplemented(N::N7));
@@ -74,8 +76,10 @@ fn columns_of(
 ) -> Result<Vec<ChunkColumn>>
     requires trees { length trees.now ≡ length arrays.now }
     requires encodings { length encodings.now ≡ length arrays.now }
-    ensures ok { IfOk result (λ columns. AreGroupColumns options (all_boxed arrays.now) (trees_view trees.now) (map (λ es. es.items) encodings.now) columns.items) }
-    ensures err { IfErr result (λ e. (e ≡ Memory) ⊎ RefusesFields options (all_boxed arrays.now) (trees_view trees.now) (map (λ es. es.items) encodings.now) e) }
+    ensures ok { IfOk result (λ columns. AreGroupColumns options (all_boxed arrays.now) (trees_view trees.now)
+        (map (λ es. es.items) encodings.now) columns.items) }
+    ensures err { IfErr result (λ e. (e ≡ Memory) ⊎ RefusesFields options (all_boxed arrays.now) (trees_view trees.now)
+        (map (λ es. es.items) encodings.now) e) }
 {
     let mut columns = Vec::new(alloc);
     'fields: for i in 0..arrays.len() {
@@ -122,10 +126,15 @@ pub fn row_group_iter(
     fields: Vec<ParquetType>,
     options: WriteOptions,
 ) -> Result<RowGroupIter>
-    ensures ok { IfOk result (λ g. (g.chunk ≡ chunk) × (g.encodings ≡ encodings) × (g.fields ≡ fields) × (g.options ≡ options)) }
-    ensures columns { IfOk result (λ g. AreGroupColumns options chunk (trees_view fields.items) (map (λ es. es.items) encodings.items) g.columns.items) }
-    ensures differ { (¬ AreSoMany chunk (length encodings.items) (length fields.items)) → result ≡ Err (InvalidArgumentError A8) }
-    ensures refused { IfErr result (λ e. (e ≡ Memory) ⊎ ((e ≡ InvalidArgumentError A8) × (¬ AreSoMany chunk (length encodings.items) (length fields.items))) ⊎ RefusesFields options chunk (trees_view fields.items) (map (λ es. es.items) encodings.items) e) }
+    ensures ok { IfOk result (λ g. (g.chunk ≡ chunk) × (g.encodings ≡ encodings) × (g.fields ≡ fields)
+        × (g.options ≡ options)) }
+    ensures columns { IfOk result (λ g. AreGroupColumns options chunk (trees_view fields.items)
+        (map (λ es. es.items) encodings.items) g.columns.items) }
+    ensures differ { (¬ AreSoMany chunk (length encodings.items) (length fields.items))
+        → result ≡ Err (InvalidArgumentError A8) }
+    ensures refused { IfErr result (λ e. (e ≡ Memory) ⊎ ((e ≡ InvalidArgumentError A8)
+        × (¬ AreSoMany chunk (length encodings.items) (length fields.items)))
+        ⊎ RefusesFields options chunk (trees_view fields.items) (map (λ es. es.items) encodings.items) e) }
 {
     if !are_so_many(&chunk, &encodings, &fields) {
         return Err(Error::InvalidArgumentError(A::A8));

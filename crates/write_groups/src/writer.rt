@@ -122,11 +122,14 @@ impl<W: Sink + Drop> FileWriter<W> {
     // Adds a group that is one of the schema.
     fn put(&mut self, row_group: &mut RowGroupIter) -> Result<()>
         requires { Takes self.old row_group.old }
-        ensures ok { (before : Option (List ℕ)) (groups : List OutGroup) → IsWriting W.taken before self.old groups → HasColumns row_group.old → OnOk result (Adds W.taken before groups row_group.old self.old self.new) }
+        ensures ok { (before : Option (List ℕ)) (groups : List OutGroup) → IsWriting W.taken before self.old groups
+            → HasColumns row_group.old → OnOk result (Adds W.taken before groups row_group.old self.old self.new) }
         ensures schema { self.new.file.schema ≡ self.old.file.schema }
         ensures options { self.new.options ≡ self.old.options }
-        ensures refused { (before : Option (List ℕ)) (groups : List OutGroup) → IsWriting W.taken before self.old groups → HasColumns row_group.old → IfErr result (Refuses W.faults groups row_group.old self.old self.new) }
-        ensures again { (e : Fault) → self.old.file.refusal ≡ Some e → 0 < first_len row_group.old.chunk → (result ≡ Err e) × (self.new ≡ self.old) }
+        ensures refused { (before : Option (List ℕ)) (groups : List OutGroup) → IsWriting W.taken before self.old groups
+            → HasColumns row_group.old → IfErr result (Refuses W.faults groups row_group.old self.old self.new) }
+        ensures again { (e : Fault) → self.old.file.refusal ≡ Some e → 0 < first_len row_group.old.chunk
+            → (result ≡ Err e) × (self.new ≡ self.old) }
         ensures stays { IfErr result (λ e. self.new.file.refusal ≡ Some e) }
         ensures later { W.faults self.old.file.body.writer ≤ W.faults self.new.file.body.writer }
     {
@@ -153,12 +156,17 @@ impl<W: Sink + Drop> FileWriter<W> {
     /// - `WriteFault`: the sink failed. `Memory`: memory ran out.
     /// - `Overflow(V3)`: the room of a page, also of a dictionary page, passes 2^31 - 1; or the rows of the file, the level pairs of a column or the bytes of the pages pass 2^63 - 1.
     pub fn write(&mut self, row_group: RowGroupIter) -> Result<()>
-        ensures ok { (before : Option (List ℕ)) (groups : List OutGroup) → IsWriting W.taken before self.old groups → HasColumns row_group → OnOk result (Adds W.taken before groups row_group self.old self.new) }
-        ensures accepts { (before : Option (List ℕ)) (chunks : List Group) → HasAccepted W.taken before chunks self.old → HasColumns row_group → OnOk result (HasAccepted W.taken before (chunks ++ row_group ∷ []) self.new) }
+        ensures ok { (before : Option (List ℕ)) (groups : List OutGroup) → IsWriting W.taken before self.old groups
+            → HasColumns row_group → OnOk result (Adds W.taken before groups row_group self.old self.new) }
+        ensures accepts { (before : Option (List ℕ)) (chunks : List Group) → HasAccepted W.taken before chunks self.old
+            → HasColumns row_group → OnOk result (HasAccepted W.taken before (chunks ++ row_group ∷ []) self.new) }
         ensures schema { self.new.file.schema ≡ self.old.file.schema }
         ensures options { self.new.options ≡ self.old.options }
         ensures takes { OnOk result (Takes self.old row_group) }
-        ensures refused { (before : Option (List ℕ)) (groups : List OutGroup) → IsWriting W.taken before self.old groups → HasColumns row_group → IfErr result (λ e. ((e ≡ InvalidArgumentError A8) × (¬ Takes self.old row_group)) ⊎ Refuses W.faults groups row_group self.old self.new e) }
+        ensures refused { (before : Option (List ℕ)) (groups : List OutGroup) → IsWriting W.taken before self.old groups
+            → HasColumns row_group → IfErr result
+            (λ e. ((e ≡ InvalidArgumentError A8) × (¬ Takes self.old row_group))
+            ⊎ Refuses W.faults groups row_group self.old self.new e) }
         ensures again { (e : Fault) → self.old.file.refusal ≡ Some e → (result ≡ Err e) × (self.new ≡ self.old) }
         ensures stays { IfErr result (λ e. self.new.file.refusal ≡ Some e) }
         ensures later { W.faults self.old.file.body.writer ≤ W.faults self.new.file.body.writer }
@@ -192,12 +200,30 @@ impl<W: Sink + Drop> FileWriter<W> {
         key_value_metadata: Option<Vec<KeyValue>>,
         codec: &C,
     ) -> Result<u64>
-        ensures ok { IfOk result (λ size. (before : Option (List ℕ)) (groups : List OutGroup) → IsWriting W.taken before self.old groups → HasFile before (W.taken self.new.file.body.writer) (schema_of (fields_in self.old)) (keys_in key_value_metadata ++ schema_entry (C.bytes_of codec.now (schema_view self.old.file.schema)) ∷ []) self.old.options.version groups size) }
-        ensures packed { IfOk result (λ size. (before : Option (List ℕ)) (chunks : List Group) → HasAccepted W.taken before chunks self.old → IsFileOf before (W.taken self.new.file.body.writer) (fields_in self.old) (keys_in key_value_metadata ++ schema_entry (C.bytes_of codec.now (schema_view self.old.file.schema)) ∷ []) self.old.options.version chunks size) }
-        ensures stated { IfOk result (λ size. (before : Option (List ℕ)) (groups : List OutGroup) → IsWriting W.taken before self.old groups → HasEnded W.taken before (keys_in key_value_metadata ++ schema_entry (C.bytes_of codec.now (schema_view self.old.file.schema)) ∷ []) groups size self.new) }
+        ensures ok { IfOk result (λ size. (before : Option (List ℕ)) (groups : List OutGroup)
+            → IsWriting W.taken before self.old groups → HasFile before (W.taken self.new.file.body.writer)
+            (schema_of (fields_in self.old)) (keys_in key_value_metadata
+            ++ schema_entry (C.bytes_of codec.now (schema_view self.old.file.schema))
+            ∷ []) self.old.options.version groups size) }
+        ensures packed { IfOk result (λ size. (before : Option (List ℕ)) (chunks : List Group)
+            → HasAccepted W.taken before chunks self.old → IsFileOf before (W.taken self.new.file.body.writer)
+            (fields_in self.old) (keys_in key_value_metadata
+            ++ schema_entry (C.bytes_of codec.now (schema_view self.old.file.schema))
+            ∷ []) self.old.options.version chunks size) }
+        ensures stated { IfOk result (λ size. (before : Option (List ℕ)) (groups : List OutGroup)
+            → IsWriting W.taken before self.old groups → HasEnded W.taken before
+            (keys_in key_value_metadata ++ schema_entry (C.bytes_of codec.now (schema_view self.old.file.schema))
+            ∷ []) groups size self.new) }
         ensures schema { self.new.file.schema ≡ self.old.file.schema }
         ensures options { self.new.options ≡ self.old.options }
-        ensures refused { IfErr result (λ e. (before : Option (List ℕ)) (groups : List OutGroup) → IsWriting W.taken before self.old groups → (e ≡ Memory) ⊎ ((e ≡ WriteFault) × Rose (W.faults self.old.file.body.writer) (W.faults self.new.file.body.writer)) ⊎ ((e ≡ Overflow V3) × ((max_size < length (C.bytes_of codec.now (schema_view self.old.file.schema))) ⊎ (max_size < footer_room (planned_footer (schema_of (fields_in self.old)) (keys_in key_value_metadata ++ schema_entry (C.bytes_of codec.now (schema_view self.old.file.schema)) ∷ []) groups))))) }
+        ensures refused { IfErr result (λ e. (before : Option (List ℕ)) (groups : List OutGroup)
+            → IsWriting W.taken before self.old groups → (e ≡ Memory)
+            ⊎ ((e ≡ WriteFault) × Rose (W.faults self.old.file.body.writer) (W.faults self.new.file.body.writer))
+            ⊎ ((e ≡ Overflow V3) × ((max_size < length (C.bytes_of codec.now (schema_view self.old.file.schema)))
+            ⊎
+            (max_size < footer_room (planned_footer (schema_of (fields_in self.old))
+            (keys_in key_value_metadata ++ schema_entry (C.bytes_of codec.now (schema_view self.old.file.schema))
+            ∷ []) groups))))) }
         ensures again { (e : Fault) → self.old.file.refusal ≡ Some e → (result ≡ Err e) × (self.new ≡ self.old) }
         ensures stays { IfErr result (λ e. self.new.file.refusal ≡ Some e) }
         ensures ended { IfOk result (λ _. self.new.file.refusal ≡ Some (InvalidArgumentError A8)) }
@@ -263,7 +289,9 @@ impl<W: Sink + Drop> FileWriter<W> {
     pub fn into_inner_and_metadata(self) -> (W, ThriftFileMetaData)
         ensures writer { result.0 ≡ self.file.body.writer }
         ensures metadata { result.1 ≡ self.file.body.metadata }
-        ensures stated { (before : Option (List ℕ)) (keys : List Key) (groups : List OutGroup) (size : ℕ) → HasEnded W.taken before keys groups size self → HasFileStating before (W.taken result.0) (schema_of (fields_in self)) keys self.options.version groups size (footer_view result.1) }
+        ensures stated { (before : Option (List ℕ)) (keys : List Key) (groups : List OutGroup) (size : ℕ)
+            → HasEnded W.taken before keys groups size self → HasFileStating before (W.taken result.0)
+            (schema_of (fields_in self)) keys self.options.version groups size (footer_view result.1) }
     {
         self.file.into_inner_and_metadata()
     }

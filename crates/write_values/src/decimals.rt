@@ -110,8 +110,10 @@ fn skip(all: &[u8], start: usize) -> &[u8]
 // Appends the low bytes of a number, the highest of them first.
 fn push_low_bytes(out: &mut Vec<u8>, number: &i128, size: usize) -> Result<()>
     requires { size ≤ 16 }
-    ensures ok { OnOk result (AppendsRow (fixed size) out.old.items out.new.items (stored_decimal (fixed size) (within_signed 128 number.now) ∷ [])) }
-    ensures text { OnOk result (out.new.items ≡ out.old.items ++ bound_text (fixed size) (stored_decimal (fixed size) (within_signed 128 number.now))) }
+    ensures ok { OnOk result (AppendsRow (fixed size) out.old.items out.new.items
+        (stored_decimal (fixed size) (within_signed 128 number.now) ∷ [])) }
+    ensures text { OnOk result (out.new.items ≡ out.old.items ++ bound_text (fixed size)
+        (stored_decimal (fixed size) (within_signed 128 number.now))) }
     ensures err { IfErr result (λ e. e ≡ Memory) }
 {
     let all = number.to_be_bytes();
@@ -122,8 +124,10 @@ fn push_low_bytes(out: &mut Vec<u8>, number: &i128, size: usize) -> Result<()>
 // Appends what is stored for a decimal.
 pub fn push_decimal(out: &mut Vec<u8>, number: &i128, form: DecimalForm) -> Result<()>
     requires { IsForm form }
-    ensures ok { OnOk result (AppendsRow (form_physical form) out.old.items out.new.items (stored_decimal (form_physical form) (within_signed 128 number.now) ∷ [])) }
-    ensures text { OnOk result (out.new.items ≡ out.old.items ++ bound_text (form_physical form) (stored_decimal (form_physical form) (within_signed 128 number.now))) }
+    ensures ok { OnOk result (AppendsRow (form_physical form) out.old.items out.new.items
+        (stored_decimal (form_physical form) (within_signed 128 number.now) ∷ [])) }
+    ensures text { OnOk result (out.new.items ≡ out.old.items ++ bound_text (form_physical form)
+        (stored_decimal (form_physical form) (within_signed 128 number.now))) }
     ensures err { IfErr result (λ e. e ≡ Memory) }
 {
     match form {

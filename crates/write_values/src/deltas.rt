@@ -46,8 +46,11 @@ pub fn push_deltas(leaf: Leaf<'_>, nested: &[Nested], count: usize, out: Vec<u8>
     requires nulls { TellsNulls (leaf_tree leaf) (parts_of nested.now) }
     requires deltas { has_deltas (leaf_physical leaf) ≡ true }
     requires count { count ≡ length (path_places (parts_of nested.now)) }
-    requires small { plain_length (leaf_physical leaf) (map (stored_at (leaf_tree leaf) (leaf_physical leaf)) (path_places (parts_of nested.now))) ≤ max_size }
-    ensures ok { IfOk result (λ body. AppendsSpelled (deltas_of (leaf_physical leaf.entry)) (leaf_physical leaf.entry) out.items body.items (map (stored_at (leaf_tree leaf.entry) (leaf_physical leaf.entry)) (path_places (parts_of nested.now)))) }
+    requires small { plain_length (leaf_physical leaf) (map (stored_at (leaf_tree leaf) (leaf_physical leaf))
+        (path_places (parts_of nested.now))) ≤ max_size }
+    ensures ok { IfOk result (λ body. AppendsSpelled (deltas_of (leaf_physical leaf.entry))
+        (leaf_physical leaf.entry) out.items body.items (map
+        (stored_at (leaf_tree leaf.entry) (leaf_physical leaf.entry)) (path_places (parts_of nested.now)))) }
     ensures err { IfErr result (λ e. e ≡ Memory) }
 {
     know_order(leaf);

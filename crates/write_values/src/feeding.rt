@@ -53,7 +53,8 @@ pub trait DeltaValues: Drop {
         i: usize,
     ) -> std::result::Result<(), AllocError>
         requires { i < places self.now }
-        ensures { OnOk result (FeedsRow width physical out.old.items encoder.old out.new.items encoder.new (at self.now i ∷ [])) };
+        ensures { OnOk result (FeedsRow width physical out.old.items encoder.old out.new.items encoder.new
+            (at self.now i ∷ [])) };
 
     ghost narrow: { bits width ≤ 64 };
 }
@@ -68,7 +69,8 @@ fn push_each<D: DeltaValues>(
 ) -> std::result::Result<(), AllocError>
     requires ordered { from ≤ to }
     requires within { to ≤ D.places values.now }
-    ensures { OnOk result (FeedsRow D.width D.physical out.old.items encoder.old out.new.items encoder.new (map (D.at values.now) (range from (to - from)))) }
+    ensures { OnOk result (FeedsRow D.width D.physical out.old.items encoder.old out.new.items encoder.new
+        (map (D.at values.now) (range from (to - from)))) }
 {
     for i in from..to {
         values.push_one(encoder, out, i)?;
@@ -88,7 +90,8 @@ fn push_picked<D: DeltaValues>(
     requires few { count ≤ 64 }
     requires low { bits < 2 ^ count }
     requires within { from + count ≤ D.places values.now }
-    ensures { OnOk result (FeedsRow D.width D.physical out.old.items encoder.old out.new.items encoder.new (map (D.at values.now) (picked bits from count))) }
+    ensures { OnOk result (FeedsRow D.width D.physical out.old.items encoder.old out.new.items encoder.new
+        (map (D.at values.now) (picked bits from count))) }
 {
     let _places = values.len();
     let mut left = bits;
@@ -157,7 +160,8 @@ pub fn push_row_deltas<D: DeltaValues>(
     requires well { IsPath (parts_of nested.now) }
     requires leaf { leaf_count_or 0 (parts_of nested.now) ≤ D.places values.now }
     requires count { count ≡ length (path_places (parts_of nested.now)) }
-    ensures ok { IfOk result (λ body. AppendsDeltas D.width D.physical out.items body.items (map (D.at values.now) (path_places (parts_of nested.now)))) }
+    ensures ok { IfOk result (λ body. AppendsDeltas D.width D.physical out.items body.items
+        (map (D.at values.now) (path_places (parts_of nested.now)))) }
     ensures err { IfErr result (λ e. e ≡ Memory) }
 {
     let mut out = out;
@@ -184,7 +188,8 @@ pub fn push_number_deltas<D: DeltaValues>(
     requires well { IsPath (parts_of nested.now) }
     requires leaf { leaf_count_or 0 (parts_of nested.now) ≤ D.places values.now }
     requires count { count ≡ length (path_places (parts_of nested.now)) }
-    ensures ok { IfOk result (λ body. AppendsSpelled delta D.physical out.items body.items (map (D.at values.now) (path_places (parts_of nested.now)))) }
+    ensures ok { IfOk result (λ body. AppendsSpelled delta D.physical out.items body.items
+        (map (D.at values.now) (path_places (parts_of nested.now)))) }
     ensures err { IfErr result (λ e. e ≡ Memory) }
 {
     push_row_deltas(values, nested, count, out)

@@ -68,7 +68,8 @@ fn push_picked<V: FixedValues>(
     requires few { count ≤ 64 }
     requires low { bits < 2 ^ count }
     requires within { from + count ≤ V.places values.now }
-    ensures ok { OnOk result (AppendsRow (V.physical values.now) out.old.items out.new.items (map (V.at values.now) (picked bits from count))) }
+    ensures ok { OnOk result (AppendsRow (V.physical values.now) out.old.items out.new.items
+        (map (V.at values.now) (picked bits from count))) }
     ensures err { IfErr result (λ e. e ≡ Memory) }
 {
     let _places = values.len();
@@ -85,7 +86,8 @@ fn push_picked<V: FixedValues>(
 fn push_each<V: FixedValues>(values: &V, out: &mut Vec<u8>, from: usize, to: usize) -> Result<()>
     requires ordered { from ≤ to }
     requires within { to ≤ V.places values.now }
-    ensures ok { OnOk result (AppendsRow (V.physical values.now) out.old.items out.new.items (map (V.at values.now) (range from (to - from)))) }
+    ensures ok { OnOk result (AppendsRow (V.physical values.now) out.old.items out.new.items
+        (map (V.at values.now) (range from (to - from)))) }
     ensures err { IfErr result (λ e. e ≡ Memory) }
 {
     for i in from..to {
@@ -187,7 +189,8 @@ impl<'a> FixedStrings<'a> {
     fn run(&self, from: usize, to: usize) -> &[u8]
         requires ordered { from ≤ to }
         requires within { to ≤ length (strings_in self.now.array.now.0 self.now.array.now.1.0) }
-        ensures { AppendsRow (fixed (width_in self.now.array.now.0)) [] result.now (map (at_place (strings_in self.now.array.now.0 self.now.array.now.1.0)) (range from (to - from))) }
+        ensures { AppendsRow (fixed (width_in self.now.array.now.0)) [] result.now
+            (map (at_place (strings_in self.now.array.now.0 self.now.array.now.1.0)) (range from (to - from))) }
     {
         self.array.know();
         cut(

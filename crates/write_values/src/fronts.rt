@@ -115,8 +115,10 @@ fn goes_before<O: Offset>(offsets: &OffsetsBuffer<O>, all: &[u8], i: usize, j: u
     requires places { IsPlaces offsets.now (length all.now) }
     requires first { i + 1 < length offsets.now }
     requires second { j + 1 < length offsets.now }
-    ensures less { IsTrue result → IsUpTo (at_place (pieces_values offsets.now all.now) i) (at_place (pieces_values offsets.now all.now) j) }
-    ensures other { result ≡ false → IsUpTo (at_place (pieces_values offsets.now all.now) j) (at_place (pieces_values offsets.now all.now) i) }
+    ensures less { IsTrue result → IsUpTo (at_place (pieces_values offsets.now all.now) i)
+        (at_place (pieces_values offsets.now all.now) j) }
+    ensures other { result ≡ false → IsUpTo (at_place (pieces_values offsets.now all.now) j)
+        (at_place (pieces_values offsets.now all.now) i) }
 {
     is_before(string_at(offsets, all, i), string_at(offsets, all, j))
 }
@@ -128,7 +130,8 @@ fn lesser<O: Offset>(offsets: &OffsetsBuffer<O>, all: &[u8], least: Front, new: 
     requires least { IsFrontAt offsets.now all.now least }
     requires new { IsFrontAt offsets.now all.now new }
     ensures front { IsFrontAt offsets.now all.now result }
-    ensures is { (places : List ℕ) → IsLeastAt (at_place (pieces_values offsets.now all.now)) places least.place → IsLeastAt (at_place (pieces_values offsets.now all.now)) (places ++ new.place ∷ []) result.place }
+    ensures is { (places : List ℕ) → IsLeastAt (at_place (pieces_values offsets.now all.now)) places least.place
+        → IsLeastAt (at_place (pieces_values offsets.now all.now)) (places ++ new.place ∷ []) result.place }
 {
     if least.front < new.front {
         return least;
@@ -150,7 +153,8 @@ fn greater<O: Offset>(offsets: &OffsetsBuffer<O>, all: &[u8], greatest: Front, n
     requires greatest { IsFrontAt offsets.now all.now greatest }
     requires new { IsFrontAt offsets.now all.now new }
     ensures front { IsFrontAt offsets.now all.now result }
-    ensures is { (places : List ℕ) → IsGreatestAt (at_place (pieces_values offsets.now all.now)) places greatest.place → IsGreatestAt (at_place (pieces_values offsets.now all.now)) (places ++ new.place ∷ []) result.place }
+    ensures is { (places : List ℕ) → IsGreatestAt (at_place (pieces_values offsets.now all.now)) places greatest.place
+        → IsGreatestAt (at_place (pieces_values offsets.now all.now)) (places ++ new.place ∷ []) result.place }
 {
     if new.front < greatest.front {
         return greatest;
@@ -177,7 +181,9 @@ fn with_front<O: Offset>(
     requires before { AreFronts offsets.now all.now fronts }
     requires new { IsFrontAt offsets.now all.now new }
     ensures fronts { AreFronts offsets.now all.now result }
-    ensures are { (places : List ℕ) → AreExtremes (at_place (pieces_values offsets.now all.now)) places (Some (places_of fronts)) → AreExtremes (at_place (pieces_values offsets.now all.now)) (places ++ new.place ∷ []) (Some (places_of result)) }
+    ensures are { (places : List ℕ) → AreExtremes (at_place (pieces_values offsets.now all.now)) places
+        (Some (places_of fronts)) → AreExtremes (at_place (pieces_values offsets.now all.now))
+        (places ++ new.place ∷ []) (Some (places_of result)) }
 {
     Fronts {
         least: lesser(offsets, all, fronts.least, new),
@@ -211,7 +217,9 @@ fn with_string<O: Offset>(
     requires before { AreFronts offsets.now all.now fronts }
     requires within { place + 1 < length offsets.now }
     ensures fronts { AreFronts offsets.now all.now result }
-    ensures are { (places : List ℕ) → AreExtremes (at_place (pieces_values offsets.now all.now)) places (Some (places_of fronts)) → AreExtremes (at_place (pieces_values offsets.now all.now)) (places ++ place ∷ []) (Some (places_of result)) }
+    ensures are { (places : List ℕ) → AreExtremes (at_place (pieces_values offsets.now all.now)) places
+        (Some (places_of fronts)) → AreExtremes (at_place (pieces_values offsets.now all.now)) (places ++ place ∷ [])
+        (Some (places_of result)) }
 {
     let front = front_at(offsets, all, place);
     if lies_between(fronts, front) {
@@ -254,7 +262,8 @@ pub fn with_strings<O: Offset>(
     requires within { to < length offsets.now }
     ensures least { result.least + 1 < length offsets.now }
     ensures greatest { result.greatest + 1 < length offsets.now }
-    ensures are { (places : List ℕ) → AreExtremes (at_place (pieces_values offsets.now all.now)) places (Some extremes) → AreExtremes (at_place (pieces_values offsets.now all.now)) (places ++ range from (to - from)) (Some result) }
+    ensures are { (places : List ℕ) → AreExtremes (at_place (pieces_values offsets.now all.now)) places (Some extremes)
+        → AreExtremes (at_place (pieces_values offsets.now all.now)) (places ++ range from (to - from)) (Some result) }
 {
     let mut fronts = fronts_at(offsets, all, extremes);
     for place in from..to {
@@ -283,7 +292,8 @@ pub fn with_picked<O: Offset>(
     requires within { from + count < length offsets.now }
     ensures least { result.least + 1 < length offsets.now }
     ensures greatest { result.greatest + 1 < length offsets.now }
-    ensures are { (places : List ℕ) → AreExtremes (at_place (pieces_values offsets.now all.now)) places (Some extremes) → AreExtremes (at_place (pieces_values offsets.now all.now)) (places ++ picked bits from count) (Some result) }
+    ensures are { (places : List ℕ) → AreExtremes (at_place (pieces_values offsets.now all.now)) places (Some extremes)
+        → AreExtremes (at_place (pieces_values offsets.now all.now)) (places ++ picked bits from count) (Some result) }
 {
     let _strings = offsets.len_proxy();
     let mut fronts = fronts_at(offsets, all, extremes);

@@ -24,7 +24,8 @@ fn interval_text(months: i32, days: i32, milliseconds: i32) -> [u8; 12]
 
 // Appends an interval of months.
 fn push_months(out: &mut Vec<u8>, months: &i32) -> Result<()>
-    ensures ok { OnOk result (AppendsRow (fixed 12) out.old.items out.new.items (bytes (interval_bytes months.now (pos 0) (pos 0)) ∷ [])) }
+    ensures ok { OnOk result (AppendsRow (fixed 12) out.old.items out.new.items
+        (bytes (interval_bytes months.now (pos 0) (pos 0)) ∷ [])) }
     ensures err { IfErr result (λ e. e ≡ Memory) }
 {
     out.extend_from_slice(&interval_text(*months, 0, 0))?;
@@ -33,7 +34,8 @@ fn push_months(out: &mut Vec<u8>, months: &i32) -> Result<()>
 
 // Appends an interval of days and milliseconds.
 fn push_days(out: &mut Vec<u8>, interval: &DaysMs) -> Result<()>
-    ensures ok { OnOk result (AppendsRow (fixed 12) out.old.items out.new.items (bytes (interval_bytes (pos 0) interval.now.days interval.now.milliseconds) ∷ [])) }
+    ensures ok { OnOk result (AppendsRow (fixed 12) out.old.items out.new.items
+        (bytes (interval_bytes (pos 0) interval.now.days interval.now.milliseconds) ∷ [])) }
     ensures err { IfErr result (λ e. e ≡ Memory) }
 {
     out.extend_from_slice(&interval_text(0, interval.days, interval.milliseconds))?;

@@ -41,7 +41,8 @@ fn leaf_known(alloc: Global, leaf: Leaf<'_>, nested: &[Nested], is_wanted: bool)
     requires leaf { leaf_count_or 0 (parts_of nested.now) ≤ tree_len (leaf_tree leaf) }
     requires served { is_served (base (type_of (leaf_tree leaf))) (leaf_physical leaf) ≡ true }
     requires nulls { TellsNulls (leaf_tree leaf) (parts_of nested.now) }
-    requires held { ¬ HasWide (leaf_type (type_of (leaf_tree leaf))) (leaf_physical leaf) (value_column (leaf_tree leaf) nested.now) }
+    requires held { ¬ HasWide (leaf_type (type_of (leaf_tree leaf))) (leaf_physical leaf)
+        (value_column (leaf_tree leaf) nested.now) }
     ensures ok { IfOk result (AreKnown is_wanted (leaf_tree leaf.entry) (leaf_physical leaf.entry) nested.now) }
     ensures err { IfErr result (λ e. e ≡ Memory) }
 {
@@ -72,7 +73,8 @@ pub fn known_values(
     requires leaf { tree_len (boxed array.now) ≡ leaf_count_or 0 (parts_of nested.now) }
     requires nulls { TellsNulls (boxed array.now) (parts_of nested.now) }
     requires served { is_served (base (type_of (boxed array.now))) (physical_view physical_type) ≡ true }
-    requires held { ¬ HasWide (leaf_type (type_of (boxed array.now))) (physical_view physical_type) (value_column (boxed array.now) nested.now) }
+    requires held { ¬ HasWide (leaf_type (type_of (boxed array.now))) (physical_view physical_type)
+        (value_column (boxed array.now) nested.now) }
     ensures ok { IfOk result (AreKnown is_wanted (boxed array.now) (physical_view physical_type) nested.now) }
     ensures err { IfErr result (λ e. e ≡ Memory) }
 {

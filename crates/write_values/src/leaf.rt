@@ -130,7 +130,9 @@ pub fn is_served(data_type: &DataType, physical_type: PhysicalType) -> bool
 
 // An array of numbers of 32 bits with a sign, or of intervals of months.
 fn int32_leaf(array: &PrimitiveArray<i32>, physical_type: PhysicalType) -> Option<Leaf<'_>>
-    ensures { MatchOption result (is_served (base array.now.0) (physical_view physical_type) ≡ false) (IsLeafOf (leaf_array array.now.0 (map (value_i32 (base array.now.0)) array.now.1.0) array.now.1.1) (physical_view physical_type)) }
+    ensures { MatchOption result (is_served (base array.now.0) (physical_view physical_type) ≡ false)
+        (IsLeafOf (leaf_array array.now.0 (map (value_i32 (base array.now.0)) array.now.1.0) array.now.1.1)
+        (physical_view physical_type)) }
 {
     array.know();
     if !is_served(array.data_type(), physical_type) {
@@ -144,7 +146,9 @@ fn int32_leaf(array: &PrimitiveArray<i32>, physical_type: PhysicalType) -> Optio
 
 // An array of numbers of 32 bits without a sign, which are stored as their bits or as numbers of 64 bits.
 fn uint32_leaf(array: &PrimitiveArray<u32>, physical_type: PhysicalType) -> Option<Leaf<'_>>
-    ensures { MatchOption result (is_served (base array.now.0) (physical_view physical_type) ≡ false) (IsLeafOf (leaf_array array.now.0 (map (value_u32 (base array.now.0)) array.now.1.0) array.now.1.1) (physical_view physical_type)) }
+    ensures { MatchOption result (is_served (base array.now.0) (physical_view physical_type) ≡ false)
+        (IsLeafOf (leaf_array array.now.0 (map (value_u32 (base array.now.0)) array.now.1.0) array.now.1.1)
+        (physical_view physical_type)) }
 {
     array.know();
     match physical_type {
@@ -160,7 +164,9 @@ fn uint32_leaf(array: &PrimitiveArray<u32>, physical_type: PhysicalType) -> Opti
 // An array of decimals.
 fn decimal_leaf(array: &PrimitiveArray<i128>, physical_type: PhysicalType) -> Option<Leaf<'_>>
     requires { is_served (base array.now.0) (physical_view physical_type) ≡ true }
-    ensures { MatchOption result (is_served (base array.now.0) (physical_view physical_type) ≡ false) (IsLeafOf (leaf_array array.now.0 (map (value_i128 (base array.now.0)) array.now.1.0) array.now.1.1) (physical_view physical_type)) }
+    ensures { MatchOption result (is_served (base array.now.0) (physical_view physical_type) ≡ false)
+        (IsLeafOf (leaf_array array.now.0 (map (value_i128 (base array.now.0)) array.now.1.0) array.now.1.1)
+        (physical_view physical_type)) }
 {
     array.know();
     match physical_type {
@@ -178,7 +184,8 @@ fn decimal_leaf(array: &PrimitiveArray<i128>, physical_type: PhysicalType) -> Op
 
 /// The array as one whose values are written under the physical type, and `None` where they are not.
 pub fn leaf_of(array: &ArrayBox, physical_type: PhysicalType) -> Option<Leaf<'_>>
-    ensures { MatchOption result (is_served (base (type_of (boxed array.now))) (physical_view physical_type) ≡ false) (IsLeafOf (boxed array.now) (physical_view physical_type)) }
+    ensures { MatchOption result (is_served (base (type_of (boxed array.now))) (physical_view physical_type) ≡ false)
+        (IsLeafOf (boxed array.now) (physical_view physical_type)) }
 {
     if !is_served(array.data_type(), physical_type) {
         return None;

@@ -67,7 +67,8 @@ impl<'a, L: LeafValues> Taker for Measuring<'a, L> {
 pub fn measure_row<L: LeafValues>(leaf: &L, nested: &[Nested]) -> Measured
     requires well { IsPath (parts_of nested.now) }
     requires leaf { leaf_count_or 0 (parts_of nested.now) ≤ L.count leaf.now }
-    ensures { Measures (L.physical leaf.now) (L.count leaf.now) (L.stored leaf.now) (path_places (parts_of nested.now)) result }
+    ensures { Measures (L.physical leaf.now) (L.count leaf.now) (L.stored leaf.now)
+        (path_places (parts_of nested.now)) result }
 {
     let mut measuring = Measuring {
         leaf,
@@ -100,7 +101,8 @@ fn kept(mask: &Bitmap) -> usize
 fn flat_mask(nested: &[Nested]) -> Option<&Bitmap>
     requires well { IsPath (parts_of nested.now) }
     ensures size { IfSome result (λ mask. length mask.now ≡ slot_count (parts_of nested.now)) }
-    ensures tell { IfSome result (λ mask. (i : ℕ) → i < slot_count (parts_of nested.now) → slice_index_or mask.now i false ≡ is_there (parts_of nested.now) i) }
+    ensures tell { IfSome result (λ mask. (i : ℕ) → i < slot_count (parts_of nested.now)
+        → slice_index_or mask.now i false ≡ is_there (parts_of nested.now) i) }
     ensures leaf { IfSome result (λ _. (i : ℕ) → there_places (parts_of nested.now) i ≡ i ∷ []) }
     ensures room { IfSome result (λ _. slot_count (parts_of nested.now) ≤ leaf_count_or 0 (parts_of nested.now)) }
 {
@@ -117,8 +119,10 @@ fn flat_mask(nested: &[Nested]) -> Option<&Bitmap>
 pub fn measure_fixed<L: LeafValues>(leaf: &L, width: usize, nested: &[Nested]) -> Measured
     requires well { IsPath (parts_of nested.now) }
     requires leaf { leaf_count_or 0 (parts_of nested.now) ≤ L.count leaf.now }
-    requires each { (places : List ℕ) → length places * width ≡ plain_length (L.physical leaf.now) (map (L.stored leaf.now) places) }
-    ensures { Measures (L.physical leaf.now) (L.count leaf.now) (L.stored leaf.now) (path_places (parts_of nested.now)) result }
+    requires each { (places : List ℕ) → length places * width ≡ plain_length (L.physical leaf.now)
+        (map (L.stored leaf.now) places) }
+    ensures { Measures (L.physical leaf.now) (L.count leaf.now) (L.stored leaf.now)
+        (path_places (parts_of nested.now)) result }
 {
     match flat_mask(nested) {
         Some(mask) => {

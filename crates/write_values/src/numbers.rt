@@ -60,7 +60,8 @@ pub trait StoredNumber: PlainNumber {
         encoder: &mut Encoder,
         out: &mut Vec<u8>,
     ) -> std::result::Result<(), AllocError>
-        ensures { OnOk result (Feeds bit_width out.old.items encoder.old out.new.items encoder.new (Self.plain_number self ∷ [])) };
+        ensures { OnOk result (Feeds bit_width out.old.items encoder.old out.new.items encoder.new
+            (Self.plain_number self ∷ [])) };
 
     ghost is_number_type: { is_number (physical_view Self.physical) ≡ true };
 
@@ -182,7 +183,8 @@ impl AlwaysStored<i64> for u64 {
 
 // Appends a number, lowest byte first.
 fn push_number<T: AlwaysStored<P>, P: StoredNumber>(out: &mut Vec<u8>, value: T) -> Result<()>
-    ensures ok { OnOk result (AppendsRow (physical_view P.physical) out.old.items out.new.items (number (T.stored_number value) ∷ [])) }
+    ensures ok { OnOk result (AppendsRow (physical_view P.physical) out.old.items out.new.items
+        (number (T.stored_number value) ∷ [])) }
     ensures err { IfErr result (λ e. e ≡ Memory) }
 {
     let stored: P = value.to_stored();
@@ -195,7 +197,8 @@ fn push_number<T: AlwaysStored<P>, P: StoredNumber>(out: &mut Vec<u8>, value: T)
 fn put_number<T: AlwaysStored<P>, P: StoredNumber>(places: &mut [u8], at: usize, value: T)
     requires { at + P.byte_count ≤ length places.old }
     ensures len { length places.new ≡ length places.old }
-    ensures is { AppendsRow (physical_view P.physical) (take at places.old) (take (at + P.byte_count) places.new) (number (T.stored_number value) ∷ []) }
+    ensures is { AppendsRow (physical_view P.physical) (take at places.old) (take (at + P.byte_count) places.new)
+        (number (T.stored_number value) ∷ []) }
 {
     let stored: P = value.to_stored();
     stored.know();
@@ -207,7 +210,8 @@ fn put_numbers<T: AlwaysStored<P>, P: StoredNumber>(places: &mut [u8], values: &
     requires { length values.now * P.byte_count ≤ length places.old }
     ensures len { length places.new ≡ length places.old }
     ensures within { result ≤ length places.new }
-    ensures are { AppendsRow (physical_view P.physical) [] (take result places.new) (map (λ x. number (T.stored_number x)) values.now) }
+    ensures are { AppendsRow (physical_view P.physical) [] (take result places.new)
+        (map (λ x. number (T.stored_number x)) values.now) }
 {
     let mut at = 0;
     for value in values {
@@ -219,7 +223,8 @@ fn put_numbers<T: AlwaysStored<P>, P: StoredNumber>(places: &mut [u8], values: &
 
 // Appends numbers one behind the other, each by itself.
 fn push_each<T: AlwaysStored<P>, P: StoredNumber>(out: &mut Vec<u8>, values: &[T]) -> Result<()>
-    ensures ok { OnOk result (AppendsRow (physical_view P.physical) out.old.items out.new.items (map (λ x. number (T.stored_number x)) values.now)) }
+    ensures ok { OnOk result (AppendsRow (physical_view P.physical) out.old.items out.new.items
+        (map (λ x. number (T.stored_number x)) values.now)) }
     ensures err { IfErr result (λ e. e ≡ Memory) }
 {
     for value in values {
@@ -259,7 +264,8 @@ fn push_through<T: AlwaysStored<P>, P: StoredNumber>(
 ) -> Result<()>
     requires some { 0 < most }
     requires room { most * 8 ≤ length block.old }
-    ensures ok { OnOk result (AppendsRow (physical_view P.physical) out.old.items out.new.items (map (λ x. number (T.stored_number x)) values.now)) }
+    ensures ok { OnOk result (AppendsRow (physical_view P.physical) out.old.items out.new.items
+        (map (λ x. number (T.stored_number x)) values.now)) }
     ensures err { IfErr result (λ e. e ≡ Memory) }
 {
     let mut at = 0;
@@ -274,7 +280,8 @@ fn push_through<T: AlwaysStored<P>, P: StoredNumber>(
 
 // Appends numbers one behind the other, in short blocks.
 fn push_blocks<T: AlwaysStored<P>, P: StoredNumber>(out: &mut Vec<u8>, values: &[T]) -> Result<()>
-    ensures ok { OnOk result (AppendsRow (physical_view P.physical) out.old.items out.new.items (map (λ x. number (T.stored_number x)) values.now)) }
+    ensures ok { OnOk result (AppendsRow (physical_view P.physical) out.old.items out.new.items
+        (map (λ x. number (T.stored_number x)) values.now)) }
     ensures err { IfErr result (λ e. e ≡ Memory) }
 {
     let mut block = [0; 512];
@@ -321,7 +328,8 @@ fn add_places(out: &mut Vec<u8>, count: usize) -> Result<()>
 #[inline(always)]
 fn push_whole<T: AlwaysStored<P>, P: StoredNumber>(out: &mut Vec<u8>, values: &[T]) -> Result<()>
     requires { P.byte_count * length values.now ≡ 4096 }
-    ensures ok { OnOk result (AppendsRow (physical_view P.physical) out.old.items out.new.items (map (λ x. number (T.stored_number x)) values.now)) }
+    ensures ok { OnOk result (AppendsRow (physical_view P.physical) out.old.items out.new.items
+        (map (λ x. number (T.stored_number x)) values.now)) }
     ensures err { IfErr result (λ e. e ≡ Memory) }
 {
     let before = out.len();
@@ -345,7 +353,8 @@ fn block_count<P: StoredNumber>() -> usize
 
 // Appends numbers one behind the other, in long blocks.
 fn push_long<T: AlwaysStored<P>, P: StoredNumber>(out: &mut Vec<u8>, values: &[T]) -> Result<()>
-    ensures ok { OnOk result (AppendsRow (physical_view P.physical) out.old.items out.new.items (map (λ x. number (T.stored_number x)) values.now)) }
+    ensures ok { OnOk result (AppendsRow (physical_view P.physical) out.old.items out.new.items
+        (map (λ x. number (T.stored_number x)) values.now)) }
     ensures err { IfErr result (λ e. e ≡ Memory) }
 {
     let count = block_count::<P>();
@@ -359,7 +368,8 @@ fn push_long<T: AlwaysStored<P>, P: StoredNumber>(out: &mut Vec<u8>, values: &[T
 
 // Appends numbers one behind the other. For a few a block costs more than it saves, and a long one for fewer than thousands.
 fn push_numbers<T: AlwaysStored<P>, P: StoredNumber>(out: &mut Vec<u8>, values: &[T]) -> Result<()>
-    ensures ok { OnOk result (AppendsRow (physical_view P.physical) out.old.items out.new.items (map (λ x. number (T.stored_number x)) values.now)) }
+    ensures ok { OnOk result (AppendsRow (physical_view P.physical) out.old.items out.new.items
+        (map (λ x. number (T.stored_number x)) values.now)) }
     ensures err { IfErr result (λ e. e ≡ Memory) }
 {
     if values.len() < 8 {
@@ -395,7 +405,8 @@ fn put_first<T: AlwaysStored<P>, P: StoredNumber>(
     requires eight { at + 8 * P.byte_count ≤ length places.old }
     ensures at { result ≡ at + few * P.byte_count }
     ensures len { length places.new ≡ length places.old }
-    ensures are { AppendsRow (physical_view P.physical) (take at places.old) (take result places.new) (map (λ x. number (T.stored_number x)) (take few values.now)) }
+    ensures are { AppendsRow (physical_view P.physical) (take at places.old) (take result places.new)
+        (map (λ x. number (T.stored_number x)) (take few values.now)) }
 {
     let mut next = at;
     for value in values {
@@ -422,7 +433,8 @@ fn put_run<T: AlwaysStored<P>, P: StoredNumber>(
     requires room { at + 8 * P.byte_count ≤ length places.old }
     ensures at { result ≡ at + few * P.byte_count }
     ensures len { length places.new ≡ length places.old }
-    ensures are { AppendsRow (physical_view P.physical) (take at places.old) (take result places.new) (map (at_place (map (λ x. number (T.stored_number x)) values.now)) (range from few)) }
+    ensures are { AppendsRow (physical_view P.physical) (take at places.old) (take result places.new)
+        (map (at_place (map (λ x. number (T.stored_number x)) values.now)) (range from few)) }
 {
     if has_eight {
         return put_first::<T, P>(places, at, &values[from..from + 8], few);
@@ -451,7 +463,8 @@ fn put_some<T: AlwaysStored<P>, P: StoredNumber>(
     requires room { (count + 8) * P.byte_count ≤ length places.old }
     ensures len { length places.new ≡ length places.old }
     ensures within { result ≤ length places.new }
-    ensures are { AppendsRow (physical_view P.physical) [] (take result places.new) (map (at_place (map (λ x. number (T.stored_number x)) values.now)) (picked bits from count)) }
+    ensures are { AppendsRow (physical_view P.physical) [] (take result places.new)
+        (map (at_place (map (λ x. number (T.stored_number x)) values.now)) (picked bits from count)) }
 {
     let mut left = bits;
     let mut place = from;
@@ -477,7 +490,8 @@ fn push_picked<T: AlwaysStored<P>, P: StoredNumber>(
     requires few { count ≤ 64 }
     requires low { bits < 2 ^ count }
     requires within { from + count ≤ length values.now }
-    ensures ok { OnOk result (AppendsRow (physical_view P.physical) out.old.items out.new.items (map (at_place (map (λ x. number (T.stored_number x)) values.now)) (picked bits from count))) }
+    ensures ok { OnOk result (AppendsRow (physical_view P.physical) out.old.items out.new.items
+        (map (at_place (map (λ x. number (T.stored_number x)) values.now)) (picked bits from count))) }
     ensures err { IfErr result (λ e. e ≡ Memory) }
 {
     let mut block = [0; 576];
@@ -556,8 +570,17 @@ pub fn measure_numbers<T: AlwaysStored<P>, P: StoredNumber>(
     nested: &[Nested],
 ) -> Measured
     requires well { IsPath (parts_of nested.now) }
-    requires leaf { leaf_count_or 0 (parts_of nested.now) ≤ tree_len (leaf_array leaf.now.array.now.0 (map (T.value (base leaf.now.array.now.0)) leaf.now.array.now.1.0) leaf.now.array.now.1.1) }
-    ensures { Measures (physical_view P.physical) (tree_len (leaf_array leaf.now.array.now.0 (map (T.value (base leaf.now.array.now.0)) leaf.now.array.now.1.0) leaf.now.array.now.1.1)) (stored_at (leaf_array leaf.now.array.now.0 (map (T.value (base leaf.now.array.now.0)) leaf.now.array.now.1.0) leaf.now.array.now.1.1) (physical_view P.physical)) (path_places (parts_of nested.now)) result }
+    requires leaf { leaf_count_or 0 (parts_of nested.now) ≤ tree_len
+        (leaf_array leaf.now.array.now.0
+        (map (T.value (base leaf.now.array.now.0)) leaf.now.array.now.1.0) leaf.now.array.now.1.1) }
+    ensures { Measures (physical_view P.physical)
+        (tree_len
+        (leaf_array leaf.now.array.now.0
+        (map (T.value (base leaf.now.array.now.0)) leaf.now.array.now.1.0) leaf.now.array.now.1.1))
+        (stored_at
+        (leaf_array leaf.now.array.now.0
+        (map (T.value (base leaf.now.array.now.0)) leaf.now.array.now.1.0) leaf.now.array.now.1.1)
+        (physical_view P.physical)) (path_places (parts_of nested.now)) result }
 {
     measure_fixed(leaf, P::width(), nested)
 }

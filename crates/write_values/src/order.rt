@@ -24,7 +24,8 @@ use write_statistics::ord_binary;
 
 // Whether no number is below one or above another. All are looked at, so that several are at once.
 fn lie_between<T: OrderedNative>(numbers: &[T], low: &T, high: &T) -> bool
-    ensures { IsTrue result → All (λ x. (T.ordinal low.now ≤ℤ T.ordinal x) × (T.ordinal x ≤ℤ T.ordinal high.now)) numbers.now }
+    ensures { IsTrue result → All (λ x. (T.ordinal low.now ≤ℤ T.ordinal x)
+        × (T.ordinal x ≤ℤ T.ordinal high.now)) numbers.now }
 {
     let mut are_past = false;
     for number in numbers {

@@ -120,9 +120,12 @@ fn page_body(
     requires count { measured.values ≡ length (path_places (parts_of nested.now)) }
     requires pairs { pairs ≤ max_size }
     requires size { measured.plain ≤ max_size }
-    requires small { plain_length (leaf_physical leaf) (map (stored_at (leaf_tree leaf) (leaf_physical leaf)) (path_places (parts_of nested.now))) ≤ max_size }
-    requires room { column_room (leaf_physical leaf) (stored_column (leaf_tree leaf) (leaf_physical leaf) nested.now) ≤ max_size }
-    ensures ok { IfOk result (IsBody version (encoding_in deltas) (leaf_physical leaf.entry) nested.now (stored_at (leaf_tree leaf.entry) (leaf_physical leaf.entry))) }
+    requires small { plain_length (leaf_physical leaf) (map (stored_at (leaf_tree leaf) (leaf_physical leaf))
+        (path_places (parts_of nested.now))) ≤ max_size }
+    requires room { column_room (leaf_physical leaf) (stored_column (leaf_tree leaf) (leaf_physical leaf) nested.now)
+        ≤ max_size }
+    ensures ok { IfOk result (IsBody version (encoding_in deltas) (leaf_physical leaf.entry) nested.now
+        (stored_at (leaf_tree leaf.entry) (leaf_physical leaf.entry))) }
     ensures err { IfErr result (λ e. e ≡ Memory) }
 {
     let room = plain_room(measured.plain, deltas);
@@ -153,7 +156,9 @@ pub fn page_header(
     requires definition { body.now.definition < 2 ^ 31 }
     ensures values { stated_values result ≡ pos counts.pairs }
     ensures encoding { stated_encoding result ≡ number_in encoding }
-    ensures is { (e : PageEncoding) (out : OutPage) → encoding ≡ encoding_name e → IsOut e out (option_map statistics_view statistics) counts.pairs counts.nulls counts.rows → IsHeader version out body.now.repetition body.now.definition result }
+    ensures is { (e : PageEncoding) (out : OutPage) → encoding ≡ encoding_name e
+        → IsOut e out (option_map statistics_view statistics) counts.pairs counts.nulls counts.rows
+        → IsHeader version out body.now.repetition body.now.definition result }
 {
     match version {
         Version::V1 => DataPageHeader::V1(DataPageHeaderV1 {
@@ -216,7 +221,9 @@ fn page_with(
     requires known { AreKnown form.with_statistics (leaf_tree leaf) (leaf_physical leaf) nested.now known }
     requires spelling { IsSpelling form.with_deltas (leaf_type (type_of (leaf_tree leaf))) (leaf_physical leaf) deltas }
     ensures ok { IfOk result (IsColumnPage form (leaf_tree leaf.entry) (leaf_physical leaf.entry) type_ nested.now) }
-    ensures err { IfErr result (λ e. (e ≡ Memory) ⊎ ((e ≡ Overflow V3) × (max_size < column_room (leaf_physical leaf.entry) (stored_column (leaf_tree leaf.entry) (leaf_physical leaf.entry) nested.now)))) }
+    ensures err { IfErr result (λ e. (e ≡ Memory) ⊎ ((e ≡ Overflow V3)
+        × (max_size < column_room (leaf_physical leaf.entry)
+        (stored_column (leaf_tree leaf.entry) (leaf_physical leaf.entry) nested.now)))) }
 {
     let measured = known.measured;
     let pairs = num_values(nested);
@@ -250,11 +257,14 @@ fn leaf_page(
     requires leaf { leaf_count_or 0 (parts_of nested.now) ≤ tree_len (leaf_tree leaf) }
     requires served { is_served (base (type_of (leaf_tree leaf))) (leaf_physical leaf) ≡ true }
     requires nulls { TellsNulls (leaf_tree leaf) (parts_of nested.now) }
-    requires held { ¬ HasWide (leaf_type (type_of (leaf_tree leaf))) (leaf_physical leaf) (value_column (leaf_tree leaf) nested.now) }
+    requires held { ¬ HasWide (leaf_type (type_of (leaf_tree leaf))) (leaf_physical leaf)
+        (value_column (leaf_tree leaf) nested.now) }
     requires spelling { IsSpelling form.with_deltas (leaf_type (type_of (leaf_tree leaf))) (leaf_physical leaf) deltas }
     ensures ok { IfOk result (IsColumnPage form (leaf_tree leaf.entry) (leaf_physical leaf.entry) type_ nested.now) }
     ensures places { All (λ i. i < tree_len (leaf_tree leaf.entry)) (path_places (parts_of nested.now)) }
-    ensures err { IfErr result (λ e. (e ≡ Memory) ⊎ ((e ≡ Overflow V3) × (max_size < column_room (leaf_physical leaf.entry) (stored_column (leaf_tree leaf.entry) (leaf_physical leaf.entry) nested.now)))) }
+    ensures err { IfErr result (λ e. (e ≡ Memory) ⊎ ((e ≡ Overflow V3)
+        × (max_size < column_room (leaf_physical leaf.entry)
+        (stored_column (leaf_tree leaf.entry) (leaf_physical leaf.entry) nested.now)))) }
 {
     let measured = measure(leaf, nested);
     let statistics = leaf_statistics(alloc, leaf, nested, form.with_statistics)?;
@@ -289,11 +299,19 @@ pub fn data_page(
     requires parts { length nested.now ≤ 128 }
     requires leaf { tree_len (boxed array.now) ≡ leaf_count_or 0 (parts_of nested.now) }
     requires nulls { TellsNulls (boxed array.now) (parts_of nested.now) }
-    requires held { ¬ HasWide (leaf_type (type_of (boxed array.now))) (physical_view type_.physical_type) (value_column (boxed array.now) nested.now) }
+    requires held { ¬ HasWide (leaf_type (type_of (boxed array.now))) (physical_view type_.physical_type)
+        (value_column (boxed array.now) nested.now) }
     ensures ok { IfOk result (IsColumnPage form (boxed array.now) (physical_view type_.physical_type) type_ nested.now) }
-    ensures stored { is_served (base (type_of (boxed array.now))) (physical_view type_.physical_type) ≡ true → AreStored (leaf_type (type_of (boxed array.now))) (physical_view type_.physical_type) (value_column (boxed array.now) nested.now) (stored_column (boxed array.now) (physical_view type_.physical_type) nested.now) }
-    ensures unserved { ComesWhere (NotYetImplemented N5) (is_served (base (type_of (boxed array.now))) (physical_view type_.physical_type) ≡ false) result }
-    ensures too_large { ComesWhere (Overflow V3) ((is_served (base (type_of (boxed array.now))) (physical_view type_.physical_type) ≡ true) × (max_size < column_room (physical_view type_.physical_type) (stored_column (boxed array.now) (physical_view type_.physical_type) nested.now))) result }
+    ensures stored { is_served (base (type_of (boxed array.now))) (physical_view type_.physical_type) ≡ true
+        → AreStored (leaf_type (type_of (boxed array.now))) (physical_view type_.physical_type)
+        (value_column (boxed array.now) nested.now) (stored_column (boxed array.now)
+        (physical_view type_.physical_type) nested.now) }
+    ensures unserved { ComesWhere (NotYetImplemented N5) (is_served (base (type_of (boxed array.now)))
+        (physical_view type_.physical_type) ≡ false) result }
+    ensures too_large { ComesWhere (Overflow V3)
+        ((is_served (base (type_of (boxed array.now))) (physical_view type_.physical_type) ≡ true)
+        × (max_size < column_room (physical_view type_.physical_type)
+        (stored_column (boxed array.now) (physical_view type_.physical_type) nested.now))) result }
     ensures err { IfErr result (λ e. (e ≡ Memory) ⊎ (e ≡ NotYetImplemented N5) ⊎ (e ≡ Overflow V3)) }
 {
     array.know();
@@ -324,11 +342,16 @@ pub fn data_page_with(
     requires leaf { tree_len (boxed array.now) ≡ leaf_count_or 0 (parts_of nested.now) }
     requires nulls { TellsNulls (boxed array.now) (parts_of nested.now) }
     requires served { is_served (base (type_of (boxed array.now))) (physical_view type_.physical_type) ≡ true }
-    requires held { ¬ HasWide (leaf_type (type_of (boxed array.now))) (physical_view type_.physical_type) (value_column (boxed array.now) nested.now) }
-    requires known { AreKnown form.with_statistics (boxed array.now) (physical_view type_.physical_type) nested.now known }
+    requires held { ¬ HasWide (leaf_type (type_of (boxed array.now))) (physical_view type_.physical_type)
+        (value_column (boxed array.now) nested.now) }
+    requires known { AreKnown form.with_statistics (boxed array.now)
+        (physical_view type_.physical_type) nested.now known }
     ensures ok { IfOk result (IsColumnPage form (boxed array.now) (physical_view type_.physical_type) type_ nested.now) }
-    ensures stored { AreStored (leaf_type (type_of (boxed array.now))) (physical_view type_.physical_type) (value_column (boxed array.now) nested.now) (stored_column (boxed array.now) (physical_view type_.physical_type) nested.now) }
-    ensures too_large { ComesWhere (Overflow V3) (max_size < column_room (physical_view type_.physical_type) (stored_column (boxed array.now) (physical_view type_.physical_type) nested.now)) result }
+    ensures stored { AreStored (leaf_type (type_of (boxed array.now))) (physical_view type_.physical_type)
+        (value_column (boxed array.now) nested.now) (stored_column (boxed array.now)
+        (physical_view type_.physical_type) nested.now) }
+    ensures too_large { ComesWhere (Overflow V3) (max_size < column_room (physical_view type_.physical_type)
+        (stored_column (boxed array.now) (physical_view type_.physical_type) nested.now)) result }
     ensures err { IfErr result (λ e. (e ≡ Memory) ⊎ (e ≡ Overflow V3)) }
 {
     array.know();

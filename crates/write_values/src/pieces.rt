@@ -87,7 +87,8 @@ fn bytes_between<'a, O: Offset>(
     requires places { IsPlaces offsets.now (length all.now) }
     requires ordered { from ≤ to }
     requires within { to < length offsets.now }
-    ensures { result.now ≡ flat_map text_of (map (at_place (pieces_values offsets.now all.entry.now)) (range from (to - from))) }
+    ensures { result.now ≡ flat_map text_of (map (at_place (pieces_values offsets.now all.entry.now))
+        (range from (to - from))) }
 {
     offsets.know();
     let start = offsets.place(from);
@@ -108,7 +109,8 @@ fn push_picked<O: Offset>(
     requires few { count ≤ 64 }
     requires low { bits < 2 ^ count }
     requires within { from + count < length offsets.now }
-    ensures { OnOk result (out.new.items ≡ out.old.items ++ flat_map text_of (map (at_place (pieces_values offsets.now all.now)) (picked bits from count))) }
+    ensures { OnOk result (out.new.items ≡ out.old.items ++ flat_map text_of
+        (map (at_place (pieces_values offsets.now all.now)) (picked bits from count))) }
 {
     let _strings = offsets.len_proxy();
     let mut left = bits;
@@ -168,8 +170,11 @@ impl<'a, O: Offset> Taker for Joining<'a, O> {
 // Appends the bytes of the strings that a path reaches.
 fn push_bytes<O: Offset>(pieces: &Pieces<'_, O>, nested: &[Nested], out: Vec<u8>) -> Result<Vec<u8>>
     requires well { IsPath (parts_of nested.now) }
-    requires leaf { leaf_count_or 0 (parts_of nested.now) ≤ length (pieces_values pieces.now.offsets.now pieces.now.all.now) }
-    ensures ok { IfOk result (λ body. body.items ≡ out.items ++ flat_map text_of (map (at_place (pieces_values pieces.now.offsets.now pieces.now.all.now)) (path_places (parts_of nested.now)))) }
+    requires leaf { leaf_count_or 0 (parts_of nested.now) ≤ length
+        (pieces_values pieces.now.offsets.now pieces.now.all.now) }
+    ensures ok { IfOk result (λ body. body.items ≡ out.items ++ flat_map text_of
+        (map (at_place (pieces_values pieces.now.offsets.now pieces.now.all.now))
+        (path_places (parts_of nested.now)))) }
     ensures err { IfErr result (λ e. e ≡ Memory) }
 {
     let mut joining = Joining { pieces, out };
@@ -186,10 +191,14 @@ pub fn push_string_deltas<O: Offset>(
     out: Vec<u8>,
 ) -> Result<Vec<u8>>
     requires well { IsPath (parts_of nested.now) }
-    requires leaf { leaf_count_or 0 (parts_of nested.now) ≤ length (pieces_values pieces.now.offsets.now pieces.now.all.now) }
+    requires leaf { leaf_count_or 0 (parts_of nested.now) ≤ length
+        (pieces_values pieces.now.offsets.now pieces.now.all.now) }
     requires count { count ≡ length (path_places (parts_of nested.now)) }
-    requires small { plain_length byte_array (map (at_place (pieces_values pieces.now.offsets.now pieces.now.all.now)) (path_places (parts_of nested.now))) ≤ max_size }
-    ensures ok { IfOk result (λ body. AppendsSpelled delta_length byte_array out.items body.items (map (at_place (pieces_values pieces.now.offsets.now pieces.now.all.now)) (path_places (parts_of nested.now)))) }
+    requires small { plain_length byte_array (map (at_place (pieces_values pieces.now.offsets.now pieces.now.all.now))
+        (path_places (parts_of nested.now))) ≤ max_size }
+    ensures ok { IfOk result (λ body. AppendsSpelled delta_length byte_array out.items body.items
+        (map (at_place (pieces_values pieces.now.offsets.now pieces.now.all.now))
+        (path_places (parts_of nested.now)))) }
     ensures err { IfErr result (λ e. e ≡ Memory) }
 {
     let out = push_row_deltas(pieces, nested, count, out)?;

@@ -60,8 +60,10 @@ impl<'a, L: LeafValues> Taker for Plain<'a, L> {
 pub fn push_row<L: LeafValues>(leaf: &L, nested: &[Nested], out: Vec<u8>) -> Result<Vec<u8>>
     requires well { IsPath (parts_of nested.now) }
     requires leaf { leaf_count_or 0 (parts_of nested.now) ≤ L.count leaf.now }
-    requires small { plain_length (L.physical leaf.now) (map (L.stored leaf.now) (path_places (parts_of nested.now))) ≤ max_size }
-    ensures ok { IfOk result (λ body. AppendsPlain (L.physical leaf.now) out.items body.items (map (L.stored leaf.now) (path_places (parts_of nested.now)))) }
+    requires small { plain_length (L.physical leaf.now) (map (L.stored leaf.now) (path_places (parts_of nested.now)))
+        ≤ max_size }
+    ensures ok { IfOk result (λ body. AppendsPlain (L.physical leaf.now) out.items body.items
+        (map (L.stored leaf.now) (path_places (parts_of nested.now)))) }
     ensures err { IfErr result (λ e. e ≡ Memory) }
 {
     let mut plain = Plain { leaf, out };

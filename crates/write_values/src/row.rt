@@ -37,7 +37,8 @@ pub trait LeafValues: Drop {
         requires ordered { from ≤ to }
         requires within { to ≤ count self.now }
         requires small { plain_length (physical self.now) (map (stored self.now) (range from (to - from))) ≤ max_size }
-        ensures ok { OnOk result (AppendsRow (physical self.now) out.old.items out.new.items (map (stored self.now) (range from (to - from)))) }
+        ensures ok { OnOk result (AppendsRow (physical self.now) out.old.items out.new.items
+            (map (stored self.now) (range from (to - from)))) }
         ensures err { IfErr result (λ e. e ≡ Memory) };
 
     /// The number of bytes of the plain spelling of the values at those of so many places from `from` on whose bits in the word are set, the
@@ -59,7 +60,8 @@ pub trait LeafValues: Drop {
         requires low { bits < 2 ^ places }
         requires within { from + places ≤ count self.now }
         requires small { plain_length (physical self.now) (map (stored self.now) (picked bits from places)) ≤ max_size }
-        ensures ok { OnOk result (AppendsRow (physical self.now) out.old.items out.new.items (map (stored self.now) (picked bits from places))) }
+        ensures ok { OnOk result (AppendsRow (physical self.now) out.old.items out.new.items
+            (map (stored self.now) (picked bits from places))) }
         ensures err { IfErr result (λ e. e ≡ Memory) };
 
     ghost in_a_row: { (s : Self) → physical s ≢ boolean };

@@ -40,8 +40,10 @@ fn push_plain(
     requires leaf { leaf_count_or 0 (parts_of nested.now) ≤ tree_len (leaf_tree leaf) }
     requires served { is_served (base (type_of (leaf_tree leaf))) (leaf_physical leaf) ≡ true }
     requires nulls { TellsNulls (leaf_tree leaf) (parts_of nested.now) }
-    requires small { plain_length (leaf_physical leaf) (map (stored_at (leaf_tree leaf) (leaf_physical leaf)) (path_places (parts_of nested.now))) ≤ max_size }
-    ensures ok { IfOk result (λ body. AppendsPlain (leaf_physical leaf.entry) out.items body.items (map (stored_at (leaf_tree leaf.entry) (leaf_physical leaf.entry)) (path_places (parts_of nested.now)))) }
+    requires small { plain_length (leaf_physical leaf) (map (stored_at (leaf_tree leaf) (leaf_physical leaf))
+        (path_places (parts_of nested.now))) ≤ max_size }
+    ensures ok { IfOk result (λ body. AppendsPlain (leaf_physical leaf.entry) out.items body.items
+        (map (stored_at (leaf_tree leaf.entry) (leaf_physical leaf.entry)) (path_places (parts_of nested.now)))) }
     ensures err { IfErr result (λ e. e ≡ Memory) }
 {
     let mut out = out;
@@ -66,8 +68,11 @@ pub fn push_spelled(
     requires deltas { IfSome deltas (AreDeltasOf (leaf_physical leaf)) }
     requires count { measured.values ≡ length (path_places (parts_of nested.now)) }
     requires size { measured.plain ≤ max_size }
-    requires small { plain_length (leaf_physical leaf) (map (stored_at (leaf_tree leaf) (leaf_physical leaf)) (path_places (parts_of nested.now))) ≤ max_size }
-    ensures ok { IfOk result (λ body. AppendsSpelled (encoding_in deltas) (leaf_physical leaf.entry) out.items body.items (map (stored_at (leaf_tree leaf.entry) (leaf_physical leaf.entry)) (path_places (parts_of nested.now)))) }
+    requires small { plain_length (leaf_physical leaf) (map (stored_at (leaf_tree leaf) (leaf_physical leaf))
+        (path_places (parts_of nested.now))) ≤ max_size }
+    ensures ok { IfOk result (λ body. AppendsSpelled (encoding_in deltas)
+        (leaf_physical leaf.entry) out.items body.items (map
+        (stored_at (leaf_tree leaf.entry) (leaf_physical leaf.entry)) (path_places (parts_of nested.now)))) }
     ensures err { IfErr result (λ e. e ≡ Memory) }
 {
     match deltas {

@@ -75,7 +75,8 @@ pub fn spelling_of(
     physical_type: PhysicalType,
     wants_deltas: bool,
 ) -> Option<Deltas>
-    ensures { IsLeafType (type_view data_type.now) → IsSpelling wants_deltas (leaf_type (type_view data_type.now)) (physical_view physical_type) result }
+    ensures { IsLeafType (type_view data_type.now) → IsSpelling wants_deltas (leaf_type (type_view data_type.now))
+        (physical_view physical_type) result }
 {
     if !wants_deltas {
         return None;
@@ -94,7 +95,8 @@ pub fn page_encoding(
     wants_deltas: bool,
 ) -> Encoding
     requires { IsLeafType (type_view data_type.now) }
-    ensures { result ≡ encoding_name (page_encoding wants_deltas (leaf_type (type_view data_type.now)) (physical_view physical_type)) }
+    ensures { result ≡ encoding_name (page_encoding wants_deltas (leaf_type (type_view data_type.now))
+        (physical_view physical_type)) }
 {
     encoding_in(spelling_of(data_type, physical_type, wants_deltas))
 }

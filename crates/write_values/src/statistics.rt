@@ -42,7 +42,8 @@ fn null_statistics(leaf: Leaf<'_>, nested: &[Nested]) -> Statistics
     requires served { is_served (base (type_of (leaf_tree leaf))) (leaf_physical leaf) ≡ true }
     requires nulls { TellsNulls (leaf_tree leaf) (parts_of nested.now) }
     requires unordered { has_order (leaf_type (base (type_of (leaf_tree leaf)))) ≡ false }
-    ensures { AreStated true (leaf_type (base (type_of (leaf_tree leaf.entry)))) (leaf_physical leaf.entry) (value_column (leaf_tree leaf.entry) nested.now) (Some (statistics_view result)) }
+    ensures { AreStated true (leaf_type (base (type_of (leaf_tree leaf.entry)))) (leaf_physical leaf.entry)
+        (value_column (leaf_tree leaf.entry) nested.now) (Some (statistics_view result)) }
 {
     unordered_statistics(nested, measure(leaf, nested).values)
 }
@@ -57,8 +58,15 @@ fn decimal_statistics(
     requires well { IsPath (parts_of nested.now) }
     requires leaf { leaf_count_or 0 (parts_of nested.now) ≤ length array.now.1.0 }
     requires form { IsForm form }
-    requires held { ¬ HasWide (leaf_type (base array.now.0)) (form_physical form) (nested_column (value_at (leaf_array array.now.0 (map (value_i128 (base array.now.0)) array.now.1.0) array.now.1.1)) nested.now) }
-    ensures ok { IfOk result (λ s. AreStated true (leaf_type (base array.now.0)) (form_physical form) (nested_column (value_at (leaf_array array.now.0 (map (value_i128 (base array.now.0)) array.now.1.0) array.now.1.1)) nested.now) (Some (statistics_view s))) }
+    requires held { ¬ HasWide (leaf_type (base array.now.0)) (form_physical form)
+        (nested_column
+        (value_at (leaf_array array.now.0 (map (value_i128 (base array.now.0)) array.now.1.0) array.now.1.1))
+        nested.now) }
+    ensures ok { IfOk result (λ s. AreStated true (leaf_type (base array.now.0)) (form_physical form)
+        (nested_column
+        (value_at
+        (leaf_array array.now.0 (map (value_i128 (base array.now.0)) array.now.1.0) array.now.1.1)) nested.now)
+        (Some (statistics_view s))) }
     ensures err { IfErr result (λ e. e ≡ Memory) }
 {
     array.know();
@@ -71,8 +79,10 @@ fn all_statistics(alloc: Global, leaf: Leaf<'_>, nested: &[Nested]) -> Result<St
     requires leaf { leaf_count_or 0 (parts_of nested.now) ≤ tree_len (leaf_tree leaf) }
     requires served { is_served (base (type_of (leaf_tree leaf))) (leaf_physical leaf) ≡ true }
     requires nulls { TellsNulls (leaf_tree leaf) (parts_of nested.now) }
-    requires held { ¬ HasWide (leaf_type (base (type_of (leaf_tree leaf)))) (leaf_physical leaf) (value_column (leaf_tree leaf) nested.now) }
-    ensures ok { IfOk result (λ s. AreStated true (leaf_type (base (type_of (leaf_tree leaf.entry)))) (leaf_physical leaf.entry) (value_column (leaf_tree leaf.entry) nested.now) (Some (statistics_view s))) }
+    requires held { ¬ HasWide (leaf_type (base (type_of (leaf_tree leaf)))) (leaf_physical leaf)
+        (value_column (leaf_tree leaf) nested.now) }
+    ensures ok { IfOk result (λ s. AreStated true (leaf_type (base (type_of (leaf_tree leaf.entry))))
+        (leaf_physical leaf.entry) (value_column (leaf_tree leaf.entry) nested.now) (Some (statistics_view s))) }
     ensures err { IfErr result (λ e. e ≡ Memory) }
 {
     know_order(leaf);
@@ -125,8 +135,10 @@ pub fn leaf_statistics(
     requires leaf { leaf_count_or 0 (parts_of nested.now) ≤ tree_len (leaf_tree leaf) }
     requires served { is_served (base (type_of (leaf_tree leaf))) (leaf_physical leaf) ≡ true }
     requires nulls { TellsNulls (leaf_tree leaf) (parts_of nested.now) }
-    requires held { ¬ HasWide (leaf_type (type_of (leaf_tree leaf))) (leaf_physical leaf) (value_column (leaf_tree leaf) nested.now) }
-    ensures ok { IfOk result (λ s. AreStated is_wanted (leaf_type (type_of (leaf_tree leaf.entry))) (leaf_physical leaf.entry) (value_column (leaf_tree leaf.entry) nested.now) (option_map statistics_view s)) }
+    requires held { ¬ HasWide (leaf_type (type_of (leaf_tree leaf))) (leaf_physical leaf)
+        (value_column (leaf_tree leaf) nested.now) }
+    ensures ok { IfOk result (λ s. AreStated is_wanted (leaf_type (type_of (leaf_tree leaf.entry)))
+        (leaf_physical leaf.entry) (value_column (leaf_tree leaf.entry) nested.now) (option_map statistics_view s)) }
     ensures err { IfErr result (λ e. e ≡ Memory) }
 {
     if !is_wanted {
@@ -154,8 +166,10 @@ pub fn column_statistics(
     requires leaf { tree_len (boxed array.now) ≡ leaf_count_or 0 (parts_of nested.now) }
     requires nulls { TellsNulls (boxed array.now) (parts_of nested.now) }
     requires served { is_served (base (type_of (boxed array.now))) (physical_view physical_type) ≡ true }
-    requires held { ¬ HasWide (leaf_type (type_of (boxed array.now))) (physical_view physical_type) (value_column (boxed array.now) nested.now) }
-    ensures ok { IfOk result (λ s. AreStated is_wanted (leaf_type (type_of (boxed array.now))) (physical_view physical_type) (value_column (boxed array.now) nested.now) (option_map statistics_view s)) }
+    requires held { ¬ HasWide (leaf_type (type_of (boxed array.now))) (physical_view physical_type)
+        (value_column (boxed array.now) nested.now) }
+    ensures ok { IfOk result (λ s. AreStated is_wanted (leaf_type (type_of (boxed array.now)))
+        (physical_view physical_type) (value_column (boxed array.now) nested.now) (option_map statistics_view s)) }
     ensures err { IfErr result (λ e. e ≡ Memory) }
 {
     match leaf_of(array, physical_type) {

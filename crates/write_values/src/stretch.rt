@@ -30,7 +30,8 @@ pub fn stretch_size(leaf: Leaf<'_>, from: usize, to: usize) -> u128
     requires served { is_served (base (type_of (leaf_tree leaf))) (leaf_physical leaf) ≡ true }
     requires valued { is_valued (leaf_tree leaf) ≡ true }
     requires in_a_row { leaf_physical leaf ≢ boolean }
-    ensures { result ≡ plain_length (leaf_physical leaf.entry) (map (stored_at (leaf_tree leaf.entry) (leaf_physical leaf.entry)) (range from (to - from))) }
+    ensures { result ≡ plain_length (leaf_physical leaf.entry)
+        (map (stored_at (leaf_tree leaf.entry) (leaf_physical leaf.entry)) (range from (to - from))) }
 {
     know_order(leaf);
     match leaf {
@@ -67,7 +68,8 @@ fn push_run<L: LeafValues>(leaf: &L, from: usize, to: usize, out: Vec<u8>) -> Re
     requires ordered { from ≤ to }
     requires within { to ≤ L.count leaf.now }
     requires small { plain_length (L.physical leaf.now) (map (L.stored leaf.now) (range from (to - from))) ≤ max_size }
-    ensures ok { IfOk result (λ body. AppendsRow (L.physical leaf.now) out.items body.items (map (L.stored leaf.now) (range from (to - from)))) }
+    ensures ok { IfOk result (λ body. AppendsRow (L.physical leaf.now) out.items body.items
+        (map (L.stored leaf.now) (range from (to - from)))) }
     ensures err { IfErr result (λ e. e ≡ Memory) }
 {
     let mut out = out;
@@ -87,8 +89,10 @@ pub fn push_stretch(leaf: Leaf<'_>, from: usize, to: usize, out: Vec<u8>) -> Res
     requires served { is_served (base (type_of (leaf_tree leaf))) (leaf_physical leaf) ≡ true }
     requires valued { is_valued (leaf_tree leaf) ≡ true }
     requires in_a_row { leaf_physical leaf ≢ boolean }
-    requires small { plain_length (leaf_physical leaf) (map (stored_at (leaf_tree leaf) (leaf_physical leaf)) (range from (to - from))) ≤ max_size }
-    ensures ok { IfOk result (λ body. AppendsRow (leaf_physical leaf.entry) out.items body.items (map (stored_at (leaf_tree leaf.entry) (leaf_physical leaf.entry)) (range from (to - from)))) }
+    requires small { plain_length (leaf_physical leaf) (map (stored_at (leaf_tree leaf) (leaf_physical leaf))
+        (range from (to - from))) ≤ max_size }
+    ensures ok { IfOk result (λ body. AppendsRow (leaf_physical leaf.entry) out.items body.items
+        (map (stored_at (leaf_tree leaf.entry) (leaf_physical leaf.entry)) (range from (to - from)))) }
     ensures err { IfErr result (λ e. e ≡ Memory) }
 {
     know_order(leaf);

@@ -51,7 +51,8 @@ fn strings_size<O: Offset>(offsets: &OffsetsBuffer<O>, all: &[u8], from: usize, 
     requires places { IsPlaces offsets.now (length all.now) }
     requires ordered { from ≤ to }
     requires within { to < length offsets.now }
-    ensures { result ≡ plain_length byte_array (map (at_place (pieces_values offsets.now all.now)) (range from (to - from))) }
+    ensures { result ≡ plain_length byte_array (map (at_place (pieces_values offsets.now all.now))
+        (range from (to - from))) }
 {
     offsets.know();
     let span = offsets.place(to) - offsets.place(from);
@@ -82,7 +83,8 @@ fn picked_span<O: Offset>(
     requires few { count ≤ 64 }
     requires low { bits < 2 ^ count }
     requires within { from + count < length offsets.now }
-    ensures { result + 4 * length (picked bits from count) ≡ plain_length byte_array (map (at_place (pieces_values offsets.now all.now)) (picked bits from count)) }
+    ensures { result + 4 * length (picked bits from count) ≡ plain_length byte_array
+        (map (at_place (pieces_values offsets.now all.now)) (picked bits from count)) }
 {
     let _strings = offsets.len_proxy();
     let mut left = bits;
@@ -106,7 +108,8 @@ fn picked_size<O: Offset>(
     requires few { count ≤ 64 }
     requires low { bits < 2 ^ count }
     requires within { from + count < length offsets.now }
-    ensures { result ≡ plain_length byte_array (map (at_place (pieces_values offsets.now all.now)) (picked bits from count)) }
+    ensures { result ≡ plain_length byte_array (map (at_place (pieces_values offsets.now all.now))
+        (picked bits from count)) }
 {
     let _strings = offsets.len_proxy();
     let size = bits.count_ones() as usize;
@@ -157,7 +160,8 @@ fn put_string(places: &mut [u8], at: usize, all: &[u8], from: usize, to: usize) 
     requires room { at + 4 + (to - from) + 32 ≤ length places.old }
     ensures at { result ≡ at + 4 + (to - from) }
     ensures len { length places.new ≡ length places.old }
-    ensures is { AppendsRow byte_array (take at places.old) (take result places.new) (bytes (take (to - from) (drop from all.now)) ∷ []) }
+    ensures is { AppendsRow byte_array (take at places.old) (take result places.new)
+        (bytes (take (to - from) (drop from all.now)) ∷ []) }
 {
     let size = to - from;
     put_bytes(places, at, &(size as u32).to_le_bytes());
@@ -187,11 +191,14 @@ fn put_picked<O: Offset>(
     requires few { count ≤ 64 }
     requires low { bits < 2 ^ count }
     requires within { from + count < length offsets.now }
-    requires small { plain_length byte_array (map (at_place (pieces_values offsets.now all.now)) (picked bits from count)) ≤ max_size }
-    requires room { plain_length byte_array (map (at_place (pieces_values offsets.now all.now)) (picked bits from count)) + 32 ≤ length places.old }
+    requires small { plain_length byte_array (map (at_place (pieces_values offsets.now all.now))
+        (picked bits from count)) ≤ max_size }
+    requires room { plain_length byte_array (map (at_place (pieces_values offsets.now all.now))
+        (picked bits from count)) + 32 ≤ length places.old }
     ensures len { length places.new ≡ length places.old }
     ensures within { result ≤ length places.new }
-    ensures are { AppendsRow byte_array [] (take result places.new) (map (at_place (pieces_values offsets.now all.now)) (picked bits from count)) }
+    ensures are { AppendsRow byte_array [] (take result places.new)
+        (map (at_place (pieces_values offsets.now all.now)) (picked bits from count)) }
 {
     let _strings = offsets.len_proxy();
     let mut left = bits;
@@ -218,8 +225,10 @@ fn push_each<O: Offset>(
     requires few { count ≤ 64 }
     requires low { bits < 2 ^ count }
     requires within { from + count < length offsets.now }
-    requires small { plain_length byte_array (map (at_place (pieces_values offsets.now all.now)) (picked bits from count)) ≤ max_size }
-    ensures ok { OnOk result (AppendsRow byte_array out.old.items out.new.items (map (at_place (pieces_values offsets.now all.now)) (picked bits from count))) }
+    requires small { plain_length byte_array (map (at_place (pieces_values offsets.now all.now))
+        (picked bits from count)) ≤ max_size }
+    ensures ok { OnOk result (AppendsRow byte_array out.old.items out.new.items
+        (map (at_place (pieces_values offsets.now all.now)) (picked bits from count))) }
     ensures err { IfErr result (λ e. e ≡ Memory) }
 {
     let _strings = offsets.len_proxy();
@@ -259,10 +268,13 @@ fn push_short<O: Offset>(
     requires few { count ≤ 64 }
     requires low { bits < 2 ^ count }
     requires within { from + count < length offsets.now }
-    requires small { plain_length byte_array (map (at_place (pieces_values offsets.now all.now)) (picked bits from count)) ≤ max_size }
-    requires room { plain_length byte_array (map (at_place (pieces_values offsets.now all.now)) (picked bits from count)) + 32 ≤ room }
+    requires small { plain_length byte_array (map (at_place (pieces_values offsets.now all.now))
+        (picked bits from count)) ≤ max_size }
+    requires room { plain_length byte_array (map (at_place (pieces_values offsets.now all.now))
+        (picked bits from count)) + 32 ≤ room }
     requires fits { vec_len out.old + room < 2 ^ 64 }
-    ensures ok { OnOk result (AppendsRow byte_array out.old.items out.new.items (map (at_place (pieces_values offsets.now all.now)) (picked bits from count))) }
+    ensures ok { OnOk result (AppendsRow byte_array out.old.items out.new.items
+        (map (at_place (pieces_values offsets.now all.now)) (picked bits from count))) }
     ensures err { IfErr result (λ e. e ≡ Memory) }
 {
     let before = out.len();
@@ -285,8 +297,10 @@ fn push_picked<O: Offset>(
     requires few { count ≤ 64 }
     requires low { bits < 2 ^ count }
     requires within { from + count < length offsets.now }
-    requires small { plain_length byte_array (map (at_place (pieces_values offsets.now all.now)) (picked bits from count)) ≤ max_size }
-    ensures ok { OnOk result (AppendsRow byte_array out.old.items out.new.items (map (at_place (pieces_values offsets.now all.now)) (picked bits from count))) }
+    requires small { plain_length byte_array (map (at_place (pieces_values offsets.now all.now))
+        (picked bits from count)) ≤ max_size }
+    ensures ok { OnOk result (AppendsRow byte_array out.old.items out.new.items
+        (map (at_place (pieces_values offsets.now all.now)) (picked bits from count))) }
     ensures err { IfErr result (λ e. e ≡ Memory) }
 {
     let _strings = offsets.len_proxy();
@@ -311,8 +325,10 @@ fn push_strings<O: Offset>(
     requires places { IsPlaces offsets.now (length all.now) }
     requires ordered { from ≤ to }
     requires within { to < length offsets.now }
-    requires small { plain_length byte_array (map (at_place (pieces_values offsets.now all.now)) (range from (to - from))) ≤ max_size }
-    ensures ok { OnOk result (AppendsRow byte_array out.old.items out.new.items (map (at_place (pieces_values offsets.now all.now)) (range from (to - from)))) }
+    requires small { plain_length byte_array (map (at_place (pieces_values offsets.now all.now))
+        (range from (to - from))) ≤ max_size }
+    ensures ok { OnOk result (AppendsRow byte_array out.old.items out.new.items
+        (map (at_place (pieces_values offsets.now all.now)) (range from (to - from)))) }
     ensures err { IfErr result (λ e. e ≡ Memory) }
 {
     offsets.know();

@@ -99,7 +99,9 @@ impl Taker for CountsTruths {
 pub fn measure_truths(array: &BooleanArray, nested: &[Nested]) -> Measured
     requires well { IsPath (parts_of nested.now) }
     requires leaf { leaf_count_or 0 (parts_of nested.now) ≤ length array.now.1.0 }
-    ensures { Measures boolean (tree_len (leaf_array array.now.0 (map truth array.now.1.0) array.now.1.1)) (stored_at (leaf_array array.now.0 (map truth array.now.1.0) array.now.1.1) boolean) (path_places (parts_of nested.now)) result }
+    ensures { Measures boolean (tree_len (leaf_array array.now.0 (map truth array.now.1.0) array.now.1.1))
+        (stored_at (leaf_array array.now.0 (map truth array.now.1.0) array.now.1.1) boolean)
+        (path_places (parts_of nested.now)) result }
 {
     let mut counting = CountsTruths {
         places: array.len(),
@@ -271,7 +273,8 @@ impl<'a> Taker for PlainTruths<'a> {
 fn push_bytes(bytes: &[u8], count: usize, mut out: Vec<u8>) -> Result<Vec<u8>>
     requires enough { count ≤ 8 * length bytes.now }
     requires least { 8 * length bytes.now < count + 8 }
-    ensures ok { IfOk result (λ body. AppendsPlain boolean out.items body.items (map truth (bits_from bytes.now 0 count))) }
+    ensures ok { IfOk result (λ body. AppendsPlain boolean out.items body.items
+        (map truth (bits_from bytes.now 0 count))) }
     ensures err { IfErr result (λ e. e ≡ Memory) }
 {
     out.extend_from_slice(bytes)?;
@@ -287,7 +290,9 @@ pub fn push_truths(
 ) -> Result<Vec<u8>>
     requires well { IsPath (parts_of nested.now) }
     requires leaf { leaf_count_or 0 (parts_of nested.now) ≤ length array.now.1.0 }
-    ensures ok { IfOk result (λ body. AppendsPlain boolean out.items body.items (map (stored_at (leaf_array array.now.0 (map truth array.now.1.0) array.now.1.1) boolean) (path_places (parts_of nested.now)))) }
+    ensures ok { IfOk result (λ body. AppendsPlain boolean out.items body.items
+        (map (stored_at (leaf_array array.now.0 (map truth array.now.1.0) array.now.1.1) boolean)
+        (path_places (parts_of nested.now)))) }
     ensures err { IfErr result (λ e. e ≡ Memory) }
 {
     let mut truths = PlainTruths {

@@ -39,7 +39,8 @@ pub fn measure(leaf: Leaf<'_>, nested: &[Nested]) -> Measured
     requires leaf { leaf_count_or 0 (parts_of nested.now) ≤ tree_len (leaf_tree leaf) }
     requires served { is_served (base (type_of (leaf_tree leaf))) (leaf_physical leaf) ≡ true }
     requires nulls { TellsNulls (leaf_tree leaf) (parts_of nested.now) }
-    ensures { Measures (leaf_physical leaf.entry) (tree_len (leaf_tree leaf.entry)) (stored_at (leaf_tree leaf.entry) (leaf_physical leaf.entry)) (path_places (parts_of nested.now)) result }
+    ensures { Measures (leaf_physical leaf.entry) (tree_len (leaf_tree leaf.entry))
+        (stored_at (leaf_tree leaf.entry) (leaf_physical leaf.entry)) (path_places (parts_of nested.now)) result }
 {
     know_order(leaf);
     match leaf {
@@ -85,8 +86,10 @@ pub fn push_values(
     requires leaf { leaf_count_or 0 (parts_of nested.now) ≤ tree_len (leaf_tree leaf) }
     requires served { is_served (base (type_of (leaf_tree leaf))) (leaf_physical leaf) ≡ true }
     requires nulls { TellsNulls (leaf_tree leaf) (parts_of nested.now) }
-    requires small { plain_length (leaf_physical leaf) (map (stored_at (leaf_tree leaf) (leaf_physical leaf)) (path_places (parts_of nested.now))) ≤ max_size }
-    ensures ok { IfOk result (λ body. AppendsPlain (leaf_physical leaf.entry) out.items body.items (map (stored_at (leaf_tree leaf.entry) (leaf_physical leaf.entry)) (path_places (parts_of nested.now)))) }
+    requires small { plain_length (leaf_physical leaf) (map (stored_at (leaf_tree leaf) (leaf_physical leaf))
+        (path_places (parts_of nested.now))) ≤ max_size }
+    ensures ok { IfOk result (λ body. AppendsPlain (leaf_physical leaf.entry) out.items body.items
+        (map (stored_at (leaf_tree leaf.entry) (leaf_physical leaf.entry)) (path_places (parts_of nested.now)))) }
     ensures err { IfErr result (λ e. e ≡ Memory) }
 {
     know_order(leaf);
@@ -130,7 +133,9 @@ pub fn measure_values(
     requires well { IsPath (parts_of nested.now) }
     requires leaf { tree_len (boxed array.now) ≡ leaf_count_or 0 (parts_of nested.now) }
     requires nulls { TellsNulls (boxed array.now) (parts_of nested.now) }
-    ensures { MatchOption result (is_served (base (type_of (boxed array.now))) (physical_view physical_type) ≡ false) (Measures (physical_view physical_type) (tree_len (boxed array.now)) (stored_at (boxed array.now) (physical_view physical_type)) (path_places (parts_of nested.now))) }
+    ensures { MatchOption result (is_served (base (type_of (boxed array.now))) (physical_view physical_type) ≡ false)
+        (Measures (physical_view physical_type) (tree_len (boxed array.now))
+        (stored_at (boxed array.now) (physical_view physical_type)) (path_places (parts_of nested.now))) }
 {
     match leaf_of(array, physical_type) {
         Some(leaf) => Some(measure(leaf, nested)),

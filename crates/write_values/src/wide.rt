@@ -38,7 +38,8 @@ fn is_wide(decimals: &Decimals<'_>, i: usize) -> bool
 fn any_in_stretch(decimals: &Decimals<'_>, from: usize, to: usize) -> bool
     requires ordered { from ≤ to }
     requires within { to ≤ numbers_in decimals.now }
-    ensures { result ≡ any_wide (form_physical decimals.now.form) (map (number_at decimals.now) (range from (to - from))) }
+    ensures { result ≡ any_wide (form_physical decimals.now.form)
+        (map (number_at decimals.now) (range from (to - from))) }
 {
     let mut found = false;
     for i in from..to {
@@ -52,7 +53,8 @@ fn any_of_picked(decimals: &Decimals<'_>, from: usize, bits: u64, count: usize) 
     requires few { count ≤ 64 }
     requires low { bits < 2 ^ count }
     requires within { from + count ≤ numbers_in decimals.now }
-    ensures { result ≡ any_wide (form_physical decimals.now.form) (map (number_at decimals.now) (picked bits from count)) }
+    ensures { result ≡ any_wide (form_physical decimals.now.form)
+        (map (number_at decimals.now) (picked bits from count)) }
 {
     let _places = decimals.array.len();
     let mut found = false;
@@ -108,7 +110,8 @@ impl<'a> Taker for Finding<'a> {
 fn find_wide(decimals: Decimals<'_>, nested: &[Nested]) -> bool
     requires well { IsPath (parts_of nested.now) }
     requires leaf { leaf_count_or 0 (parts_of nested.now) ≤ numbers_in decimals }
-    ensures { result ≡ any_wide (form_physical decimals.entry.form) (map (number_at decimals.entry) (path_places (parts_of nested.now))) }
+    ensures { result ≡ any_wide (form_physical decimals.entry.form)
+        (map (number_at decimals.entry) (path_places (parts_of nested.now))) }
 {
     let mut finding = Finding {
         decimals,
@@ -126,7 +129,8 @@ fn leaf_has_wide(leaf: Leaf<'_>, nested: &[Nested]) -> bool
     requires leaf { leaf_count_or 0 (parts_of nested.now) ≤ tree_len (leaf_tree leaf) }
     requires served { is_served (base (type_of (leaf_tree leaf))) (leaf_physical leaf) ≡ true }
     requires decimals { is_decimal (base (type_of (leaf_tree leaf))) ≡ true }
-    ensures { result ≡ any_wide (leaf_physical leaf.entry) (map (value_at (leaf_tree leaf.entry)) (path_places (parts_of nested.now))) }
+    ensures { result ≡ any_wide (leaf_physical leaf.entry) (map (value_at (leaf_tree leaf.entry))
+        (path_places (parts_of nested.now))) }
 {
     match leaf {
         Leaf::Decimal(array, form) => {
@@ -207,7 +211,8 @@ pub fn has_wide(array: &ArrayBox, physical_type: PhysicalType, nested: &[Nested]
     requires well { IsPath (parts_of nested.now) }
     requires leaf { tree_len (boxed array.now) ≡ leaf_count_or 0 (parts_of nested.now) }
     requires served { is_served (base (type_of (boxed array.now))) (physical_view physical_type) ≡ true }
-    ensures { IsTrue result ↔ HasWide (leaf_type (type_of (boxed array.now))) (physical_view physical_type) (value_column (boxed array.now) nested.now) }
+    ensures { IsTrue result ↔ HasWide (leaf_type (type_of (boxed array.now))) (physical_view physical_type)
+        (value_column (boxed array.now) nested.now) }
 {
     if !is_decimal(array.data_type()) {
         return false;

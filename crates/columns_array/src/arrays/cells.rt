@@ -185,7 +185,8 @@ fn string_width(data_type: &DataType) -> usize
 #[tactic(auto, using(crate::proofs::Cells::chunk_within, crate::proofs::Cells::chunks_at))]
 fn chunk_at(array: &FixedSizeBinaryArray, i: usize) -> &[u8]
     requires { i < fixed_count (base array.now.0) array.now.1.0 }
-    ensures { result.now ≡ slice_index_or (chunks (fixed_width (base array.now.0)) (fixed_count (base array.now.0) array.now.1.0) array.now.1.0) i [] }
+    ensures { result.now ≡ slice_index_or (chunks (fixed_width (base array.now.0))
+        (fixed_count (base array.now.0) array.now.1.0) array.now.1.0) i [] }
 {
     let width = string_width(array.data_type());
     let bytes = array.values();
@@ -196,7 +197,9 @@ fn chunk_at(array: &FixedSizeBinaryArray, i: usize) -> &[u8]
 #[tactic(auto, using(crate::proofs::Cells::chunk_mapped))]
 fn chunk_cell(array: &FixedSizeBinaryArray, i: usize) -> Cell<'_>
     requires { i < fixed_count (base array.now.0) array.now.1.0 }
-    ensures { IsValue result (leaf_at (chunks_values (fixed_width (base array.now.0)) (fixed_count (base array.now.0) array.now.1.0) array.now.1.0) i) }
+    ensures { IsValue result
+        (leaf_at (chunks_values (fixed_width (base array.now.0))
+        (fixed_count (base array.now.0) array.now.1.0) array.now.1.0) i) }
 {
     Cell::Bytes(chunk_at(array, i))
 }

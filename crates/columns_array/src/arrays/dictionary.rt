@@ -61,8 +61,10 @@ impl DictionaryArray {
         keys: DictionaryKeys,
         values: ArrayBox,
     ) -> Result<DictionaryArray>
-        ensures made { IfOk result (λ a. a ≡ dictionary_array (type_view data_type) (keys_of keys) (boxed values) (key_mask keys)) }
-        ensures refused { IsErrOf result (Error.InvalidArgumentError A.A8) ↔ ¬ (FitsKeys (base (type_view data_type)) keys (boxed values)) }
+        ensures made { IfOk result (λ a. a ≡ dictionary_array (type_view data_type) (keys_of keys) (boxed values)
+            (key_mask keys)) }
+        ensures refused { IsErrOf result (Error.InvalidArgumentError A.A8)
+            ↔ ¬ (FitsKeys (base (type_view data_type)) keys (boxed values)) }
         ensures err { IfErr result (λ e. (e ≡ Error.Memory) ⊎ (e ≡ Error.InvalidArgumentError A.A8)) }
     {
         values.know();
@@ -83,7 +85,8 @@ impl DictionaryArray {
     /// Callers learn what holds of every such array.
     pub fn know(&self)
         ensures sound { IsSound self.now }
-        ensures parts { self.now ≡ dictionary_array (type_of self.now) (keys_in self.now) (child_of self.now) (mask_of self.now) }
+        ensures parts { self.now ≡ dictionary_array (type_of self.now) (keys_in self.now) (child_of self.now)
+            (mask_of self.now) }
     {
         let _ = &self.data_type;
     }

@@ -88,7 +88,8 @@ fn is_all_null(a: &ArrayBox) -> bool
 fn is_same_run(a: &ArrayBox, a_from: usize, b: &ArrayBox, b_from: usize, count: usize) -> bool
     requires left { a_from + count ≤ tree_len (boxed a.now) }
     requires right { b_from + count ≤ tree_len (boxed b.now) }
-    ensures { IsTrue result ↔ slots_from (slot_at (boxed a.now)) a_from count ≡ slots_from (slot_at (boxed b.now)) b_from count }
+    ensures { IsTrue result ↔ slots_from (slot_at (boxed a.now)) a_from count
+        ≡ slots_from (slot_at (boxed b.now)) b_from count }
 {
     if is_all_null(a) && is_all_null(b) {
         return true;
@@ -127,7 +128,8 @@ impl ArrayBox {
     /// null entry of a dictionary is a null slot, and neither keys nor offsets count beside what they stand for.
     #[tactic(auto, using(crate::proofs::Same::slots_same))]
     pub fn equal(&self, other: &ArrayBox) -> bool
-        ensures { IsTrue result ↔ (type_of (boxed self.now) ≡ type_of (boxed other.now)) × (slots (boxed self.now) ≡ slots (boxed other.now)) }
+        ensures { IsTrue result ↔ (type_of (boxed self.now) ≡ type_of (boxed other.now))
+            × (slots (boxed self.now) ≡ slots (boxed other.now)) }
     {
         let count = self.len();
         is_same_type(self.data_type(), other.data_type())

@@ -51,8 +51,11 @@ impl FixedSizeListArray {
         values: ArrayBox,
         validity: Option<Bitmap>,
     ) -> Result<FixedSizeListArray>
-        ensures made { IfOk result (λ a. a ≡ fixed_list_array (type_view data_type) (fixed_size (base (type_view data_type))) (tree_len (boxed values) / fixed_size (base (type_view data_type))) (boxed values) validity) }
-        ensures refused { IsErrOf result (Error.InvalidArgumentError A.A8) ↔ ¬ (FitsFixedLists (base (type_view data_type)) (boxed values) validity) }
+        ensures made { IfOk result (λ a. a ≡ fixed_list_array (type_view data_type)
+            (fixed_size (base (type_view data_type))) (tree_len (boxed values) / fixed_size
+            (base (type_view data_type))) (boxed values) validity) }
+        ensures refused { IsErrOf result (Error.InvalidArgumentError A.A8)
+            ↔ ¬ (FitsFixedLists (base (type_view data_type)) (boxed values) validity) }
         ensures err { IfErr result (λ e. (e ≡ Error.Memory) ⊎ (e ≡ Error.InvalidArgumentError A.A8)) }
     {
         values.know();
@@ -76,7 +79,8 @@ impl FixedSizeListArray {
     /// Callers learn what holds of every such array.
     pub fn know(&self)
         ensures sound { IsSound self.now }
-        ensures parts { self.now ≡ fixed_list_array (type_of self.now) (fixed_size (base (type_of self.now))) (tree_len self.now) (child_of self.now) (mask_of self.now) }
+        ensures parts { self.now ≡ fixed_list_array (type_of self.now) (fixed_size (base (type_of self.now)))
+            (tree_len self.now) (child_of self.now) (mask_of self.now) }
     {
         let _ = &self.data_type;
     }

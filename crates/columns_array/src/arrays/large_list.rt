@@ -45,8 +45,10 @@ impl LargeListArray {
     ) -> Result<LargeListArray>
         ensures made { IfOk result (λ a. a ≡ list_array (type_view data_type) offsets (boxed values) validity) }
         ensures overflow { IsErrOf result (Error.Overflow V.V1) ↔ 2 ^ 63 ≤ tree_len (boxed values) }
-        ensures refused { IsErrOf result (Error.InvalidArgumentError A.A8) ↔ (tree_len (boxed values) < 2 ^ 63) × ¬ (FitsLists (large_item (base (type_view data_type))) offsets (boxed values) validity) }
-        ensures err { IfErr result (λ e. (e ≡ Error.Memory) ⊎ (e ≡ Error.Overflow V.V1) ⊎ (e ≡ Error.InvalidArgumentError A.A8)) }
+        ensures refused { IsErrOf result (Error.InvalidArgumentError A.A8) ↔ (tree_len (boxed values) < 2 ^ 63)
+            × ¬ (FitsLists (large_item (base (type_view data_type))) offsets (boxed values) validity) }
+        ensures err { IfErr result (λ e. (e ≡ Error.Memory) ⊎ (e ≡ Error.Overflow V.V1)
+            ⊎ (e ≡ Error.InvalidArgumentError A.A8)) }
     {
         values.know();
         offsets.know();
@@ -72,7 +74,8 @@ impl LargeListArray {
     pub fn know(&self)
         ensures sound { IsSound self.now }
         ensures typed { large_item (base (type_of self.now)) ≡ Some (type_of (child_of self.now)) }
-        ensures parts { self.now ≡ list_array (type_of self.now) (offsets_of self.now) (child_of self.now) (mask_of self.now) }
+        ensures parts { self.now ≡ list_array (type_of self.now) (offsets_of self.now) (child_of self.now)
+            (mask_of self.now) }
     {
         let _ = &self.data_type;
     }

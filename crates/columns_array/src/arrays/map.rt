@@ -45,8 +45,10 @@ impl MapArray {
     ) -> Result<MapArray>
         ensures made { IfOk result (λ a. a ≡ list_array (type_view data_type) offsets (boxed field) validity) }
         ensures overflow { IsErrOf result (Error.Overflow V.V1) ↔ 2 ^ 31 ≤ tree_len (boxed field) }
-        ensures refused { IsErrOf result (Error.InvalidArgumentError A.A8) ↔ (tree_len (boxed field) < 2 ^ 31) × ¬ (FitsLists (map_item (base (type_view data_type))) offsets (boxed field) validity) }
-        ensures err { IfErr result (λ e. (e ≡ Error.Memory) ⊎ (e ≡ Error.Overflow V.V1) ⊎ (e ≡ Error.InvalidArgumentError A.A8)) }
+        ensures refused { IsErrOf result (Error.InvalidArgumentError A.A8) ↔ (tree_len (boxed field) < 2 ^ 31)
+            × ¬ (FitsLists (map_item (base (type_view data_type))) offsets (boxed field) validity) }
+        ensures err { IfErr result (λ e. (e ≡ Error.Memory) ⊎ (e ≡ Error.Overflow V.V1)
+            ⊎ (e ≡ Error.InvalidArgumentError A.A8)) }
     {
         field.know();
         offsets.know();
@@ -72,7 +74,8 @@ impl MapArray {
     pub fn know(&self)
         ensures sound { IsSound self.now }
         ensures typed { map_item (base (type_of self.now)) ≡ Some (type_of (child_of self.now)) }
-        ensures parts { self.now ≡ list_array (type_of self.now) (offsets_of self.now) (child_of self.now) (mask_of self.now) }
+        ensures parts { self.now ≡ list_array (type_of self.now) (offsets_of self.now) (child_of self.now)
+            (mask_of self.now) }
     {
         let _ = &self.data_type;
     }

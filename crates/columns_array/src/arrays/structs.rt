@@ -65,7 +65,8 @@ impl StructArray {
         validity: Option<Bitmap>,
     ) -> Result<StructArray>
         ensures made { IfOk result (λ a. a ≡ struct_array (type_view data_type) (all_boxed values.items) validity) }
-        ensures refused { IsErrOf result (Error.InvalidArgumentError A.A8) ↔ ¬ (FitsStruct (base (type_view data_type)) (all_boxed values.items) validity) }
+        ensures refused { IsErrOf result (Error.InvalidArgumentError A.A8)
+            ↔ ¬ (FitsStruct (base (type_view data_type)) (all_boxed values.items) validity) }
         ensures err { IfErr result (λ e. e ≡ Error.InvalidArgumentError A.A8) }
     {
         let size = match values.first() {

@@ -5,7 +5,7 @@ pub returns : goal.returns
 returns c e = record {
   rep_size = c.requires.reps;
   def_size = c.requires.defs;
-  few = omega (arith, c.parts.ensures, c.if-parts-ge64.false);
+  few = omega (arith, c.depth.ensures, c.if-depth-ge64.false);
   low = omega (arith, c.if-top-gt255.false);
   follow = c.told_follow.ensures e;
 }
