@@ -114,7 +114,7 @@ type_known fs (data_page h) t a e o = o.0 (i32_same (get 1 fs) t (pos 0) e a.0)
 type_known fs (dictionary_page h) t a e o = o.1 (i32_same (get 1 fs) t (pos 2) e a.0)
 type_known fs (data_page_2 h) t a e o = o.2 (i32_same (get 1 fs) t (pos 3) e a.0)
 
-known : (v : Value) (h : PageHeader) → SpellsHeader v h → HasNone (SpellsOtherType v)
+pub known : (v : Value) (h : PageHeader) → SpellsHeader v h → HasNone (SpellsOtherType v)
 known (struct fs) h s t o = type_known fs h.header t s.header o.0 o.1
 known _ h s t o = absurd s
 

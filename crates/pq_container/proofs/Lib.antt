@@ -1,5 +1,6 @@
 pub mod Eachs
 pub mod Fours
+pub mod Fronts
 pub mod Lookups
 pub mod Parts
 pub mod FromBytes

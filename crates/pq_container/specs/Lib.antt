@@ -1,3 +1,4 @@
+pub mod Ahead
 pub mod Raw
 pub mod RawChunk
 pub use Rattle.pq_metadata.specs.Elements

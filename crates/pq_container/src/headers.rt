@@ -15,6 +15,7 @@ ghost use Rattle.pq_tree.specs.Counted.{IsCountedV1, IsCountedV2, IsCounted};
 use crate::fields::{needed_i32, needed_struct, optional_i32};
 use crate::kinds::as_struct;
 use crate::misfit::Misfit;
+use crate::straight::data_page_header;
 use columns_base::{Error, N, S};
 use pq_thrift::{Thrift, read_thrift};
 use pq_tree::{
@@ -141,6 +142,26 @@ fn struct_reason(value: &Thrift) -> Error
     }
 }
 
+/// The header that stands in front, read as a Thrift value first.
+fn header_by_value(alloc: Global, bytes: &[u8]) -> Result<(PageHeader, usize), Error>
+    ensures within { IfOk result (λ x. x.1 ≤ length bytes.now) }
+    ensures found { IfOk result (λ x. IsHeaderText (take x.1 bytes.now) (page_header_view x.0)) }
+    ensures counted { IfOk result (λ x. IsCounted x.0.header) }
+    ensures none { IfErr result (λ e. (e ≡ Memory) ⊎ HasNone (Begins IsHeaderText bytes.now)) }
+    ensures other_type { ComesWhere (NotYetImplemented N4) (IsOfOtherType bytes.now) result }
+    ensures refused { ComesWhere (OutOfSpec S3) (HasNone (Begins IsHeaderText bytes.now)
+        × (¬ (IsOfOtherType bytes.now))) result }
+{
+    let (value, size) = match read_thrift(alloc, bytes) {
+        Ok(read) => read,
+        Err(error) => return Err(header_reason(error)),
+    };
+    match page_header_from(&value) {
+        Ok(header) => Ok((header, size)),
+        Err(_) => Err(struct_reason(&value)),
+    }
+}
+
 /// Reads the page header that stands in front (Parquet format, `PageHeader`), and gives it with
 /// the number of its bytes. What follows it is not looked at.
 ///
@@ -159,12 +180,8 @@ pub fn read_page_header(alloc: Global, bytes: &[u8]) -> Result<(PageHeader, usiz
     ensures refused { ComesWhere (OutOfSpec S3) (HasNone (Begins IsHeaderText bytes.now)
         × (¬ (IsOfOtherType bytes.now))) result }
 {
-    let (value, size) = match read_thrift(alloc, bytes) {
-        Ok(read) => read,
-        Err(error) => return Err(header_reason(error)),
-    };
-    match page_header_from(&value) {
-        Ok(header) => Ok((header, size)),
-        Err(_) => Err(struct_reason(&value)),
+    match data_page_header(bytes) {
+        Some(read) => Ok(read),
+        None => header_by_value(alloc, bytes),
     }
 }

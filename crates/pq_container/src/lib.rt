@@ -14,6 +14,7 @@ mod kinds;
 mod metadata;
 mod misfit;
 mod statistics;
+mod straight;
 mod texts;
 
 pub use footer::read_footer;
