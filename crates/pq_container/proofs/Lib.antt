@@ -1,6 +1,8 @@
 pub mod Eachs
+pub mod FooterFronts
 pub mod Fours
 pub mod Fronts
+pub mod Lists
 pub mod Lookups
 pub mod Parts
 pub mod FromBytes

@@ -14,7 +14,7 @@ use Rattle.pq_thrift.specs.Reading.{max_depth}
 use Rattle.pq_thrift.specs.Value.{Value, struct, view}
 use Rattle.pq_thrift.proofs.OneReading.{same_reading}
 use Rattle.pq_metadata.specs.Encrypted.{SaysEncrypted}
-use Rattle.pq_metadata.specs.FlatFooter.{FlatFooter, SpellsFlatFooter, flat_form}
+use Rattle.pq_metadata.specs.FlatFooter.{FlatFooter, SpellsFlatFooter, SpellsFlatRecord, flat_form}
 use Rattle.pq_metadata.specs.Footer.{Footer, SpellsFooter}
 use Rattle.pq_tree.specs.Forest.{AreTrees, RefusesTrees}
 use Rattle.pq_metadata.specs.Metadata.{IsFooterText, FooterIsEncrypted, NoFooter, RefusesMetadata}
@@ -31,6 +31,10 @@ to_flat _ f s = absurd s
 from_flat : (v : Value) (f : Footer) → SpellsFlatFooter v (flat_form f) → SpellsFooter v f
 from_flat (struct fs) f s = (flat_same fs f).1 s
 from_flat _ f s = absurd s
+
+-- a footer whose flat form stands in front
+pub begins_footer : (bytes : List ℕ) (f : Footer) (flat : FlatFooter) → Begins SpellsFlatRecord bytes flat → flat_form f ≡ flat → Begins IsFooterText bytes f
+begins_footer bytes f flat b e = record { text = b.text; rest = b.rest; parts = b.parts; spells = (b.spells.0, b.spells.1, b.spells.2, from_flat b.spells.0 f (subst (SpellsFlatFooter b.spells.0) (sym e) b.spells.3)) }
 
 -- ---- no value is read
 

@@ -7,6 +7,7 @@ mod elements;
 mod encryption;
 mod fields;
 mod footer;
+mod footer_bytes;
 mod frame;
 mod headers;
 mod keys;

@@ -13,6 +13,7 @@ ghost use Rattle.pq_numbers.specs.Texts.{Begins};
 
 use crate::encryption::says_encrypted;
 use crate::footer::footer_from;
+use crate::footer_bytes::straight_footer;
 use crate::frame::{ends_encrypted, read_frame};
 use columns_base::{Error, N, S};
 use pq_thrift::read_thrift;
@@ -49,6 +50,36 @@ fn metadata_of(alloc: Global, footer: FlatFooter) -> Result<FileMetaData, Error>
     })
 }
 
+/// The footer that stands in front, where it is in the spelling that most writers choose. An error
+/// says nothing of it.
+fn straight_metadata(alloc: Global, bytes: &[u8]) -> Result<FileMetaData, Error>
+    ensures found { IfOk result (λ m. Begins IsFooterText bytes.now (metadata_view m)) }
+    ensures described { IfOk result (λ m. GroupsAreDescribed (columns_in
+        (metadata_view m).schema.fields) m.row_groups.items) }
+    ensures shallow { IfOk result (λ m. schema_nesting (metadata_view m).schema ≤ 128) }
+    ensures pairs { IfOk result (λ m. IfSome m.key_value_metadata (λ keys. 0 < length keys.items)) }
+{
+    let footer = straight_footer(alloc, bytes)?;
+    metadata_of(alloc, footer)
+}
+
+/// The footer that stands in front, read as a Thrift value first.
+fn metadata_by_value(alloc: Global, bytes: &[u8]) -> Result<FileMetaData, Error>
+    ensures found { IfOk result (λ m. Begins IsFooterText bytes.now (metadata_view m)) }
+    ensures described { IfOk result (λ m. GroupsAreDescribed (columns_in
+        (metadata_view m).schema.fields) m.row_groups.items) }
+    ensures shallow { IfOk result (λ m. schema_nesting (metadata_view m).schema ≤ 128) }
+    ensures pairs { IfOk result (λ m. IfSome m.key_value_metadata (λ keys. 0 < length keys.items)) }
+    ensures refused { IfErr result (RefusesMetadata bytes.now) }
+{
+    let (value, _) = read_thrift(alloc, bytes)?;
+    if says_encrypted(&value) {
+        return Err(Error::NotYetImplemented(N::N2));
+    }
+    let footer = footer_from(alloc, &value)?;
+    metadata_of(alloc, footer)
+}
+
 /// Reads the footer that stands in front (Parquet format, `FileMetaData`). What follows it is not
 /// looked at. Each chunk has the descriptor of the leaf at its place, and none where there is no
 /// such leaf. A list without pairs counts as none.
@@ -67,12 +98,10 @@ pub fn read_footer_metadata(alloc: Global, bytes: &[u8]) -> Result<FileMetaData,
     ensures pairs { IfOk result (λ m. IfSome m.key_value_metadata (λ keys. 0 < length keys.items)) }
     ensures refused { IfErr result (RefusesMetadata bytes.now) }
 {
-    let (value, _) = read_thrift(alloc, bytes)?;
-    if says_encrypted(&value) {
-        return Err(Error::NotYetImplemented(N::N2));
+    match straight_metadata(alloc, bytes) {
+        Ok(metadata) => Ok(metadata),
+        Err(_) => metadata_by_value(alloc, bytes),
     }
-    let footer = footer_from(alloc, &value)?;
-    metadata_of(alloc, footer)
 }
 
 /// Reads the footer of a whole file (Parquet format, "File format" and `FileMetaData`). Each chunk

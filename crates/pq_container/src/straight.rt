@@ -14,7 +14,7 @@ use pq_numbers::{from_zigzag, take_varint};
 use pq_tree::{DataPageHeader, DataPageHeaderV1, PageHeader, TypedPageHeader};
 
 /// What stands behind the byte, where it stands in front.
-fn behind(byte: u8, bytes: &[u8]) -> Option<&[u8]>
+pub fn behind(byte: u8, bytes: &[u8]) -> Option<&[u8]>
     ensures { IfSome result (λ rest. bytes.now ≡ byte ∷ rest.now) }
 {
     match bytes {
@@ -24,7 +24,7 @@ fn behind(byte: u8, bytes: &[u8]) -> Option<&[u8]>
 }
 
 /// The byte at the front, and what stands behind it.
-fn first(bytes: &[u8]) -> Option<(u8, &[u8])>
+pub fn first(bytes: &[u8]) -> Option<(u8, &[u8])>
     ensures { IfSome result (λ x. bytes.now ≡ x.0 ∷ x.1.now) }
 {
     match bytes {
@@ -34,7 +34,7 @@ fn first(bytes: &[u8]) -> Option<(u8, &[u8])>
 }
 
 /// The number at the front, and what stands behind it.
-fn number(bytes: &[u8]) -> Option<(u64, &[u8])>
+pub fn number(bytes: &[u8]) -> Option<(u64, &[u8])>
     ensures { IfSome result (λ x. Fronts (λ t. IsNumber t x.0) bytes.now x.1.now) }
 {
     // Most numbers are one byte or two.
@@ -50,7 +50,7 @@ fn number(bytes: &[u8]) -> Option<(u64, &[u8])>
 }
 
 /// The number of 32 bits in the field with this head, and what stands behind it.
-fn number_field(head: u8, bytes: &[u8]) -> Option<(i32, &[u8])>
+pub fn number_field(head: u8, bytes: &[u8]) -> Option<(i32, &[u8])>
     ensures { IfSome result (λ x. FrontsBehind head (IsShort x.0) bytes.now x.1.now) }
 {
     let rest = behind(head, bytes)?;
@@ -82,7 +82,7 @@ fn size_field(head: u8, bytes: &[u8]) -> Option<(usize, &[u8])>
 }
 
 /// What stands behind a byte string.
-fn past_text(bytes: &[u8]) -> Option<&[u8]>
+pub fn past_text(bytes: &[u8]) -> Option<&[u8]>
     ensures { IfSome result (λ rest. (s : List ℕ) × Fronts (λ t. IsBinary t s) bytes.now rest.now) }
 {
     let (length, rest) = number(bytes)?;

@@ -14,7 +14,7 @@ use Rattle.pq_container.proofs.Encryptions.{if_true, if_false}
 use Rattle.pq_container.proofs.FromBytes.{Told}
 use Rattle.pq_container.proofs.MetadataReads.{metadata_nothing, metadata_encrypted, metadata_none, metadata_found, metadata_refused}
 use Rattle.pq_tree.proofs.Refusals.{err_exit, if_ok_more, if_err_more}
-use Rattle.pq_container.proofs.metadata.read_footer_metadata.Goals as goal
+use Rattle.pq_container.proofs.metadata.metadata_by_value.Goals as goal
 
 pub returns-in_err-value-clause-refused : goal.returns-in_err-value-clause-refused
 returns-in_err-value-clause-refused c =
