@@ -1,5 +1,5 @@
 -- The set bits of a word, as a count of levels.
-use Rattle.std.proofs.Common.{◌≡◌, ℕ, zero, suc, ◌+◌, ◌/◌, ◌%◌, ◌^◌, ◌<◌, ◌≤◌, ◌==◌, Bool, cond, count_by, List, [], ◌∷◌, map, length, take, replicate, get_or, refl, arith, ap, sym, ◌∙◌}
+use Rattle.std.proofs.Common.{◌≡◌, ℕ, zero, suc, ◌+◌, ◌/◌, ◌%◌, ◌^◌, ◌<◌, ◌==◌, Bool, cond, count_by, List, [], ◌∷◌, map, length, arith, ap, sym, ◌∙◌}
 use Rattle.std.proofs.Common.{count_ones}
 use Rattle.std.proofs.lemmas.Nat.{ones_le_self}
 use Rattle.std.proofs.lemmas.List.Sums.{sum_by-cons}
@@ -16,11 +16,3 @@ ones-count (suc n) w f (x ∷ xs) h l e =
     let rest : count_ones (w / 2) ≡ count_by f xs = ones-count n (w / 2) f xs (omega (arith, h)) (omega (arith, l)) (tails _ _ _ _ e) in
     let low : ◌≡◌ {A = ℕ} (cond (f x) 1 0) (w % 2) = ap (λ (b : Bool). cond b 1 0) (sym here) ∙ bit-of (w % 2) (omega arith) in
     ones_step w ∙ (ap (λ (k : ℕ). w % 2 + k) rest ∙ (ap (λ (k : ℕ). k + count_by f xs) (sym low) ∙ sym (sum_by-cons (λ y. cond (f y) 1 0) x xs)))
-
--- where no level is above 0, the first are zeros
-pub zeros-front : (xs : List ℕ) (n : ℕ) → ((k : ℕ) → k < length xs → get_or xs k 0 ≤ 0) → n ≤ length xs → take n xs ≡ replicate n 0
-zeros-front xs zero z h = refl
-zeros-front [] (suc n) z h = absurd (omega (arith, h))
-zeros-front (x ∷ xs) (suc n) z h =
-    let e : x ≡ 0 = omega (arith, z 0 (omega arith)) in
-    rw e (ap (λ (t : List ℕ). 0 ∷ t) (zeros-front xs n (λ k l. z (suc k) (omega (arith, l))) (omega (arith, h))))

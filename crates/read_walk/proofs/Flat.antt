@@ -1,5 +1,5 @@
 -- Pairs that begin a row each.
-use Rattle.std.proofs.Common.{◌≡◌, ℕ, zero, suc, ◌*◌, ◌/◌, ◌%◌, ◌^◌, ◌<◌, ◌≤◌, ◌++◌, inl, inr, ◌-◌, ◌==◌, pow-suc, map, Bool, true, false, nat_le, nat_eq, Ok, List, [], ◌∷◌, length, take, replicate, get_or, refl, arith, ap, sym, ◌∙◌, append-nil}
+use Rattle.std.proofs.Common.{◌≡◌, ℕ, zero, suc, ◌/◌, ◌%◌, ◌<◌, ◌≤◌, ◌++◌, inl, inr, map, Bool, true, false, nat_le, Ok, List, [], ◌∷◌, length, replicate, get_or, refl, arith, ap, sym, ◌∙◌, append-nil}
 use Rattle.std.proofs.lemmas.Bool.Decides.{leb_tells}
 use Rattle.std.proofs.lemmas.List.{length-replicate}
 use Rattle.pq_numbers.specs.Bits.{digits_of}
@@ -15,47 +15,23 @@ use Rattle.read_walk.proofs.Decoding.{decoded-none, front-mixed, cannot-first}
 use Rattle.read_walk.specs.Pairs.{Item, zip_items, block_items, pair_items, up_to_maxima, behind}
 use Rattle.read_walk.proofs.Zips.{zip-even}
 
-pub zeros-at : (n m k : ℕ) → ◌≡◌ {A = ℕ} (get_or (take n (replicate m 0)) k 0) 0
-zeros-at zero m k = refl
-zeros-at (suc n) zero k = refl
-zeros-at (suc n) (suc m) zero = refl
-zeros-at (suc n) (suc m) (suc k) = zeros-at n m k
-
-zero-bit : (r : ℕ) → r < 2 → ((1 - r) == 1) ≡ nat_eq r 0
-zero-bit zero h = refl
-zero-bit (suc zero) h = refl
-zero-bit (suc (suc r)) h = absurd (omega (arith, h))
-
--- the bits that are not set
-pub zero-bits : (n w : ℕ) → w < 2 ^ n → word_bits (2 ^ n - 1 - w) n ≡ map (λ d. nat_eq d 0) (digits_of 2 n w)
-zero-bits zero w h = refl
-zero-bits (suc n) w h =
-    let p : 2 ^ suc n ≡ 2 ^ n * 2 = pow-suc 2 n in
-    let low : (2 ^ suc n - 1 - w) % 2 ≡ 1 - w % 2 = omega (arith, p, h) in
-    let high : (2 ^ suc n - 1 - w) / 2 ≡ 2 ^ n - 1 - w / 2 = omega (arith, p, h) in
-    rw (low, high, zero-bit (w % 2) (omega arith)) (ap (λ (bs : List Bool). nat_eq (w % 2) 0 ∷ bs) (zero-bits n (w / 2) (omega (arith, p, h))))
-
 -- a word's bits as numbers
 pub word-digits : (n w : ℕ) → map bit (word_bits w n) ≡ digits_of 2 n w
 word-digits zero w = refl
 word-digits (suc n) w = rw (bit-of (w % 2) (omega arith)) (ap (λ (ds : List ℕ). w % 2 ∷ ds) (word-digits n (w / 2)))
 
--- a bit's level is at most 1
-pub bit-level : (n m k : ℕ) → get_or (digits_of 2 n m) k 0 ≤ 1
-bit-level zero m k = omega arith
-bit-level (suc n) m zero = omega arith
-bit-level (suc n) m (suc k) = bit-level n (m / 2) k
+-- no bit is set in 0
+pub no-bits : (n : ℕ) → map bit (word_bits 0 n) ≡ replicate n 0
+no-bits zero = refl
+no-bits (suc n) = ap (λ (ds : List ℕ). 0 ∷ ds) (no-bits n)
+
+pub zeros-at : (n k : ℕ) → ◌≡◌ {A = ℕ} (get_or (replicate n 0) k 0) 0
+zeros-at zero k = refl
+zeros-at (suc n) zero = refl
+zeros-at (suc n) (suc k) = zeros-at n k
 
 all-from : (d : ℕ) → nat_le 0 d ≡ true
 all-from d = elim (leb_tells 0 d) [ inl e ↦ e.0 | inr e ↦ absurd (omega (arith, e.1)) ]
-
--- levels of one bit are the bits of the values at the leaf
-pub bits-mixed : (n m : ℕ) → word_bits m n ≡ mixed 0 1 (digits_of 2 n m)
-bits-mixed zero m = refl
-bits-mixed (suc n) m = rw (all-from (m % 2)) (ap (λ (bs : List Bool). nat_eq (m % 2) 1 ∷ bs) (bits-mixed n (m / 2)))
-
-pub word-mixed : (floor top word : ℕ) (ds : List ℕ) → floor ≡ 0 → top ≡ 1 → ds ≡ digits_of 2 64 word → word_bits word 64 ≡ mixed floor top ds
-word-mixed floor top word ds f t e = rw (f, t, e) (bits-mixed 64 word)
 
 pub bits-decoded : (floor top : ℕ) (ds : List ℕ) (bits : List Bool) (left left' : List Stored) (slots slots' : List Slot) → floor ≤ top → bits ≡ mixed floor top ds → DecodesMixed bits left left' slots slots' → Decoded floor top ds left left' slots slots'
 bits-decoded floor top ds bits left left' slots slots' h e r = rw (append-nil ds) at (front-mixed floor top ds [] bits left left' left' slots slots' slots' h e r (decoded-none floor top left' slots'))

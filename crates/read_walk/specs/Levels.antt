@@ -1,6 +1,5 @@
 -- What is left of the levels of a page.
-use Rattle.std.specs.Prelude.{◌≡◌, ℕ, ◌-◌, ◌≤◌, false, IfSome, List, ◌++◌, length}
-use Rattle.pq_numbers.specs.Bits.{digits_of}
+use Rattle.std.specs.Prelude.{◌≡◌, ℕ, ◌-◌, ◌<◌, ◌≤◌, false, List, ◌++◌, length}
 use Rattle.read_walk.specs.LevelRuns.{runs_left, IsReading}
 use Rattle.read_walk.specs.Pairs.{Item, block_items, behind}
 use Rattle.read_walk.specs.declared.levels.Levels.{Levels}
@@ -14,7 +13,6 @@ pub record IsLevels (l : Levels) : Type 0 where
   pub within : l.end ≤ 64
   pub rep_size : length l.rep_block ≡ 64
   pub def_size : length l.def_block ≡ 64
-  pub starts : IfSome l.starts (λ word. l.rep_block ≡ digits_of 2 64 word)
   pub reps : IsReading l.reps
   pub defs : IsReading l.defs
 
@@ -33,9 +31,10 @@ pub record IsUsedUp (l : Levels) (lists top : ℕ) : Type 0 where
   pub rep_most : lists ≤ l.max_rep
   pub def_most : top ≤ l.max_def
 
--- 64 levels stand packed, of two or three bits each
+-- 64 levels stand packed, of one bit each from a whole byte on, or of two or three bits each
 pub record ArePacked (r : LevelRuns) : Type 0 where
   pub none : r.copies ≡ 0
   pub there : 64 ≤ r.standing
-  pub some : 2 ≤ r.runs.num_bits
+  pub some : 1 ≤ r.runs.num_bits
   pub narrow : r.runs.num_bits ≤ 3
+  pub whole : r.runs.num_bits < 2 → r.shift ≡ 0

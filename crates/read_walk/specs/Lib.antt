@@ -1,5 +1,4 @@
 pub mod Blocks
-pub mod Flat
 pub mod Gives
 pub mod LevelRuns
 pub mod Levels

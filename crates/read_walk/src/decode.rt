@@ -1,12 +1,12 @@
 //! The values of a block of pairs.
-ghost use Rattle.std.specs.Prelude.{◌≡◌, ℕ, ◌+◌, ◌*◌, ◌/◌, ◌%◌, ◌^◌, ◌<◌, ◌≤◌, List, ◌∷◌, ◌++◌, OnOk, IfErr, length, replicate, drop};
+ghost use Rattle.std.specs.Prelude.{◌≡◌, ℕ, ◌+◌, ◌*◌, ◌/◌, ◌%◌, ◌^◌, ◌<◌, ◌≤◌, List, ◌∷◌, ◌++◌, OnOk, IfErr, cond, true, length, replicate, drop};
 ghost use Rattle.columns_core.specs.Bits.{word_bits};
 ghost use Rattle.read_laws.specs.Step.{bit};
 ghost use Rattle.read_state.specs.Reach.{chosen};
 ghost use Rattle.read_walk.specs.Gives.{Decoded, called, mixed};
 ghost use Rattle.read_walk.specs.Values.{CannotDecode};
 
-use crate::block::{PairBlock, level_word};
+use crate::block::PairBlock;
 use crate::traits::NestedDecoder;
 use columns_base::Result;
 use read_state::{BlockLevels, levels_at, levels_from};
@@ -166,46 +166,6 @@ pub fn decode_levels<'a, D: NestedDecoder<'a>>(
     Ok(())
 }
 
-// The same of the levels of a block.
-fn block_word(block: &PairBlock, floor: usize, top: usize) -> (u64, usize)
-    requires few { length block.now.1 ≤ 64 }
-    ensures bits { word_bits result.0 result.1 ≡ mixed floor top block.now.1 }
-    ensures few { result.1 ≤ 64 }
-{
-    if floor == 0 && top == 1 {
-        if let Some(word) = level_word(block) {
-            return (word, 64);
-        }
-    }
-    mixed_word(block.defs(), floor, top)
-}
-
-/// Decodes what the pairs of a block call for.
-///
-/// # Errors
-///
-/// Those of the decoder.
-pub fn decode_block<'a, D: NestedDecoder<'a>>(
-    values: &mut D::State,
-    decoded: &mut D::DecodedState,
-    decoder: &D,
-    block: &PairBlock,
-    floor: usize,
-    top: usize,
-) -> Result<()>
-    requires ordered { floor ≤ top }
-    requires few { length block.now.1 ≤ 64 }
-    requires suits { D.suits decoder.now decoded.old }
-    ensures ok { OnOk result (Decoded floor top block.now.1 (D.left decoder.now values.old)
-        (D.left decoder.now values.new) (D.slots decoded.old) (D.slots decoded.new)) }
-    ensures err { IfErr result (CannotDecode D.byte_limit (called top block.now.1) (D.left decoder.now values.old)
-        (D.slots decoded.old)) }
-    ensures suits { D.suits decoder.now decoded.new }
-{
-    let (valid, count) = block_word(block, floor, top);
-    decoder.push_mixed(values, decoded, valid, count)
-}
-
 // A bit for each of 64 levels from `floor` on, set where it is `top`, the lowest for the first, and how many these are.
 fn told_word(defs: &BlockLevels, floor: usize, top: usize) -> (u64, usize)
     requires size { length defs.now ≡ 64 }
@@ -217,29 +177,54 @@ fn told_word(defs: &BlockLevels, floor: usize, top: usize) -> (u64, usize)
     picked_bits(defs.from(floor as u8), defs.at(top as u8))
 }
 
-/// Decodes what 64 pairs call for whose levels are told as bits or bytes.
+// The same of the levels of the next pairs, which are told or stand in a block.
+#[inline(always)]
+fn next_word(
+    told: bool,
+    defs: &BlockLevels,
+    block: &PairBlock,
+    floor: usize,
+    top: usize,
+) -> (u64, usize)
+    requires size { told ≡ true → length defs.now ≡ 64 }
+    requires few { length (cond told defs.now block.now.1) ≤ 64 }
+    requires ordered { floor ≤ top }
+    requires low { told ≡ true → top ≤ 255 }
+    ensures bits { word_bits result.0 result.1 ≡ mixed floor top (cond told defs.now block.now.1) }
+    ensures few { result.1 ≤ 64 }
+{
+    if told {
+        return told_word(defs, floor, top);
+    }
+    mixed_word(block.defs(), floor, top)
+}
+
+/// Decodes what the next pairs call for, whose levels are told as bits or bytes or stand in a block.
 ///
 /// # Errors
 ///
 /// Those of the decoder.
-pub fn decode_told<'a, D: NestedDecoder<'a>>(
+pub fn decode_next<'a, D: NestedDecoder<'a>>(
     values: &mut D::State,
     decoded: &mut D::DecodedState,
     decoder: &D,
+    told: bool,
     defs: &BlockLevels,
+    block: &PairBlock,
     floor: usize,
     top: usize,
 ) -> Result<()>
-    requires size { length defs.now ≡ 64 }
+    requires size { told ≡ true → length defs.now ≡ 64 }
+    requires few { length (cond told defs.now block.now.1) ≤ 64 }
     requires ordered { floor ≤ top }
-    requires low { top ≤ 255 }
+    requires low { told ≡ true → top ≤ 255 }
     requires suits { D.suits decoder.now decoded.old }
-    ensures ok { OnOk result (Decoded floor top defs.now (D.left decoder.now values.old) (D.left decoder.now values.new)
-        (D.slots decoded.old) (D.slots decoded.new)) }
-    ensures err { IfErr result (CannotDecode D.byte_limit (called top defs.now) (D.left decoder.now values.old)
-        (D.slots decoded.old)) }
+    ensures ok { OnOk result (Decoded floor top (cond told defs.now block.now.1) (D.left decoder.now values.old)
+        (D.left decoder.now values.new) (D.slots decoded.old) (D.slots decoded.new)) }
+    ensures err { IfErr result (CannotDecode D.byte_limit (called top (cond told defs.now block.now.1))
+        (D.left decoder.now values.old) (D.slots decoded.old)) }
     ensures suits { D.suits decoder.now decoded.new }
 {
-    let (valid, count) = told_word(defs, floor, top);
+    let (valid, count) = next_word(told, defs, block, floor, top);
     decoder.push_mixed(values, decoded, valid, count)
 }

@@ -1,57 +1,22 @@
 //! The walk.
-ghost use Rattle.std.specs.Prelude.{◌≡◌, ◌⊎◌, ℕ, ◌*◌, ◌<◌, ◌≤◌, ◌^◌, OnOk, IfErr, IfOk, Option, Some, false, length, replicate};
+ghost use Rattle.std.specs.Prelude.{◌≡◌, ◌⊎◌, ℕ, ◌*◌, ◌<◌, ◌≤◌, ◌^◌, OnOk, IfErr, IfOk, IfSome, Option, Some, cond, true, false, length, replicate};
 ghost use Rattle.read_laws.specs.State.{kept_way, leaf_count, StateFits};
 ghost use Rattle.read_state.specs.Ticks.{TicksAtMost};
 ghost use Rattle.read_walk.specs.Blocks.{TookBlock, CannotTake};
-ghost use Rattle.read_walk.specs.Order.{zipped, last_level, Follows, EndedAt, OneMayNot, AreLevels};
+ghost use Rattle.read_walk.specs.Order.{zipped, last_level, Follows, EndedAt, OneMayNot, AreLevels, MayTake};
 ghost use Rattle.read_walk.specs.Walk.{Extends, Refuses};
 ghost use Rattle.read_walk.specs.Pairs.{TakesBlock, rows_in};
 ghost use Rattle.read_walk.specs.Steps.{TakesStep, CannotStep};
 ghost use Rattle.read_walk.specs.Ticks.{TicksEach};
 
 use crate::block::PairBlock;
-use crate::order::{WayLevels, check_block, check_copies, way_levels};
+use crate::order::{WayLevels, check_copies, check_pairs, way_levels};
 use crate::page::NestedPage;
-use crate::take::{take_all, take_copies, take_told};
+use crate::take::{take_copies, take_next};
 use crate::traits::NestedDecoder;
 use columns_base::Result;
 use read_state::{BlockLevels, NestedState, Steps};
 use std::sync::ledger::Ledger;
-
-// Takes the pairs of a block, one or more, behind one of the definition level `before`.
-fn walk_block<'a, D: NestedDecoder<'a>, L: Ledger>(
-    values: &mut D::State,
-    nested: &mut NestedState,
-    decoded: &mut D::DecodedState,
-    decoder: &D,
-    levels: WayLevels,
-    before: Option<usize>,
-    block: &PairBlock,
-    steps: &mut Steps<L>,
-) -> Result<()>
-    requires levels { AreLevels (kept_way nested.old) levels.lists levels.top levels.floor }
-    requires reps { length block.now.0 ≤ 64 }
-    requires defs { length block.now.1 ≡ length block.now.0 }
-    requires fits { StateFits nested.old }
-    requires ended { EndedAt before nested.old }
-    requires decoded { length (D.slots decoded.old) ≡ leaf_count nested.old }
-    requires suits { D.suits decoder.now decoded.old }
-    ensures ok { OnOk result (Follows (kept_way nested.old) before (zipped block.now.0 block.now.1)
-        × TookBlock before block.now.0 block.now.1 nested.old nested.new (D.slots decoded.old) (D.slots decoded.new)
-        (D.left decoder.now values.old) (D.left decoder.now values.new)) }
-    ensures err { IfErr result (λ e. OneMayNot (kept_way nested.old) before (zipped block.now.0 block.now.1) e
-        ⊎ CannotTake D.byte_limit block.now.0 block.now.1 nested.old (D.left decoder.now values.old)
-        (D.slots decoded.old) e) }
-    ensures ticked { TicksAtMost (length nested.old) steps.old steps.new }
-    ensures suits { D.suits decoder.now decoded.new }
-{
-    match check_block(nested, levels, before, block) {
-        Ok(()) => take_all(
-            values, nested, decoded, decoder, levels, before, block, steps,
-        ),
-        Err(error) => Err(error),
-    }
-}
 
 // The definition level of the last pair.
 fn last_of(reps: &[u32], defs: &[u32], before: Option<usize>) -> Option<usize>
@@ -62,6 +27,91 @@ fn last_of(reps: &[u32], defs: &[u32], before: Option<usize>) -> Option<usize>
         return before;
     }
     Some(defs[reps.len() - 1] as usize)
+}
+
+// The same of the next pairs, which are told as bits or bytes or stand in a block.
+#[inline(always)]
+fn last_next(
+    told: bool,
+    reps: &BlockLevels,
+    defs: &BlockLevels,
+    block: &PairBlock,
+    before: Option<usize>,
+) -> Option<usize>
+    requires told { told ≡ true → (length reps.now ≡ 64) × (length defs.now ≡ 64) }
+    requires defs { length (cond told defs.now block.now.1) ≡ length (cond told reps.now block.now.0) }
+    ensures { result ≡ last_level before (zipped (cond told reps.now block.now.0) (cond told defs.now block.now.1)) }
+{
+    if told {
+        return Some(defs.last());
+    }
+    last_of(block.reps(), block.defs(), before)
+}
+
+// Whether the next pairs may come behind one of the definition level `before`. Those that are told may.
+#[inline(always)]
+fn check_next(
+    nested: &NestedState,
+    levels: WayLevels,
+    before: Option<usize>,
+    told: bool,
+    reps: &BlockLevels,
+    defs: &BlockLevels,
+    block: &PairBlock,
+) -> Result<()>
+    requires levels { AreLevels (kept_way nested.now) levels.lists levels.top levels.floor }
+    requires may { told ≡ true → MayTake nested.now levels.top before reps.now defs.now }
+    requires defs { length (cond told defs.now block.now.1) ≡ length (cond told reps.now block.now.0) }
+    ensures ok { OnOk result (Follows (kept_way nested.now) before (zipped (cond told reps.now block.now.0)
+        (cond told defs.now block.now.1))) }
+    ensures err { IfErr result (OneMayNot (kept_way nested.now) before (zipped (cond told reps.now block.now.0)
+        (cond told defs.now block.now.1))) }
+{
+    if told {
+        return Ok(());
+    }
+    check_pairs(nested, levels, before, block.reps(), block.defs())
+}
+
+// Takes the next pairs, one or more, behind one of the definition level `before`.
+fn walk_next<'a, D: NestedDecoder<'a>, L: Ledger>(
+    values: &mut D::State,
+    nested: &mut NestedState,
+    decoded: &mut D::DecodedState,
+    decoder: &D,
+    levels: WayLevels,
+    before: Option<usize>,
+    told: bool,
+    reps: &BlockLevels,
+    defs: &BlockLevels,
+    block: &PairBlock,
+    steps: &mut Steps<L>,
+) -> Result<()>
+    requires levels { AreLevels (kept_way nested.old) levels.lists levels.top levels.floor }
+    requires may { told ≡ true → MayTake nested.old levels.top before reps.now defs.now }
+    requires reps { length (cond told reps.now block.now.0) ≤ 64 }
+    requires defs { length (cond told defs.now block.now.1) ≡ length (cond told reps.now block.now.0) }
+    requires fits { StateFits nested.old }
+    requires ended { EndedAt before nested.old }
+    requires decoded { length (D.slots decoded.old) ≡ leaf_count nested.old }
+    requires suits { D.suits decoder.now decoded.old }
+    ensures ok { OnOk result (Follows (kept_way nested.old) before (zipped (cond told reps.now block.now.0)
+        (cond told defs.now block.now.1))
+        × TookBlock before (cond told reps.now block.now.0) (cond told defs.now block.now.1) nested.old nested.new
+        (D.slots decoded.old) (D.slots decoded.new) (D.left decoder.now values.old) (D.left decoder.now values.new)) }
+    ensures err { IfErr result (λ e. OneMayNot (kept_way nested.old) before
+        (zipped (cond told reps.now block.now.0) (cond told defs.now block.now.1)) e
+        ⊎ CannotTake D.byte_limit (cond told reps.now block.now.0) (cond told defs.now block.now.1) nested.old
+        (D.left decoder.now values.old) (D.slots decoded.old) e) }
+    ensures ticked { TicksAtMost (length nested.old) steps.old steps.new }
+    ensures suits { D.suits decoder.now decoded.new }
+{
+    match check_next(nested, levels, before, told, reps, defs, block) {
+        Ok(()) => take_next(
+            values, nested, decoded, decoder, levels, before, told, reps, defs, block, steps,
+        ),
+        Err(error) => Err(error),
+    }
 }
 
 // Takes so many equal pairs, one or more, behind one of the definition level `before`.
@@ -110,50 +160,37 @@ fn begun_by(rep: usize, count: usize) -> usize
     if rep == 0 { count } else { 0 }
 }
 
-// Takes the next block, and keeps how many rows are still wanted and the definition level of its last pair; false where there is none.
-fn step_block<'a, 'b, D: NestedDecoder<'b>, L: Ledger>(
+// The next pairs: 64 of them as bits or bytes where they can be had so and may come, else a block. Keeps which.
+#[inline(always)]
+fn next_pairs<'a>(
     page: &mut NestedPage<'a>,
-    values: &mut D::State,
-    nested: &mut NestedState,
-    decoded: &mut D::DecodedState,
-    decoder: &D,
+    rows: usize,
+    nested: &NestedState,
     levels: WayLevels,
+    before: Option<usize>,
+    told: &mut bool,
+    reps: &mut BlockLevels,
+    defs: &mut BlockLevels,
     block: &mut PairBlock,
-    before: &mut Option<usize>,
-    rows: &mut usize,
-    steps: &mut Steps<L>,
-) -> Result<bool>
-    requires levels { AreLevels (kept_way nested.old) levels.lists levels.top levels.floor }
-    requires fits { StateFits nested.old }
-    requires ended { EndedAt before.old nested.old }
-    requires decoded { length (D.slots decoded.old) ≡ leaf_count nested.old }
-    requires suits { D.suits decoder.now decoded.old }
-    ensures ok { IfOk result (λ more. TakesStep more rows.old rows.new before.old before.new page.old page.new
-        (D.left decoder.now values.old) (D.left decoder.now values.new) nested.old nested.new (D.slots decoded.old)
-        (D.slots decoded.new)) }
-    ensures err { IfErr result (CannotStep D.byte_limit rows.old before.old page.old
-        (D.left decoder.now values.old) nested.old (D.slots decoded.old)) }
-    ensures ticked { TicksAtMost (length nested.old) steps.old steps.new }
-    ensures idle { IfOk result (λ more. more ≡ false → steps.new ≡ steps.old) }
-    ensures suits { D.suits decoder.now decoded.new }
+) -> Option<Result<usize>>
+    requires levels { AreLevels (kept_way nested.now) levels.lists levels.top levels.floor }
+    ensures taken { TakesBlock rows page.old result (cond told.new reps.new block.new.0)
+        (cond told.new defs.new block.new.1) page.new }
+    ensures may { told.new ≡ true → MayTake nested.now levels.top before reps.new defs.new }
 {
-    let begun = match page.next_block(*rows, block) {
-        None => return Ok(false),
-        Some(Err(error)) => return Err(error),
-        Some(Ok(begun)) => begun,
-    };
-    match walk_block(
-        values, nested, decoded, decoder, levels, *before, block, steps,
-    ) {
-        Ok(()) => {}
-        Err(error) => return Err(error),
+    match page.next_told(rows, nested, levels, before, reps, defs) {
+        Some(begun) => {
+            *told = true;
+            Some(Ok(begun))
+        }
+        None => {
+            *told = false;
+            page.next_block(rows, block)
+        }
     }
-    *before = last_of(block.reps(), block.defs(), *before);
-    *rows -= begun;
-    Ok(true)
 }
 
-// Takes the next pairs: 64 of them as bits or bytes where they can be had so, else a block.
+// Takes the next pairs, and keeps how many rows are still wanted and the definition level of the last pair; false where there is none.
 fn step_others<'a, 'b, D: NestedDecoder<'b>, L: Ledger>(
     page: &mut NestedPage<'a>,
     values: &mut D::State,
@@ -180,21 +217,24 @@ fn step_others<'a, 'b, D: NestedDecoder<'b>, L: Ledger>(
     ensures idle { IfOk result (λ more. more ≡ false → steps.new ≡ steps.old) }
     ensures suits { D.suits decoder.now decoded.new }
 {
+    let mut told = false;
     let mut reps = BlockLevels::of_word(0);
     let mut defs = BlockLevels::of_word(0);
-    let Some(count) = page.next_told(*rows, nested, levels, *before, &mut reps, &mut defs) else {
-        return step_block(
-            page, values, nested, decoded, decoder, levels, block, before, rows, steps,
-        );
+    let begun = match next_pairs(
+        page, *rows, nested, levels, *before, &mut told, &mut reps, &mut defs, block,
+    ) {
+        None => return Ok(false),
+        Some(Err(error)) => return Err(error),
+        Some(Ok(begun)) => begun,
     };
-    match take_told(
-        values, nested, decoded, decoder, levels, *before, &reps, &defs, steps,
+    match walk_next(
+        values, nested, decoded, decoder, levels, *before, told, &reps, &defs, block, steps,
     ) {
         Ok(()) => {}
         Err(error) => return Err(error),
     }
-    *before = Some(defs.last());
-    *rows -= count;
+    *before = last_next(told, &reps, &defs, block, *before);
+    *rows -= begun;
     Ok(true)
 }
 

@@ -3,7 +3,6 @@ ghost use Rattle.std.specs.Prelude.{◌≡◌, ℕ, ◌<◌, ◌≤◌, IfSome, 
 ghost use Rattle.pq_numbers.specs.Bits.{digits_of};
 ghost use Rattle.read_walk.specs.Pairs.{rows_in};
 
-use crate::words::zeros_of;
 use read_state::{levels_at, levels_to};
 use std::simd::prelude::*;
 
@@ -98,18 +97,4 @@ pub fn count_zeros(reps: &[u32]) -> usize
         count += u32::from(reps[i] == 0);
     }
     count as usize
-}
-
-/// The same, where 64 levels may be known as a word's bits.
-pub fn count_starts(reps: &[u32], starts: Option<u64>) -> usize
-    requires few { length reps.now ≤ 64 }
-    requires known { IfSome starts (λ word. length reps.now ≡ 64 → reps.now ≡ digits_of 2 64 word) }
-    ensures { result ≡ rows_in reps.now }
-{
-    if reps.len() == 64 {
-        if let Some(word) = starts {
-            return zeros_of(word).count_ones() as usize;
-        }
-    }
-    count_zeros(reps)
 }

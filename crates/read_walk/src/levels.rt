@@ -1,6 +1,7 @@
 //! Level pairs in blocks of 64.
-ghost use Rattle.std.specs.Prelude.{◌≡◌, ◌⊎◌, ℕ, ◌+◌, ◌-◌, ◌<◌, ◌≤◌, ◌^◌, ◌||◌, ◌&&◌, ◌++◌, [], true, false, length, take, drop, slice_index, Ok, Some, IfSome, MatchOption, IsTrue, count_by};
+ghost use Rattle.std.specs.Prelude.{◌≡◌, ◌⊎◌, ℕ, ◌+◌, ◌-◌, ◌/◌, ◌<◌, ◌≤◌, ◌^◌, ◌||◌, ◌&&◌, ◌++◌, [], true, false, length, take, drop, slice_index, Ok, Some, IfSome, MatchOption, IsTrue, count_by};
 ghost use Rattle.pq_numbers.specs.Bits.{digits_of};
+ghost use Rattle.pq_numbers.specs.Texts.{number_of};
 ghost use Rattle.pq_runs.specs.Hybrid.{given};
 ghost use Rattle.read_laws.specs.State.{kept_way};
 ghost use Rattle.read_walk.specs.LevelRuns.{runs_left, IsReading, IsFilled};
@@ -8,18 +9,17 @@ ghost use Rattle.read_walk.specs.Levels.{levels_left, ArePacked, IsLevels, IsFla
 ghost use Rattle.read_walk.specs.Order.{AreLevels, MayTake};
 ghost use Rattle.read_walk.specs.Pairs.{TakesBlock, TakesCopies, TakesRun, is_within, rows_in, is_row};
 
-use crate::bits::{put_bytes, put_word};
-use crate::block::{PairBlock, are_levels_within, fill_flat, mark_starts};
-use crate::folds::{all_bits, are_within, count_starts};
+use crate::bits::{low_bytes, put_bytes};
+use crate::block::{PairBlock, fill_flat};
+use crate::folds::{are_within, count_zeros};
 use crate::narrow::{are_bytes, narrowed};
-use crate::order::{WayLevels, may_take};
+use crate::order::{WayLevels, may_begin, may_take};
 use crate::runs::{LevelRuns, copied, drop_copies, drop_packed, fill, fill_whole, stop_runs};
 use crate::words::take_word;
 use columns_base::{Error, Result, S};
 use read_state::{BlockLevels, NestedState};
 
-/// The levels that were unpacked, from one place of a block to another, those that were not, and whether a fault stands behind the block. The
-/// repetition levels may be known as a word's bits.
+/// The levels that were unpacked, from one place of a block to another, those that were not, and whether a fault stands behind the block.
 #[derive(Drop)]
 pub struct Levels<'a> {
     pub reps: LevelRuns<'a>,
@@ -28,7 +28,6 @@ pub struct Levels<'a> {
     pub max_def: usize,
     pub rep_block: [u32; 64],
     pub def_block: [u32; 64],
-    pub starts: Option<u64>,
     pub at: usize,
     pub end: usize,
     pub failed: bool,
@@ -70,63 +69,22 @@ fn first_above(reps: &[u32], defs: &[u32], end: usize, max_rep: usize, max_def: 
     end
 }
 
-// Whether no repetition level in front of a place is above this one. They may be known as a word's bits.
-fn are_starts_within(reps: &[u32], end: usize, max: usize, starts: Option<u64>) -> bool
-    requires within { end ≤ length reps.now }
-    requires known { IfSome starts (λ word. reps.now ≡ digits_of 2 64 word) }
-    ensures { IsTrue result → (k : ℕ) → k < end → slice_index reps.now k ≤ max }
-{
-    match starts {
-        Some(_) => { if max == 0 { false } else { true } }
-        None => are_within(part_of(reps, 0, end), max),
-    }
-}
-
 // How many pairs from the front on have no level above its greatest.
-fn count_within(
-    reps: &[u32],
-    defs: &[u32],
-    end: usize,
-    max_rep: usize,
-    max_def: usize,
-    starts: Option<u64>,
-) -> usize
+fn count_within(reps: &[u32], defs: &[u32], end: usize, max_rep: usize, max_def: usize) -> usize
     requires reps { end ≤ length reps.now }
     requires defs { end ≤ length defs.now }
-    requires known { IfSome starts (λ word. reps.now ≡ digits_of 2 64 word) }
     ensures within { result ≤ end }
     ensures before { (k : ℕ) → k < result → is_within max_rep max_def (slice_index reps.now k, slice_index defs.now k)
         ≡ true }
     ensures next { result < end → is_within max_rep max_def (slice_index reps.now result, slice_index defs.now result)
         ≡ false }
 {
-    if are_starts_within(reps, end, max_rep, starts) {
+    if are_within(part_of(reps, 0, end), max_rep) {
         if are_within(part_of(defs, 0, end), max_def) {
             return end;
         }
     }
     first_above(reps, defs, end, max_rep, max_def)
-}
-
-// Fills the memory of a block as `fill` does, levels of one bit by a word of them, which is answered, too.
-fn fill_block<'a>(levels: &mut LevelRuns<'a>, out: &mut [u32]) -> (usize, bool, Option<u64>)
-    requires is { IsReading levels.old }
-    requires size { length out.old ≡ 64 }
-    ensures is { IsReading levels.new }
-    ensures within { result.0 ≤ length out.old }
-    ensures filled { IsFilled (runs_left levels.old) out.new result.0 result.1 (runs_left levels.new) }
-    ensures word { IfSome result.2 (λ word. out.new ≡ digits_of 2 64 word) }
-{
-    if levels.runs.num_bits == 1 {
-        let mut runs = copied(levels);
-        if let Some(word) = take_word(&mut runs) {
-            put_word(out, word);
-            *levels = runs;
-            return (64, false, Some(word));
-        }
-    }
-    let (count, failed) = fill(levels, out);
-    (count, failed, None)
 }
 
 // Unpacks the next block.
@@ -138,10 +96,9 @@ fn refill<'a>(levels: &mut Levels<'a>)
     ensures same { levels_left levels.new ≡ levels_left levels.old }
     ensures ended { levels.new.at ≡ levels.new.end → levels.new.failed ≡ false → levels_left levels.new ≡ [] }
 {
-    let (reps, no_rep, starts) = fill_block(&mut levels.reps, &mut levels.rep_block);
-    let (defs, no_def, _) = fill_block(&mut levels.defs, &mut levels.def_block);
+    let (reps, no_rep) = fill(&mut levels.reps, &mut levels.rep_block);
+    let (defs, no_def) = fill(&mut levels.defs, &mut levels.def_block);
     let end = reps.min(defs);
-    levels.starts = starts;
     levels.at = 0;
     levels.end = count_within(
         &levels.rep_block,
@@ -149,7 +106,6 @@ fn refill<'a>(levels: &mut Levels<'a>)
         end,
         levels.max_rep,
         levels.max_def,
-        starts,
     );
     levels.failed = either(any(no_rep, no_def, reps != defs), levels.end < end);
 }
@@ -187,22 +143,15 @@ fn first_rows(reps: &[u32], rows: usize) -> (usize, usize)
     (reps.len(), begun)
 }
 
-// How many of the pairs come before one that begins a row too many, and how many of them begin a row. Flat pairs all begin one.
-fn cut_rows(reps: &[u32], rows: usize, flat: bool, starts: Option<u64>) -> (usize, usize)
+// How many of the pairs come before one that begins a row too many, and how many of them begin a row.
+fn cut_rows(reps: &[u32], rows: usize) -> (usize, usize)
     requires short { length reps.now ≤ 64 }
-    requires known { IfSome starts (λ word. length reps.now ≡ 64 → reps.now ≡ digits_of 2 64 word) }
     ensures within { result.0 ≤ length reps.now }
     ensures begun { result.1 ≡ rows_in (take result.0 reps.now) }
     ensures few { result.1 ≤ rows }
     ensures stops { result.0 < length reps.now → (slice_index reps.now result.0 ≡ 0) × (result.1 ≡ rows) }
 {
-    if flat {
-        if all_bits(reps) == 0 {
-            let count = reps.len().min(rows);
-            return (count, count);
-        }
-    }
-    let begun = count_starts(reps, starts);
+    let begun = count_zeros(reps);
     if begun <= rows {
         return (reps.len(), begun);
     }
@@ -252,7 +201,7 @@ fn next_flat<'a>(levels: &mut Levels<'a>, rows: usize, block: &mut PairBlock) ->
     if !fill_flat(block, &mut runs) {
         return false;
     }
-    if !are_levels_within(block, levels.max_def) {
+    if !are_within(block.defs(), levels.max_def) {
         return false;
     }
     drop_copies(&mut levels.reps, 64);
@@ -260,7 +209,7 @@ fn next_flat<'a>(levels: &mut Levels<'a>, rows: usize, block: &mut PairBlock) ->
     true
 }
 
-// Whether the next 64 levels stand packed, of two or three bits each.
+// Whether the next 64 levels stand packed, of one bit each from a whole byte on, or of two or three bits each.
 fn are_packed<'a>(runs: &LevelRuns<'a>) -> bool
     ensures { IsTrue result → ArePacked runs.now }
 {
@@ -271,23 +220,32 @@ fn are_packed<'a>(runs: &LevelRuns<'a>) -> bool
     if runs.standing < 64 {
         return false;
     }
-    if width < 2 {
+    if width < 1 {
         return false;
     }
-    if width > 3 { false } else { true }
+    if width > 3 {
+        return false;
+    }
+    if width < 2 && runs.shift > 0 {
+        false
+    } else {
+        true
+    }
 }
 
-// The next 64 levels, which stand packed, in a byte each.
-fn tell_packed<'a>(runs: &mut LevelRuns<'a>, told: &mut BlockLevels)
-    requires is { IsReading runs.old }
-    requires packed { ArePacked runs.old }
-    ensures is { IsReading runs.new }
-    ensures size { length told.new ≡ 64 }
-    ensures taken { runs_left runs.old ≡ given told.new ++ runs_left runs.new }
+// The next 64 levels, which stand packed, as bits or in a byte each.
+fn tell_packed<'a>(runs: &LevelRuns<'a>, told: &mut BlockLevels)
+    requires is { IsReading runs.now }
+    requires packed { ArePacked runs.now }
+    ensures { told.new ≡ digits_of (2 ^ runs.now.runs.num_bits) 64 (number_of runs.now.packed.now / 2 ^ runs.now.shift) }
 {
+    let width = runs.runs.num_bits;
+    if width == 1 {
+        told.set_word(low_bytes(runs.packed) >> runs.shift);
+        return;
+    }
     let mut bytes = [0; 64];
-    put_bytes(&mut bytes, runs.packed, runs.shift, runs.runs.num_bits, 8);
-    drop_packed(runs, 64);
+    put_bytes(&mut bytes, runs.packed, runs.shift, width, 8);
     told.set_bytes(bytes);
 }
 
@@ -298,10 +256,6 @@ fn tell_bytes<'a>(runs: &mut LevelRuns<'a>, told: &mut BlockLevels) -> bool
     ensures size { IsTrue result → length told.new ≡ 64 }
     ensures taken { IsTrue result → runs_left runs.old ≡ given told.new ++ runs_left runs.new }
 {
-    if are_packed(runs) {
-        tell_packed(runs, told);
-        return true;
-    }
     let mut block = [0; 64];
     if !fill_whole(runs, &mut block) {
         return false;
@@ -320,6 +274,11 @@ fn tell<'a>(runs: &mut LevelRuns<'a>, told: &mut BlockLevels) -> bool
     ensures size { IsTrue result → length told.new ≡ 64 }
     ensures taken { IsTrue result → runs_left runs.old ≡ given told.new ++ runs_left runs.new }
 {
+    if are_packed(runs) {
+        tell_packed(runs, told);
+        drop_packed(runs, 64);
+        return true;
+    }
     if runs.runs.num_bits > 1 {
         return tell_bytes(runs, told);
     }
@@ -340,14 +299,10 @@ fn begun_in(reps: &BlockLevels) -> usize
     reps.at(0).count_ones() as usize
 }
 
-// Whether no unpacked pair is left, no fault stands behind them, and the greatest levels are not below those of a way. Flat levels of one bit are left to
-// the block that keeps their word.
+// Whether no unpacked pair is left, no fault stands behind them, and the greatest levels are not below those of a way.
 fn is_used_up<'a>(levels: &Levels<'a>, way: WayLevels) -> bool
     ensures { IsTrue result → IsUsedUp levels.now way.lists way.top }
 {
-    if way.lists == 0 && levels.defs.runs.num_bits < 2 {
-        return false;
-    }
     if levels.at < levels.end {
         return false;
     }
@@ -362,6 +317,84 @@ fn is_used_up<'a>(levels: &Levels<'a>, way: WayLevels) -> bool
     } else {
         true
     }
+}
+
+// Takes the next 64 pairs, which begin a row each, as bits or bytes, where they may come. None, and nothing taken, where they cannot be had so.
+fn next_rows<'a>(
+    levels: &mut Levels<'a>,
+    rows: usize,
+    nested: &NestedState,
+    way: WayLevels,
+    before: Option<usize>,
+    reps: &mut BlockLevels,
+    defs: &mut BlockLevels,
+) -> Option<usize>
+    requires is { IsLevels levels.old }
+    requires way { AreLevels (kept_way nested.now) way.lists way.top way.floor }
+    requires used { IsUsedUp levels.old way.lists way.top }
+    requires flat { IsFlatNext levels.old rows }
+    ensures is { IsLevels levels.new }
+    ensures taken { MatchOption result (levels_left levels.new ≡ levels_left levels.old)
+        (λ begun. TakesBlock rows (levels_left levels.old) (Some (Ok begun)) reps.new defs.new
+        (levels_left levels.new)) }
+    ensures may { IfSome result (λ begun. MayTake nested.now way.top before reps.new defs.new) }
+{
+    reps.set_word(0);
+    if are_packed(&levels.defs) {
+        tell_packed(&levels.defs, defs);
+        if !may_begin(nested, way, defs) {
+            return None;
+        }
+        drop_copies(&mut levels.reps, 64);
+        drop_packed(&mut levels.defs, 64);
+        return Some(64);
+    }
+    let mut next_defs = copied(&levels.defs);
+    if !tell(&mut next_defs, defs) {
+        return None;
+    }
+    if !may_begin(nested, way, defs) {
+        return None;
+    }
+    drop_copies(&mut levels.reps, 64);
+    levels.defs = next_defs;
+    Some(64)
+}
+
+// Takes the next 64 pairs, whose levels stand packed, as bits or bytes, where they may come and at most `rows` begin a row. None, and nothing taken, where
+// they cannot be had so.
+fn next_packed<'a>(
+    levels: &mut Levels<'a>,
+    rows: usize,
+    nested: &NestedState,
+    way: WayLevels,
+    before: Option<usize>,
+    reps: &mut BlockLevels,
+    defs: &mut BlockLevels,
+) -> Option<usize>
+    requires is { IsLevels levels.old }
+    requires way { AreLevels (kept_way nested.now) way.lists way.top way.floor }
+    requires used { IsUsedUp levels.old way.lists way.top }
+    requires reps { ArePacked levels.old.reps }
+    requires defs { ArePacked levels.old.defs }
+    ensures is { IsLevels levels.new }
+    ensures taken { MatchOption result (levels_left levels.new ≡ levels_left levels.old)
+        (λ begun. TakesBlock rows (levels_left levels.old) (Some (Ok begun)) reps.new defs.new
+        (levels_left levels.new)) }
+    ensures may { IfSome result (λ begun. MayTake nested.now way.top before reps.new defs.new) }
+{
+    tell_packed(&levels.reps, reps);
+    tell_packed(&levels.defs, defs);
+    let begun = begun_in(reps);
+    if begun > rows {
+        return None;
+    }
+    if !may_take(nested, way, before, reps, defs) {
+        return None;
+    }
+    drop_packed(&mut levels.reps, 64);
+    drop_packed(&mut levels.defs, 64);
+    Some(begun)
 }
 
 /// Takes the next 64 pairs as bits or bytes, where they may come and at most `rows` begin a row, and gives how many do. None, and nothing taken, where
@@ -385,6 +418,14 @@ pub fn next_told<'a>(
 {
     if !is_used_up(levels, way) {
         return None;
+    }
+    if is_flat_next(levels, rows) {
+        return next_rows(levels, rows, nested, way, before, reps, defs);
+    }
+    if are_packed(&levels.reps) {
+        if are_packed(&levels.defs) {
+            return next_packed(levels, rows, nested, way, before, reps, defs);
+        }
     }
     let mut next_reps = copied(&levels.reps);
     let mut next_defs = copied(&levels.defs);
@@ -424,7 +465,7 @@ fn next_unpacked<'a>(
         return None;
     }
     let reps = part_of(&levels.rep_block, levels.at, levels.end);
-    let (count, begun) = cut_rows(reps, rows, levels.max_rep == 0, levels.starts);
+    let (count, begun) = cut_rows(reps, rows);
     if count == 0 {
         return None;
     }
@@ -432,7 +473,6 @@ fn next_unpacked<'a>(
     let reps = part_of(&levels.rep_block, levels.at, end);
     let defs = part_of(&levels.def_block, levels.at, end);
     block.copy(reps, defs);
-    mark_starts(block, levels.starts);
     levels.at = end;
     Some(Ok(begun))
 }

@@ -1,5 +1,5 @@
 //! Whether pairs may follow one another.
-ghost use Rattle.std.specs.Prelude.{◌≡◌, ◌==◌, true, ℕ, ◌<◌, ◌≤◌, ◌^◌, OnOk, IfErr, IsTrue, IfSome, Some, Option, length, replicate, slice_index};
+ghost use Rattle.std.specs.Prelude.{◌≡◌, ◌==◌, true, ℕ, ◌<◌, ◌≤◌, ◌^◌, OnOk, IfErr, IsTrue, IfSome, Some, Option, List, length, replicate, slice_index};
 ghost use Rattle.std.specs.Int.{bit_at};
 ghost use Rattle.pq_numbers.specs.Bits.{digits_of};
 ghost use Rattle.shredding.specs.Shred.{max_definition, max_repetition};
@@ -7,10 +7,8 @@ ghost use Rattle.shredding.specs.Local.{inside};
 ghost use Rattle.read_laws.specs.State.{kept_way};
 ghost use Rattle.read_walk.specs.Order.{zipped, Follows, MayCome, WhyNot, OneMayNot, PlainlyFollow, IsInside, level_before, MayComeAt, AreLevels, MayTake};
 
-use crate::block::{PairBlock, are_levels_within, is_flat, start_word};
 use crate::folds::{all_bits, are_from, are_within};
 use crate::narrow::{are_bytes, are_told_within, narrowed};
-use crate::words::zeros_of;
 use columns_base::{Error, Result, S};
 use read_state::{BlockLevels, NestedState, levels_at, levels_from};
 
@@ -422,30 +420,6 @@ pub fn check_pairs(
     check_each(nested, before, reps, defs, lists, top, floor)
 }
 
-// Whether 64 pairs may come, one list deep, whose repetition levels are these bits.
-fn starts_follow(
-    nested: &NestedState,
-    before: Option<usize>,
-    starts: u64,
-    defs: &[u32],
-    lists: usize,
-    top: usize,
-    floor: usize,
-) -> bool
-    requires defs { length defs.now ≡ 64 }
-    requires some { 0 < lists }
-    requires lists { lists ≡ max_repetition (kept_way nested.now) }
-    requires top { top ≡ max_definition (kept_way nested.now) }
-    requires floor { floor ≡ inside (kept_way nested.now) lists }
-    ensures { IsTrue result → Follows (kept_way nested.now) before (zipped (digits_of 2 64 starts) defs.now) }
-{
-    if !are_within(defs, top) {
-        return false;
-    }
-    let known = zeros_of(starts) | inner_bits(before, defs, floor);
-    known == u64::MAX
-}
-
 /// Whether 64 pairs whose levels are told as bits or bytes may come behind one of the definition level `before`, and are taken so. Where the answer is
 /// no, they may come or not.
 pub fn may_take(
@@ -473,36 +447,21 @@ pub fn may_take(
     told_follow(nested, before, reps, defs, lists, top, floor)
 }
 
-/// Whether the pairs of a block may come behind one of the definition level `before`, one after another, by the levels of the way.
-///
-/// # Errors
-///
-/// As `check_order`.
-pub fn check_block(
-    nested: &NestedState,
-    levels: WayLevels,
-    before: Option<usize>,
-    block: &PairBlock,
-) -> Result<()>
+/// The same of pairs that begin a row each.
+pub fn may_begin(nested: &NestedState, levels: WayLevels, defs: &BlockLevels) -> bool
     requires levels { AreLevels (kept_way nested.now) levels.lists levels.top levels.floor }
-    requires defs { length block.now.1 ≡ length block.now.0 }
-    ensures ok { OnOk result (Follows (kept_way nested.now) before (zipped block.now.0 block.now.1)) }
-    ensures err { IfErr result (OneMayNot (kept_way nested.now) before (zipped block.now.0 block.now.1)) }
+    requires defs { length defs.now ≡ 64 }
+    ensures { IsTrue result → (before : Option ℕ) (reps : List ℕ) → reps ≡ replicate 64 0
+        → MayTake nested.now levels.top before reps defs.now }
 {
-    if is_flat(block) {
-        if are_levels_within(block, levels.top) {
-            return Ok(());
-        }
+    let top = levels.top;
+    if nested.depth() >= 64 {
+        return false;
     }
-    if levels.lists > 0 {
-        if let Some(starts) = start_word(block) {
-            let (lists, top, floor) = (levels.lists, levels.top, levels.floor);
-            if starts_follow(nested, before, starts, block.defs(), lists, top, floor) {
-                return Ok(());
-            }
-        }
+    if top > 255 {
+        return false;
     }
-    check_pairs(nested, levels, before, block.reps(), block.defs())
+    are_told_within(defs, top as u8)
 }
 
 /// Whether the pairs may come behind one of the definition level `before`, one after another.

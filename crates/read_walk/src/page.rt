@@ -68,7 +68,6 @@ impl<'a> NestedPage<'a> {
                 max_def: max_definition,
                 rep_block: [0; 64],
                 def_block: [0; 64],
-                starts: None,
                 at: 0,
                 end: 0,
                 failed: false,

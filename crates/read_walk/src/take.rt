@@ -1,12 +1,17 @@
 //! One block.
-ghost use Rattle.std.specs.Prelude.{◌≡◌, ◌⊎◌, ℕ, ◌<◌, ◌≤◌, ◌^◌, OnOk, IfErr, Option, length, replicate};
+ghost use Rattle.std.specs.Prelude.{◌≡◌, ◌⊎◌, ℕ, ◌<◌, ◌≤◌, ◌^◌, OnOk, IfErr, Option, cond, true, false, length, replicate};
+ghost use Rattle.columns_base.specs.declared.error.Error.{Error};
+ghost use Rattle.columns_base.specs.declared.error.V.{V};
 ghost use Rattle.read_laws.specs.State.{kept_way, leaf_count, StateFits};
+ghost use Rattle.read_laws.specs.Block.{block as marked, AllFit};
+ghost use Rattle.read_state.specs.Kinds.{HasLongItems};
+ghost use Rattle.read_state.specs.Marks.{marks_of};
 ghost use Rattle.read_state.specs.Ticks.{TicksAtMost};
 ghost use Rattle.read_walk.specs.Blocks.{TookBlock, CannotTake};
 ghost use Rattle.read_walk.specs.Order.{zipped, Follows, EndedAt, AreLevels, MayTake};
 
 use crate::block::PairBlock;
-use crate::decode::{decode_block, decode_copies, decode_levels, decode_told};
+use crate::decode::{decode_copies, decode_levels, decode_next};
 use crate::order::{WayLevels, way_levels};
 use crate::traits::NestedDecoder;
 use columns_base::Result;
@@ -50,73 +55,82 @@ pub fn take_pairs<'a, D: NestedDecoder<'a>, L: Ledger>(
     }
 }
 
-/// The same of the pairs of a block.
+// Pushes the next pairs, which are told as bits or bytes or stand in a block, to all parts.
+#[inline(always)]
+fn push_next<L: Ledger>(
+    nested: &mut NestedState,
+    told: bool,
+    reps: &BlockLevels,
+    defs: &BlockLevels,
+    block: &PairBlock,
+    steps: &mut Steps<L>,
+) -> Result<()>
+    requires told { told ≡ true → (length reps.now ≡ 64) × (length defs.now ≡ 64) × (length nested.old < 64) }
+    requires reps { length (cond told reps.now block.now.0) ≤ 64 }
+    requires defs { length (cond told defs.now block.now.1) ≡ length (cond told reps.now block.now.0) }
+    requires fits { AllFit (marks_of (cond told reps.now block.now.0) (cond told defs.now block.now.1)
+        (replicate 64 false)) nested.old }
+    ensures ok { OnOk result (nested.new ≡ marked (marks_of (cond told reps.now block.now.0)
+        (cond told defs.now block.now.1) (replicate 64 false)) 0 0 nested.old) }
+    ensures counted { OnOk result (HasLongItems nested.new → ⊥) }
+    ensures err { IfErr result (λ e. (e ≡ Error.Memory) ⊎ ((e ≡ Error.Overflow V.V1)
+        × HasLongItems (marked (marks_of (cond told reps.now block.now.0) (cond told defs.now block.now.1)
+        (replicate 64 false)) 0 0 nested.old))) }
+    ensures ticked { TicksAtMost (length nested.old) steps.old steps.new }
+{
+    if told {
+        return nested.push_block(reps, defs, steps);
+    }
+    nested.push_levels(block.reps(), block.defs(), steps)
+}
+
+/// The same of the next pairs, which are told as bits or bytes or stand in a block.
 ///
 /// # Errors
 ///
 /// As `take_block`.
-pub fn take_all<'a, D: NestedDecoder<'a>, L: Ledger>(
+pub fn take_next<'a, D: NestedDecoder<'a>, L: Ledger>(
     values: &mut D::State,
     nested: &mut NestedState,
     decoded: &mut D::DecodedState,
     decoder: &D,
     levels: WayLevels,
     before: Option<usize>,
+    told: bool,
+    reps: &BlockLevels,
+    defs: &BlockLevels,
     block: &PairBlock,
     steps: &mut Steps<L>,
 ) -> Result<()>
     requires levels { AreLevels (kept_way nested.old) levels.lists levels.top levels.floor }
-    requires reps { length block.now.0 ≤ 64 }
-    requires defs { length block.now.1 ≡ length block.now.0 }
+    requires may { told ≡ true → MayTake nested.old levels.top before reps.now defs.now }
+    requires reps { length (cond told reps.now block.now.0) ≤ 64 }
+    requires defs { length (cond told defs.now block.now.1) ≡ length (cond told reps.now block.now.0) }
     requires fits { StateFits nested.old }
-    requires follow { Follows (kept_way nested.old) before (zipped block.now.0 block.now.1) }
+    requires follow { Follows (kept_way nested.old) before (zipped (cond told reps.now block.now.0)
+        (cond told defs.now block.now.1)) }
     requires ended { EndedAt before nested.old }
     requires decoded { length (D.slots decoded.old) ≡ leaf_count nested.old }
     requires suits { D.suits decoder.now decoded.old }
-    ensures ok { OnOk result (TookBlock before block.now.0 block.now.1 nested.old nested.new (D.slots decoded.old)
-        (D.slots decoded.new) (D.left decoder.now values.old) (D.left decoder.now values.new)) }
-    ensures err { IfErr result (CannotTake D.byte_limit block.now.0 block.now.1 nested.old
-        (D.left decoder.now values.old) (D.slots decoded.old)) }
+    ensures ok { OnOk result (TookBlock before (cond told reps.now block.now.0) (cond told defs.now block.now.1)
+        nested.old nested.new (D.slots decoded.old) (D.slots decoded.new) (D.left decoder.now values.old)
+        (D.left decoder.now values.new)) }
+    ensures err { IfErr result (CannotTake D.byte_limit (cond told reps.now block.now.0)
+        (cond told defs.now block.now.1) nested.old (D.left decoder.now values.old) (D.slots decoded.old)) }
     ensures ticked { TicksAtMost (length nested.old) steps.old steps.new }
     ensures suits { D.suits decoder.now decoded.new }
 {
-    match decode_block(values, decoded, decoder, block, levels.floor, levels.top) {
-        Ok(()) => nested.push_levels(block.reps(), block.defs(), steps),
-        Err(error) => Err(error),
-    }
-}
-
-/// The same of 64 pairs whose levels are told as bits or bytes.
-///
-/// # Errors
-///
-/// As `take_block`.
-pub fn take_told<'a, D: NestedDecoder<'a>, L: Ledger>(
-    values: &mut D::State,
-    nested: &mut NestedState,
-    decoded: &mut D::DecodedState,
-    decoder: &D,
-    levels: WayLevels,
-    before: Option<usize>,
-    reps: &BlockLevels,
-    defs: &BlockLevels,
-    steps: &mut Steps<L>,
-) -> Result<()>
-    requires levels { AreLevels (kept_way nested.old) levels.lists levels.top levels.floor }
-    requires may { MayTake nested.old levels.top before reps.now defs.now }
-    requires fits { StateFits nested.old }
-    requires ended { EndedAt before nested.old }
-    requires decoded { length (D.slots decoded.old) ≡ leaf_count nested.old }
-    requires suits { D.suits decoder.now decoded.old }
-    ensures ok { OnOk result (TookBlock before reps.now defs.now nested.old nested.new (D.slots decoded.old)
-        (D.slots decoded.new) (D.left decoder.now values.old) (D.left decoder.now values.new)) }
-    ensures err { IfErr result (CannotTake D.byte_limit reps.now defs.now nested.old (D.left decoder.now values.old)
-        (D.slots decoded.old)) }
-    ensures ticked { TicksAtMost (length nested.old) steps.old steps.new }
-    ensures suits { D.suits decoder.now decoded.new }
-{
-    match decode_told(values, decoded, decoder, defs, levels.floor, levels.top) {
-        Ok(()) => nested.push_block(reps, defs, steps),
+    match decode_next(
+        values,
+        decoded,
+        decoder,
+        told,
+        defs,
+        block,
+        levels.floor,
+        levels.top,
+    ) {
+        Ok(()) => push_next(nested, told, reps, defs, block, steps),
         Err(error) => Err(error),
     }
 }

@@ -118,10 +118,3 @@ pub fn take_word<'a>(levels: &mut LevelRuns<'a>) -> Option<u64>
     }
     Some(word)
 }
-
-/// A bit for each of 64 levels that are a word's bits, set where it is 0.
-pub fn zeros_of(word: u64) -> u64
-    ensures { word_bits result 64 ≡ map (λ d. nat_eq d 0) (digits_of 2 64 word) }
-{
-    u64::MAX - word
-}

@@ -39,7 +39,7 @@ returns-clause-taken c =
     let front = taken-front l.rep_block l.def_block l.at l.end count (behind l.max_rep l.max_def l.failed (runs_left l.reps) (runs_left l.defs)) within (omega (arith, is.within, is.rep_size)) (omega (arith, is.within, is.def_size)) in
     let m : l.at + count - l.at ≡ count = omega arith in
     let same : take count c.part_of-reps.result.now ≡ take (l.at + count - l.at) (drop l.at l.rep_block) = rw (c.part_of-reps.ensures, m) (take-less count (l.end - l.at) (drop l.at l.rep_block) (omega (arith, within))) in
-    rw (c.mark_starts.ensures, reps, defs) (
+    rw (reps, defs) (
       sym c.prepare.ensures.same ∙ front,
       def-size ∙ sym rep-size,
       omega (arith, rep-size, c.if-count-eq0.false),
