@@ -4,7 +4,7 @@ use Rattle.std.specs.Prelude.{◌==◌}
 use Rattle.std.specs.Int.{bit_at}
 use Rattle.std.specs.List.{All, AllByRecursion as Each, Contains}
 use Rattle.std.proofs.lemmas.Bool.{cases_lt}
-use Rattle.std.proofs.lemmas.List.Elements.{All-append, All-from_recursion, Contains-append_left, Contains-append_right, Contains-push, Contains-push_cases, recursion_from_All}
+use Rattle.std.proofs.lemmas.List.Elements.{All-append, All-from_recursion, Contains-append_cases, Contains-append_left, Contains-append_right, Contains-push, Contains-push_cases, recursion_from_All}
 use Rattle.shredding.proofs.Levels.{Each-append}
 use Rattle.shredding.specs.Slot.{Value}
 use Rattle.pq_files.specs.Statistics.{IsUpTo}
@@ -103,3 +103,29 @@ ends_kept value e from to places some b h =
       among = moved_in places more from (to - 1) e.greatest first last x.1.among;
       greatest = All-append (λ i. IsUpTo (value i) (value e.greatest)) places more (fronts_of (λ i. IsUpTo (value i) (value e.greatest)) places from (to - 1) x.1.greatest) (λ k d s. (b _ (a k d s).0 (a k d s).1).1);
     })
+
+each_back : (P : ℕ → Type 0) (xs ys : List ℕ) → Each P (xs ++ ys) → Each P ys
+each_back P [] ys h = h
+each_back P (x ∷ xs) ys h = each_back P xs ys h.1
+
+all_moved : (P : ℕ → Type 0) (places more : List ℕ) (a b : ℕ) → All P (((places ++ a ∷ []) ++ b ∷ []) ++ more) → All P (places ++ more)
+all_moved P places more a b h =
+    let ends = (places ++ a ∷ []) ++ b ∷ [] in
+    let each = recursion_from_All P (ends ++ more) h in
+    All-append P places more (fronts_of P places a b (All-from_recursion P ends (each_front P ends more each))) (All-from_recursion P more (each_back P ends more each))
+
+-- what both ends and then all of a stretch make, that makes the stretch alone
+pub ends_within : (value : ℕ → Value) (e : Extremes) (from to : ℕ) (places : List ℕ) → from < to → AreExtremes value (((places ++ from ∷ []) ++ (to - 1) ∷ []) ++ range from (to - from)) (Some e) → AreExtremes value (places ++ range from (to - from)) (Some e)
+ends_within value e from to places some h =
+    let ends = (places ++ from ∷ []) ++ (to - 1) ∷ [] in
+    let more = range from (to - from) in
+    let x = parts_of_extremes value (ends ++ more) e h in
+    let first : Contains more from = stretch_has from (to - from) from (omega arith) (omega (arith, some)) in
+    let last : Contains more (to - 1) = stretch_has from (to - from) (to - 1) (omega (arith, some)) (omega (arith, some)) in
+    let among : (i : ℕ) → Contains (ends ++ more) i → Contains (places ++ more) i = λ i c. elim (Contains-append_cases ends more i c) [
+      | inl d ↦ moved_in places more from (to - 1) i first last d
+      | inr d ↦ Contains-append_right places more i d
+    ] in
+    extremes_of_parts value (places ++ more) e
+    (record { among = among e.least x.0.among; least = all_moved (λ i. IsUpTo (value e.least) (value i)) places more from (to - 1) x.0.least })
+    (record { among = among e.greatest x.1.among; greatest = all_moved (λ i. IsUpTo (value i) (value e.greatest)) places more from (to - 1) x.1.greatest })

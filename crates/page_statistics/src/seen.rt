@@ -104,32 +104,82 @@ fn with_ends<L: OrderedLeaf>(leaf: &L, extremes: Extremes, from: usize, to: usiz
     with_place(leaf, first, to - 1)
 }
 
-// The same as one by one: where no value is past the extremes with both ends, as in numbers that rise or fall, these are those of the block.
-fn with_block<L: OrderedLeaf>(leaf: &L, extremes: Extremes, from: usize, to: usize) -> Extremes
+// The extremes with a piece, one by one where any value in it is past those before.
+fn with_piece<L: OrderedLeaf>(leaf: &L, extremes: Extremes, from: usize, to: usize) -> Extremes
     requires before { AreWithin (L.count leaf.now) (Some extremes) }
-    requires some { from < to }
+    requires ordered { from ≤ to }
     requires within { to ≤ L.count leaf.now }
     ensures within { AreWithin (L.count leaf.now) (Some result) }
     ensures are { (places : List ℕ) → AreExtremes (L.value leaf.now) places (Some extremes)
         → AreExtremes (L.value leaf.now) (places ++ range from (to - from)) (Some result) }
 {
-    let ends = with_ends(leaf, extremes, from, to);
-    if are_between(leaf, ends, from, to) {
-        return ends;
+    if are_between(leaf, extremes, from, to) {
+        return extremes;
     }
     with_each(leaf, extremes, from, to)
 }
 
-// Where a block of at most 128 places ends.
-fn block_end(from: usize, to: usize) -> usize
-    requires { from < to }
+// Where a piece of at most so many places ends.
+fn piece_end(from: usize, to: usize, most: usize) -> usize
+    requires some { from < to }
+    requires size { 0 < most }
     ensures past { from < result }
     ensures within { result ≤ to }
 {
-    if to - from < 128 { to } else { from + 128 }
+    if to - from < most { to } else { from + most }
 }
 
-// The extremes with the places from one on to another.
+// The same as one by one, by pieces: most of them have no value past the extremes.
+fn with_pieces<L: OrderedLeaf>(leaf: &L, extremes: Extremes, from: usize, to: usize) -> Extremes
+    requires before { AreWithin (L.count leaf.now) (Some extremes) }
+    requires ordered { from ≤ to }
+    requires within { to ≤ L.count leaf.now }
+    ensures within { AreWithin (L.count leaf.now) (Some result) }
+    ensures are { (places : List ℕ) → AreExtremes (L.value leaf.now) places (Some extremes)
+        → AreExtremes (L.value leaf.now) (places ++ range from (to - from)) (Some result) }
+{
+    let mut now = extremes;
+    let mut at = from;
+    while at < to {
+        let end = piece_end(at, to, 16);
+        now = with_piece(leaf, now, at, end);
+        at = end;
+    }
+    now
+}
+
+// The extremes with a block, and whether no value in it is past those with both its ends, as in numbers that rise or fall.
+fn with_block<L: OrderedLeaf>(
+    leaf: &L,
+    extremes: Extremes,
+    from: usize,
+    to: usize,
+) -> (Extremes, bool)
+    requires before { AreWithin (L.count leaf.now) (Some extremes) }
+    requires some { from < to }
+    requires within { to ≤ L.count leaf.now }
+    ensures within { AreWithin (L.count leaf.now) (Some result.0) }
+    ensures are { (places : List ℕ) → AreExtremes (L.value leaf.now) places (Some extremes)
+        → AreExtremes (L.value leaf.now) (places ++ range from (to - from)) (Some result.0) }
+{
+    let ends = with_ends(leaf, extremes, from, to);
+    if are_between(leaf, ends, from, to) {
+        return (ends, true);
+    }
+    (with_pieces(leaf, ends, from, to), false)
+}
+
+// How many places the next block has: more behind one that was taken at once.
+fn next_size(size: usize, at_once: bool) -> usize
+    ensures { 0 < result }
+{
+    if !at_once || size == 0 {
+        return 64;
+    }
+    if size < 512 { 2 * size } else { 512 }
+}
+
+// The extremes with the places from one on to another, block by block.
 pub fn search_stretch<L: OrderedLeaf>(
     leaf: &L,
     extremes: Extremes,
@@ -145,9 +195,12 @@ pub fn search_stretch<L: OrderedLeaf>(
 {
     let mut now = extremes;
     let mut at = from;
+    let mut size = 64;
     while at < to {
-        let end = block_end(at, to);
-        now = with_block(leaf, now, at, end);
+        let end = piece_end(at, to, size);
+        let (next, at_once) = with_block(leaf, now, at, end);
+        now = next;
+        size = next_size(size, at_once);
         at = end;
     }
     now

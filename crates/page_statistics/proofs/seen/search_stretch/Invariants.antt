@@ -1,4 +1,4 @@
-use Rattle.std.proofs.Common.{◌≤◌, ◌-◌, ◌++◌, List, ℕ, Some}
+use Rattle.std.proofs.Common.{◌<◌, ◌≤◌, ◌-◌, ◌++◌, List, ℕ, Some}
 use Rattle.write_places.specs.Places.{range}
 use Rattle.page_statistics.specs.Extremes.{AreExtremes, AreWithin}
 use Rattle.page_statistics.proofs.seen.search_stretch.Given as goal
@@ -8,6 +8,7 @@ decreases-loop-at g l = l.to - l.at
 
 abbrev pub invariant-loop-at : goal.invariant-loop-at
 invariant-loop-at g l = record {
+  size : 0 < l.size;
   within : AreWithin (g.L.OrderedLeaf.count l.leaf) (Some l.now);
   from : l.from ≤ l.at;
   before : l.at ≤ l.to;
