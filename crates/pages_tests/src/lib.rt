@@ -13,6 +13,8 @@ mod footer_tests;
 #[cfg(test)]
 mod page_tests;
 #[cfg(test)]
+mod straight_tests;
+#[cfg(test)]
 mod thrift_tests;
 #[cfg(test)]
 mod tree_tests;
