@@ -94,7 +94,7 @@ fn copy_path(alloc: Global, path: &[String]) -> Result<Vec<String>>
     ensures ok { IfOk result (λ p. map string_bytes p.items ≡ map string_bytes path.now) }
     ensures err { IfErr result (λ e. e ≡ Memory) }
 {
-    let mut names = Vec::new(alloc);
+    let mut names = Vec::with_capacity(alloc, path.len())?;
     for name in path {
         names.push(String::from_str(alloc, name.as_str())?)?;
     }

@@ -61,7 +61,7 @@ pub(crate) fn push_columns<W: Sink, P: ChunkPages>(
         → AllGive P.begins version ls cs columns.old → SomeColumnPasses version ls cs start))
         ⊎ SomeRefuses P.refuses columns.old e) }
 {
-    let mut metas = Vec::new(alloc);
+    let mut metas = Vec::with_capacity(alloc, columns.len())?;
     let mut end = start;
     let mut pages = Count::zero();
     let mut i: usize = 0;
