@@ -10,3 +10,4 @@ pub mod SlotLevels
 pub mod PlaneNumbers
 pub mod Bytes
 pub mod Full
+pub mod FullLists

@@ -205,6 +205,75 @@ told-next level parts above place count next i pieces new more same e few here h
         let k : j ≡ next = omega (arith, le, after) in
         rw k (start ∙ ap length all)
 
+-- some slots more at once
+pub told-run : (level : Level) (parts : List Part) (above : Above) (place count n next : ℕ) (pieces new : Pieces) → above.rep ≡ above.depth → next ≡ count + n → next ≤ 2048 → AreTold (λ m. walked level parts above place m) count pieces → new.told ≡ pieces.told ++ walked level parts above (place + count) n → ((j : ℕ) → j ≤ count → slice_index new.starts j ≡ slice_index pieces.starts j) → ((j : ℕ) → count < j → j ≤ next → slice_index new.starts j ≡ length pieces.told + length (walked level parts above (place + count) (j - count))) → AreTold (λ m. walked level parts above place m) next new
+told-run level parts above place count n next pieces new same e few h add before each = record {
+  few = few;
+  told = add ∙ (ap (λ (xs : List ℕ). xs ++ walked level parts above (place + count) n) h.told ∙ (sym (walked-add level parts above place count n same) ∙ ap (λ (m : ℕ). walked level parts above place m) (sym e)));
+  starts = λ j le. by_order j le (cases_lt count j);
+}
+  where
+    by_order : (j : ℕ) → j ≤ next → (count < j) ⊎ (j ≤ count) → slice_index new.starts j ≡ length (walked level parts above place j)
+    by_order j le (inr old) = before j old ∙ h.starts j old
+    by_order j le (inl more) =
+        let back : count + (j - count) ≡ j = omega (arith, more) in
+        each j more le
+        ∙ (ap (λ (xs : List ℕ). length xs + length (walked level parts above (place + count) (j - count))) h.told
+        ∙ (sym (length-append (walked level parts above place count) (walked level parts above (place + count) (j - count)))
+        ∙ ap length (sym (walked-add level parts above place count (j - count) same) ∙ ap (λ (m : ℕ). walked level parts above place m) back)))
+
+pub starts-apart : (level : Level) (parts : List Part) (above : Above) (place count a b : ℕ) (pieces : Pieces) → above.rep ≡ above.depth → a ≤ b → b ≤ count → AreTold (λ n. walked level parts above place n) count pieces → slice_index pieces.starts b ≡ slice_index pieces.starts a + length (walked level parts above (place + a) (b - a))
+starts-apart level parts above place count a b pieces same le within h =
+    let back : a + (b - a) ≡ b = omega (arith, le) in
+    let at : slice_index pieces.starts a ≡ length (walked level parts above place a) = h.starts a (omega (arith, le, within)) in
+    h.starts b within
+    ∙ (ap length (ap (λ (m : ℕ). walked level parts above place m) (sym back) ∙ walked-add level parts above place a (b - a) same)
+    ∙ (length-append (walked level parts above place a) (walked level parts above (place + a) (b - a))
+    ∙ ap (λ (k : ℕ). k + length (walked level parts above (place + a) (b - a))) (sym at)))
+
+pub starts-within : (level : Level) (parts : List Part) (above : Above) (place count b : ℕ) (pieces : Pieces) → above.rep ≡ above.depth → b ≤ count → AreTold (λ n. walked level parts above place n) count pieces → slice_index pieces.starts b ≤ length pieces.told
+starts-within level parts above place count b pieces same le h =
+    let apart = starts-apart level parts above place count b count pieces same le (omega arith) h in
+    omega (arith, apart, h.starts count (omega arith), ap length h.told)
+
+present-struct : (level : Level) (is_optional : Bool) (mask : Option (List Bool)) (count : ℕ) (rest : List Part) (above : Above) (i : ℕ) → is_present is_optional mask i ≡ true → walked level (struct_part is_optional mask count ∷ rest) above i 1 ≡ walked level rest (above_fields above is_optional) i 1
+present-struct level is_optional mask count rest above i e =
+    one-slot level (struct_part is_optional mask count ∷ rest) above i
+    ∙ (ap (map (level_of level)) (full_struct-pairs is_optional mask count rest above.def above.depth above.rep i e)
+    ∙ sym (one-slot level rest (above_fields above is_optional) i))
+
+-- structs that are there have the levels of what is beneath them
+pub present-structs : (level : Level) (is_optional : Bool) (mask : Option (List Bool)) (count : ℕ) (rest : List Part) (above : Above) (place n : ℕ) → above.rep ≡ above.depth → ((i : ℕ) → i < n → is_present is_optional mask (place + i) ≡ true) → walked level (struct_part is_optional mask count ∷ rest) above place n ≡ walked level rest (above_fields above is_optional) place n
+present-structs level is_optional mask count rest above place zero same there =
+    walked-no level (struct_part is_optional mask count ∷ rest) above place ∙ sym (walked-no level rest (above_fields above is_optional) place)
+present-structs level is_optional mask count rest above place (suc n) same there =
+    let one : suc n ≡ n + 1 = omega arith in
+    let here = struct_part is_optional mask count ∷ rest in
+    let under = above_fields above is_optional in
+    ap (λ (m : ℕ). walked level here above place m) one
+    ∙ (walked-add level here above place n 1 same
+    ∙ (ap (λ (xs : List ℕ). xs ++ walked level here above (place + n) 1) (present-structs level is_optional mask count rest above place n same (λ i h. there i (omega (arith, h))))
+    ∙ (ap (λ (xs : List ℕ). walked level rest under place n ++ xs) (present-struct level is_optional mask count rest above (place + n) (there n (omega arith)))
+    ∙ (sym (walked-add level rest under place n 1 same) ∙ ap (λ (m : ℕ). walked level rest under place m) (sym one)))))
+
+-- the same of those of a cut
+pub present-cut : (level : Level) (is_optional : Bool) (mask : Option (List Bool)) (count : ℕ) (rest : List Part) (above : Above) (from place n to : ℕ) (lower upper new : Pieces) → above.rep ≡ above.depth → from ≤ place → 0 < n → place + n ≤ to → to - from ≤ 2048 → ((i : ℕ) → i < n → is_present is_optional mask (place + i) ≡ true) → AreTold (λ m. walked level rest (above_fields above is_optional) from m) (to - from) lower → AreTold (λ m. walked level (struct_part is_optional mask count ∷ rest) above from m) (place - from) upper → new.told ≡ upper.told ++ take (slice_index lower.starts (place - from + n) - slice_index lower.starts (place - from)) (drop (slice_index lower.starts (place - from)) lower.told) → ((j : ℕ) → j < place - from + 1 → slice_index new.starts j ≡ slice_index upper.starts j) → ((j : ℕ) → place - from + 1 ≤ j → j < place - from + 1 + n → slice_index new.starts j ≡ slice_index lower.starts j - slice_index lower.starts (place - from) + length upper.told) → AreTold (λ m. walked level (struct_part is_optional mask count ∷ rest) above from m) (place + n - from) new
+present-cut level is_optional mask count rest above from place n to lower upper new same after some within room there beneath h add before each =
+    let under = above_fields above is_optional in
+    let here = struct_part is_optional mask count ∷ rest in
+    let a : ℕ = place - from in
+    let at : from + a ≡ place = omega (arith, after) in
+    let size : a + n - a ≡ n = omega arith in
+    let is = cut level rest under from (to - from) a (a + n) lower same (omega (arith, some)) (omega (arith, after, within)) beneath in
+    let alike = λ (m : ℕ) (le : m ≤ n). present-structs level is_optional mask count rest above (from + a) m same (λ i l. ap (λ (p : ℕ). is_present is_optional mask (p + i)) at ∙ there i (omega (arith, l, le))) in
+    told-run level here above from a n (place + n - from) upper new same (omega (arith, after)) (omega (arith, room, within)) h
+    (add ∙ ap (λ (xs : List ℕ). upper.told ++ xs) (is.levels ∙ (ap (λ (m : ℕ). walked level rest under (from + a) m) size ∙ sym (alike n (omega arith)))))
+    (λ j le. before j (omega (arith, le)))
+    (λ j more le.
+    let apart = starts-apart level rest under from (to - from) a j lower same (omega (arith, more)) (omega (arith, le, after, within)) beneath in
+    let length_same : length (walked level here above (from + a) (j - a)) ≡ length (walked level rest under (from + a) (j - a)) = ap length (alike (j - a) (omega (arith, le, after))) in
+    omega (arith, each j (omega (arith, more)) (omega (arith, le, after)), apart, length_same))
+
 -- ---- slots of one pair each
 
 flat-run : (piece : ℕ → ℕ → List (ℕ × ℕ)) → ((rep i : ℕ) → length (piece rep i) ≡ 1) → (rep depth place n : ℕ) → length (run piece rep depth place n) ≡ n

@@ -10,6 +10,7 @@ mod lists;
 mod pieces;
 mod planes;
 mod prefix;
+mod raising;
 mod section;
 mod sections;
 mod spans;

@@ -1,5 +1,5 @@
 //! Levels of lists above lists, part by part from the leaf up.
-ghost use Rattle.std.specs.Prelude.{◌≡◌, ℕ, ◌+◌, ◌-◌, ◌<◌, ◌≤◌, ◌++◌, ◌∷◌, ◌==◌, IsTrue, List, drop, length, slice_index, take};
+ghost use Rattle.std.specs.Prelude.{◌≡◌, ◌≢◌, ℕ, ◌+◌, ◌-◌, ◌<◌, ◌≤◌, ◌++◌, ◌∷◌, ◌==◌, IsTrue, true, List, drop, length, slice_index, take};
 ghost use Rattle.std.specs.Int.{bit_at};
 ghost use Rattle.columns_core.specs.Rising.{IsRising};
 ghost use Rattle.shredding.specs.Parts.{IsPath, MaskFits, is_present, item_span, item_start, list_part, path_way, slot_count, struct_part};
@@ -12,6 +12,7 @@ ghost use Rattle.level_sections.specs.Walk.{IsLow, walked};
 use crate::block::step_of;
 use crate::items::item_place;
 use crate::level_bytes::LevelBytes;
+use crate::raising::{full_lists, item_edges, push_full, push_present, set_run};
 use crate::tell::tell_flat;
 use crate::walk::Above;
 use columns_core::{Bitmap, Offset};
@@ -100,7 +101,7 @@ fn tell_flats(
 
 // The first of the last levels, where it is a repetition level.
 #[inline(always)]
-fn set_first(told: &mut LevelBytes, level: Level, at: usize, depth: u32)
+pub fn set_first(told: &mut LevelBytes, level: Level, at: usize, depth: u32)
     requires within { at < length told.old }
     requires low { depth < 256 }
     ensures { (front piece : List ℕ) → told.old ≡ front ++ piece → length front ≡ at → 0 < length piece
@@ -247,6 +248,81 @@ fn push_struct(
     )
 }
 
+// The levels of the next lists of a word: those with items side by side, or one. Answers how many these are, none where they have no room.
+#[inline(always)]
+fn raise_some_lists<O: Offset>(
+    upper: &mut Pieces,
+    lower: &Pieces,
+    level: Level,
+    list: &ListNested<O>,
+    rest: &[Nested],
+    above: Above,
+    word: u64,
+    full: u64,
+    edges: &[u16; 65],
+    from: usize,
+    place: usize,
+    at: usize,
+    count: usize,
+    last: usize,
+) -> usize
+    requires after { from ≤ place }
+    requires next { at < count }
+    requires few { count ≤ 64 }
+    requires room { place + count - from ≤ 2048 }
+    requires within { place + count ≤ length list.now.offsets - 1 }
+    requires bits { (i : ℕ) → i < count → (bit_at word i == 1) ≡ is_present list.now.is_optional list.now.validity
+        (place + i) }
+    requires full { (i : ℕ) → i < 64 → (bit_at full i == 1) ≡ true → ((bit_at word i == 1) ≡ true)
+        × (slice_index edges.now i ≢ slice_index edges.now (i + 1)) }
+    requires edges { (k : ℕ) → k ≤ count → slice_index edges.now k ≡ item_start list.now.offsets (place + k)
+        - item_start list.now.offsets from }
+    requires rises { IsRising list.now.offsets }
+    requires before { item_start list.now.offsets (place + count) ≤ last }
+    requires same { above.rep ≡ above.depth }
+    requires def { above.def < 255 }
+    requires depth { above.depth < 256 }
+    requires beneath { AreTold (λ n. walked level (parts_of rest.now) (above_items above list.now.is_optional)
+        (item_start list.now.offsets from) n) (last - item_start list.now.offsets from) lower.now }
+    requires told { AreTold (λ n. walked level
+        (list_part list.now.is_optional list.now.validity list.now.offsets ∷ parts_of rest.now) above from n)
+        (place + at - from) upper.old }
+    ensures within { at + result ≤ count }
+    ensures told { 0 < result
+        → AreTold (λ n. walked level
+        (list_part list.now.is_optional list.now.validity list.now.offsets ∷ parts_of rest.now) above from n)
+        (place + (at + result) - from) upper.new }
+{
+    let some = set_run(full, at, count);
+    if some > 0 {
+        let is_told = push_full(
+            upper, lower, level, list, rest, above, edges, from, place, at, some, last,
+        );
+        return if is_told { some } else { 0 };
+    }
+    // the number of lists fits its type, so `place + at` does
+    let _lists = list.offsets.len_proxy();
+    let there = (word >> at) & 1 == 1;
+    if !push_list(
+        &mut upper.told,
+        lower,
+        level,
+        list,
+        rest,
+        above,
+        there,
+        from,
+        place + at,
+        edges[at] as usize,
+        edges[at + 1] as usize,
+        last,
+    ) {
+        return 0;
+    }
+    mark(upper, place + at + 1 - from);
+    1
+}
+
 // The levels of up to 64 lists, behind those of the lists before them, by those of the items. A word tells which are there.
 #[inline(never)]
 fn raise_word<O: Offset>(
@@ -285,31 +361,17 @@ fn raise_word<O: Offset>(
     list.offsets.know();
     // the number of lists fits its type, so `place + i` does
     let _lists = list.offsets.len_proxy();
-    let begin = list.offsets.place(from);
-    let mut start = list.offsets.place(place) - begin;
+    let edges = item_edges(&list.offsets, from, place, count);
+    let full = full_lists(&edges, word);
     let mut i = 0;
     while i < count {
-        let there = (word >> i) & 1 == 1;
-        let stop = list.offsets.place(place + i + 1) - begin;
-        if !push_list(
-            &mut upper.told,
-            lower,
-            level,
-            list,
-            rest,
-            above,
-            there,
-            from,
-            place + i,
-            start,
-            stop,
-            last,
-        ) {
+        let some = raise_some_lists(
+            upper, lower, level, list, rest, above, word, full, &edges, from, place, i, count, last,
+        );
+        if some == 0 {
             return false;
         }
-        i += 1;
-        start = stop;
-        mark(upper, place + i - from);
+        i += some;
     }
     true
 }
@@ -361,6 +423,81 @@ fn raise_lists<O: Offset>(
     true
 }
 
+// The levels of the next structs of a word: those that are there side by side, or one that is not. Answers how many these are, none where they have no
+// room.
+#[inline(always)]
+fn raise_some_structs(
+    upper: &mut Pieces,
+    lower: &Pieces,
+    level: Level,
+    mask: &Option<Bitmap>,
+    is_optional: bool,
+    slots: usize,
+    rest: &[Nested],
+    above: Above,
+    word: u64,
+    from: usize,
+    place: usize,
+    at: usize,
+    count: usize,
+    to: usize,
+) -> usize
+    requires after { from ≤ place }
+    requires next { at < count }
+    requires few { count ≤ 64 }
+    requires room { to - from ≤ 2048 }
+    requires within { place + count ≤ to }
+    requires bits { (i : ℕ) → i < count → (bit_at word i == 1) ≡ is_present is_optional mask.now (place + i) }
+    requires same { above.rep ≡ above.depth }
+    requires def { above.def < 255 }
+    requires depth { above.depth < 256 }
+    requires beneath { AreTold (λ n. walked level (parts_of rest.now) (above_fields above is_optional) from n)
+        (to - from) lower.now }
+    requires told { AreTold (λ n. walked level
+        (struct_part is_optional mask.now slots ∷ parts_of rest.now) above from n) (place + at - from) upper.old }
+    ensures within { at + result ≤ count }
+    ensures told { 0 < result
+        → AreTold (λ n. walked level (struct_part is_optional mask.now slots ∷ parts_of rest.now) above from n)
+        (place + (at + result) - from) upper.new }
+{
+    let some = set_run(word, at, count);
+    if some > 0 {
+        let is_told = push_present(
+            upper,
+            lower,
+            level,
+            mask,
+            is_optional,
+            slots,
+            rest,
+            above,
+            from,
+            place + at,
+            some,
+            to,
+        );
+        return if is_told { some } else { 0 };
+    }
+    if !push_struct(
+        &mut upper.told,
+        lower,
+        level,
+        mask,
+        is_optional,
+        slots,
+        rest,
+        above,
+        false,
+        place + at,
+        from,
+        to,
+    ) {
+        return 0;
+    }
+    mark(upper, place + at + 1 - from);
+    1
+}
+
 // The levels of up to 64 structs, behind those of the structs before them, by those of what is beneath them. A word tells which are there.
 #[inline(never)]
 fn raise_struct_word(
@@ -396,9 +533,8 @@ fn raise_struct_word(
 {
     let mut i = 0;
     while i < count {
-        let there = (word >> i) & 1 == 1;
-        if !push_struct(
-            &mut upper.told,
+        let some = raise_some_structs(
+            upper,
             lower,
             level,
             mask,
@@ -406,15 +542,17 @@ fn raise_struct_word(
             slots,
             rest,
             above,
-            there,
-            place + i,
+            word,
             from,
+            place,
+            i,
+            count,
             to,
-        ) {
+        );
+        if some == 0 {
             return false;
         }
-        i += 1;
-        mark(upper, place + i - from);
+        i += some;
     }
     true
 }

@@ -1,5 +1,5 @@
-use Rattle.std.proofs.Common.{◌≡◌, ◌+◌, ◌-◌, ◌≤◌, ◌∷◌}
-use Rattle.shredding.specs.Parts.{item_start, list_part}
+use Rattle.std.proofs.Common.{◌+◌, ◌-◌, ◌≤◌, ◌∷◌}
+use Rattle.shredding.specs.Parts.{list_part}
 use Rattle.levels.specs.Nested.{parts_of}
 use Rattle.level_sections.specs.Pieces.{AreTold}
 use Rattle.level_sections.specs.Walk.{walked}
@@ -8,7 +8,6 @@ use Rattle.level_sections.proofs.pieces.raise_word.Given as goal
 abbrev pub invariant-loop-i : goal.invariant-loop-i
 invariant-loop-i g l = record {
   before : l.i ≤ l.count;
-  start : l.start ≡ item_start l.list.offsets (l.place + l.i) - item_start l.list.offsets l.from;
   told : AreTold (λ n. walked l.level (list_part l.list.is_optional l.list.validity l.list.offsets ∷ parts_of l.rest) l.above l.from n) (l.place + l.i - l.from) l.upper;
 }
 
