@@ -5,7 +5,6 @@ pub mod Blocks
 pub mod SameRuns
 pub mod Shifting
 pub mod Long
-pub mod Places
 pub mod Empty
 pub mod Validities
 pub mod Compared

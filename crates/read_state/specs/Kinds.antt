@@ -1,5 +1,5 @@
 -- What each kind of part keeps of its pushes.
-use Rattle.std.specs.Prelude.{ℕ, ◌^◌, ◌≤◌, ◌⊎◌, ◌≡◌, ℤ, Bool, true, false, nat_lt, if◌then◌else◌, Option, Some, None, List, [], ◌∷◌, map, length, slice_index, slice_index_or}
+use Rattle.std.specs.Prelude.{ℕ, ◌^◌, ◌≤◌, ◌⊎◌, ◌≡◌, ℤ, Bool, true, false, nat_lt, if◌then◌else◌, Option, Some, None, List, [], ◌∷◌, map, length, slice_index}
 use Rattle.std.specs.Int.{w64, cast_signed, cast_unsigned}
 use Rattle.read_laws.specs.State.{Kept, kept_leaf, kept_list, kept_struct, count, size}
 use Rattle.read_laws.specs.Step.{is_list}
@@ -44,10 +44,6 @@ kept_box (StructValid p) = kept_required_struct p
 
 abbrev pub all_kept : List NestedBox → List Kept
 all_kept boxes = map kept_box boxes
-
--- the part at a place
-abbrev pub part_at : List Kept → ℕ → Kept
-part_at ks i = slice_index_or ks i (kept_leaf false 0)
 
 -- the starts of a list, none for the other kinds
 abbrev pub starts : Kept → List ℕ

@@ -1,14 +1,12 @@
 //! The nested state.
-ghost use Rattle.std.specs.Prelude.{◌≡◌, ◌↔◌, ◌⊎◌, IsTrue, ℕ, ◌+◌, ◌*◌, ◌-◌, ◌<◌, ◌≤◌, ◌^◌, false, [], ◌∷◌, ◌++◌, MatchOption, replicate, IfErr, OnOk, List, slice_index_or, slice_set, length as list_length};
-ghost use Rattle.std.specs.Int.{w64, cast_unsigned};
+ghost use Rattle.std.specs.Prelude.{◌≡◌, ◌↔◌, ◌⊎◌, IsTrue, ◌+◌, ◌-◌, ◌<◌, ◌≤◌, ◌^◌, false, [], ◌∷◌, ◌++◌, MatchOption, replicate, IfErr, OnOk, List, length as list_length};
 ghost use Rattle.columns_base.specs.declared.error.Error.{Error};
 ghost use Rattle.columns_base.specs.declared.error.V.{V};
 ghost use Rattle.shredding.specs.Shred.{max_definition, max_repetition};
 ghost use Rattle.shredding.specs.Local.{inside};
-ghost use Rattle.read_laws.specs.State.{Kept, kept_way, leaf_count, size, count as slot_count};
-ghost use Rattle.read_laws.specs.Step.{bit, pushed};
+ghost use Rattle.read_laws.specs.State.{Kept, kept_way, leaf_count, count as slot_count};
 ghost use Rattle.read_laws.specs.Block.{block, AllFit};
-ghost use Rattle.read_state.specs.Kinds.{all_kept, kept_box, part_at, HasLongItems};
+ghost use Rattle.read_state.specs.Kinds.{all_kept, kept_box, HasLongItems};
 ghost use Rattle.read_state.specs.Marks.{marks_of};
 ghost use Rattle.read_state.specs.Ticks.{TicksAtMost};
 
@@ -96,61 +94,6 @@ impl NestedState {
         ensures { IsTrue result ↔ self.now ≡ other.now }
     {
         same_parts(&self.nested, &other.nested)
-    }
-
-    /// One push more to the part at this place: the length of the part beneath it, and whether the slot is there. One step.
-    ///
-    /// # Errors
-    ///
-    /// `Memory`; the state is then as before.
-    pub fn push_at<L: Ledger>(
-        &mut self,
-        depth: usize,
-        length: i64,
-        is_valid: bool,
-        steps: &mut Steps<L>,
-    ) -> Result<()>
-        requires within { depth < list_length self.old }
-        requires counted { size (part_at self.old depth) < 2 ^ 64 - 1 }
-        ensures ok { OnOk result (self.new ≡ slice_set self.old depth
-            (pushed (part_at self.old depth) (cast_unsigned w64 length) 0 is_valid 1)) }
-        ensures err { IfErr result (λ e. (e ≡ Error.Memory) × (self.new ≡ self.old)) }
-        ensures ticked { steps.new ≡ steps.old + 1 }
-    {
-        self.push_run_at(
-            depth,
-            length.cast_unsigned() as usize,
-            false,
-            is_valid,
-            1,
-            steps,
-        )
-    }
-
-    /// `count` pushes more to the part at this place: the first where the part beneath has the length `first`, each other where it has one more
-    /// than at the one before if it `grows`, and else the same. One step for them all.
-    ///
-    /// # Errors
-    ///
-    /// `Memory`; the state is then as before.
-    pub fn push_run_at<L: Ledger>(
-        &mut self,
-        depth: usize,
-        first: usize,
-        grows: bool,
-        is_valid: bool,
-        count: usize,
-        steps: &mut Steps<L>,
-    ) -> Result<()>
-        requires within { depth < list_length self.old }
-        requires fits { first + count ≤ 2 ^ 64 }
-        ensures ok { OnOk result (self.new ≡ slice_set self.old depth
-            (pushed (part_at self.old depth) first (bit grows) is_valid count)) }
-        ensures err { IfErr result (λ e. (e ≡ Error.Memory) × (self.new ≡ self.old)) }
-        ensures ticked { steps.new ≡ steps.old + 1 }
-    {
-        steps.tick();
-        self.nested[depth].push_run(first, grows, is_valid, count)
     }
 
     /// Pushes a block of at most 64 pairs to all parts. At most one step for each part.

@@ -7,7 +7,7 @@ ghost use Rattle.schema_codec.specs.Tags.{tag_of, simple_tree, units, unit_numbe
 use columns_core::{DataType, IntegerType, IntervalUnit, TimeUnit};
 
 /// A type that has no part.
-#[derive(Clone, Copy, Debug, PartialEq, Eq)]
+#[derive(Clone, Copy)]
 pub enum Simple {
     Null,
     Boolean,
@@ -31,7 +31,7 @@ pub enum Simple {
 }
 
 /// A type that has units, sizes or texts, and no type within.
-#[derive(Clone, Copy, Debug, PartialEq, Eq)]
+#[derive(Clone, Copy)]
 pub enum Measured {
     Timestamp,
     Time32,
@@ -44,7 +44,7 @@ pub enum Measured {
 }
 
 /// A type that has types within.
-#[derive(Clone, Copy, Debug, PartialEq, Eq)]
+#[derive(Clone, Copy)]
 pub enum Container {
     List,
     FixedSizeList,
@@ -57,7 +57,7 @@ pub enum Container {
 }
 
 /// What a type's first byte tells.
-#[derive(Clone, Copy, Debug, PartialEq, Eq)]
+#[derive(Clone, Copy)]
 pub enum Tag {
     Plain(Simple),
     Leaf(Measured),

@@ -9,7 +9,7 @@ use columns_core::{DataType, IntegerType, IntervalUnit, TimeUnit};
 use schema_codec::{interval_unit_from, unit_from};
 
 /// A type whose table has no slots, and which has no children.
-#[derive(Clone, Copy, Debug, PartialEq, Eq)]
+#[derive(Clone, Copy)]
 pub enum Simple {
     Null,
     Binary,
@@ -20,7 +20,7 @@ pub enum Simple {
 }
 
 /// A type whose table has slots, and which has no children.
-#[derive(Clone, Copy, Debug, PartialEq, Eq)]
+#[derive(Clone, Copy)]
 pub enum Measured {
     Int,
     FloatingPoint,
@@ -34,7 +34,7 @@ pub enum Measured {
 }
 
 /// A type that has children.
-#[derive(Clone, Copy, Debug, PartialEq, Eq)]
+#[derive(Clone, Copy)]
 pub enum Container {
     List,
     Struct,
@@ -45,7 +45,7 @@ pub enum Container {
 }
 
 /// The type that a field's type tag tells of.
-#[derive(Clone, Copy, Debug, PartialEq, Eq)]
+#[derive(Clone, Copy)]
 pub enum Tag {
     Plain(Simple),
     Leaf(Measured),

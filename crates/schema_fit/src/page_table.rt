@@ -10,7 +10,7 @@ use columns_core::{DataType, IntervalUnit, TimeUnit};
 use pq_tree::{ConvertedType, LogicalType, PrimitiveType, TimeUnit as ParquetTimeUnit};
 
 /// The physical types in which values may be stored (Parquet format, `Type`).
-#[derive(Clone, Copy, Debug, PartialEq, Eq)]
+#[derive(Clone, Copy)]
 pub enum Stored {
     Boolean,
     Int32,
@@ -25,7 +25,7 @@ pub enum Stored {
 }
 
 /// A type whose values pages may have.
-#[derive(Clone, Copy, Debug, PartialEq, Eq)]
+#[derive(Clone, Copy)]
 pub struct Row {
     pub stored: Stored,
     /// Whether the leaf may stand beneath a list, a map or a struct.
@@ -33,7 +33,7 @@ pub struct Row {
 }
 
 /// What is asked of two leaves.
-#[derive(Clone, Copy, Debug, PartialEq, Eq)]
+#[derive(Clone, Copy)]
 pub enum Asked {
     /// That nothing known of the Arrow type speaks against the stored one.
     Agreement,
