@@ -1,5 +1,5 @@
 -- The numbers that stand for types of values (Thrift compact protocol, "Struct" and "List and Set").
-use Rattle.std.specs.Prelude.{ℕ, Option, Some, None, ◌==◌, if◌then◌else◌}
+use Rattle.std.specs.Prelude.{ℕ, Bool, true, false, Option, Some, None, ◌==◌, if◌then◌else◌}
 use Rattle.pq_thrift.specs.declared.kind.Kind.{Kind}
 use Rattle.pq_thrift.specs.declared.kind.Kind.TheVariants as kinds
 
@@ -18,3 +18,11 @@ kind_of n =
     else if n == 11 then Some kinds.Map
     else if n == 12 then Some kinds.Struct
     else None
+
+-- "Base types": the values of these have no parts
+abbrev pub is_base : Kind → Bool
+is_base kinds.List = false
+is_base kinds.Set = false
+is_base kinds.Map = false
+is_base kinds.Struct = false
+is_base kind = true

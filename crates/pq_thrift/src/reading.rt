@@ -1,11 +1,12 @@
 //! Reading a value, from left to right.
 
-ghost use Rattle.std.specs.Prelude.{◌≡◌, ◌≤◌, ◌++◌, ℕ, List, length, take, IfOk, Ok, Err, if◌then◌else◌};
+ghost use Rattle.std.specs.Prelude.{◌≡◌, ◌≤◌, ◌++◌, ℕ, List, length, take, IfOk, Ok, Err, true, if◌then◌else◌};
 ghost use Rattle.columns_base.specs.declared.error.S.TheVariants.{S1};
 ghost use Rattle.columns_base.specs.declared.error.N.TheVariants.{N7};
 ghost use Rattle.pq_thrift.specs.declared.fault.Fault.TheVariants.{Outside, Deep};
 ghost use Rattle.pq_thrift.specs.declared.kind.Kind.TheVariants.{Struct as struct_kind, True as true_kind, False as false_kind, I32 as short_kind, I64 as long_kind};
 ghost use Rattle.pq_thrift.specs.Grammar.{Spells, depth};
+ghost use Rattle.pq_thrift.specs.Kinds.{is_base};
 ghost use Rattle.pq_thrift.specs.Nesting.{NestsPast, IsOutside};
 ghost use Rattle.pq_thrift.specs.Outcome.{told, ReadsAs};
 ghost use Rattle.pq_thrift.specs.Parse.{Gives};
@@ -41,15 +42,10 @@ fn take_value(
     take_element(alloc, kind, bytes, depth - 1)
 }
 
-/// A value of a kind, the parts of which nest to at most `depth`.
-#[cycle(read)]
-fn take_element(
-    alloc: Global,
-    kind: Kind,
-    bytes: &[u8],
-    depth: u8,
-) -> Result<(Thrift, &[u8]), Refusal>
-    ensures gives { Gives (λ x. (view x.0, x.1.now)) result (element_at depth kind bytes.now) }
+/// A value of a base type, which has no parts.
+fn take_base(alloc: Global, kind: Kind, bytes: &[u8]) -> Result<(Thrift, &[u8]), Refusal>
+    requires { is_base kind ≡ true }
+    ensures gives { (depth : ℕ) → Gives (λ x. (view x.0, x.1.now)) result (element_at depth kind bytes.now) }
     ensures no_longer { IfOk result (λ x. length x.1.now ≤ length bytes.now) }
 {
     match kind {
@@ -81,6 +77,22 @@ fn take_element(
             let (text, rest) = take_binary(alloc, bytes)?;
             Ok((Thrift::Binary(text), rest))
         }
+        Kind::List | Kind::Set | Kind::Map | Kind::Struct => unreachable!(),
+    }
+}
+
+/// A value of a kind, the parts of which nest to at most `depth`.
+#[cycle(read)]
+fn take_element(
+    alloc: Global,
+    kind: Kind,
+    bytes: &[u8],
+    depth: u8,
+) -> Result<(Thrift, &[u8]), Refusal>
+    ensures gives { Gives (λ x. (view x.0, x.1.now)) result (element_at depth kind bytes.now) }
+    ensures no_longer { IfOk result (λ x. length x.1.now ≤ length bytes.now) }
+{
+    match kind {
         Kind::List => {
             let ((number, values), rest) = take_list(alloc, bytes, depth)?;
             Ok((Thrift::List(number, values), rest))
@@ -97,6 +109,7 @@ fn take_element(
             let (fields, rest) = take_struct(alloc, bytes, depth)?;
             Ok((Thrift::Struct(fields), rest))
         }
+        base => take_base(alloc, base, bytes),
     }
 }
 
