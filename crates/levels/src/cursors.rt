@@ -39,6 +39,23 @@ pub fn put<'a>(stack: &mut Vec<Cursor<'a>>, room: usize, cursor: Cursor<'a>)
     }
 }
 
+// Puts a cursor back on the stack for its slots from a place on, where it has some.
+#[inline(always)]
+fn put_rest<'a>(stack: &mut Vec<Cursor<'a>>, room: usize, cursor: Cursor<'a>, place: usize)
+    requires well { IsPath (parts_of cursor.parts.now) }
+    requires within { cursor.end ≤ slot_count (parts_of cursor.parts.now) }
+    requires low { IsLow cursor }
+    requires fits { CursorsFit room stack.old.items }
+    requires below { length cursor.parts.now ≤ room_after room stack.old.items }
+    requires room { room ≤ vec_capacity stack.old }
+    ensures fits { CursorsFit room stack.new.items }
+    ensures below { length cursor.entry.parts.now ≤ room_after room stack.new.items + 1 }
+    ensures room { room ≤ vec_capacity stack.new }
+    ensures left { left stack.new.items ≡ cursor_pairs (record cursor.entry { place = place }) ++ left stack.old.items }
+{
+    put(stack, room, Cursor { place, ..cursor });
+}
+
 // Levels in front of what is left on the stack: the first, and so many others of one value.
 #[derive(Clone, Copy, Drop)]
 pub struct Front {
@@ -93,11 +110,7 @@ fn descend<'a>(
 {
     match stretch_at(cursor.parts, level, cursor.place, cursor.end) {
         Stretch::Ends(up, end) => {
-            let others = Cursor {
-                place: end,
-                ..cursor
-            };
-            put(stack, room, others);
+            put_rest(stack, room, cursor, end);
             front_of(
                 level,
                 rep,
@@ -107,10 +120,7 @@ fn descend<'a>(
             )
         }
         Stretch::Below(rest, up, end) => {
-            let others = Cursor {
-                place: end,
-                ..cursor
-            };
+            put_rest(stack, room, cursor, end);
             let below = Cursor {
                 parts: rest,
                 def: cursor.def + up,
@@ -118,14 +128,10 @@ fn descend<'a>(
                 place: cursor.place,
                 end,
             };
-            put(stack, room, others);
             descend(stack, room, below, rep, level)
         }
         Stretch::Items(rest, up, from, to, end) => {
-            let others = Cursor {
-                place: end,
-                ..cursor
-            };
+            put_rest(stack, room, cursor, end);
             let items = Cursor {
                 parts: rest,
                 def: cursor.def + up,
@@ -133,7 +139,6 @@ fn descend<'a>(
                 place: from,
                 end: to,
             };
-            put(stack, room, others);
             descend(stack, room, items, rep, level)
         }
     }
