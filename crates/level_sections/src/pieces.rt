@@ -667,37 +667,31 @@ pub fn tell_pieces(
         Nested::Primitive(..) => false,
         Nested::Struct(mask, is_optional, slots) => {
             let here = beneath_struct(above, *is_optional);
-            if !tell_pieces(lower, upper, level, rest, here, from, to) {
-                return false;
-            }
-            raise_structs(
-                upper,
-                lower,
-                level,
-                mask,
-                *is_optional,
-                *slots,
-                rest,
-                above,
-                from,
-                to,
-            )
+            tell_pieces(lower, upper, level, rest, here, from, to)
+                && raise_structs(
+                    upper,
+                    lower,
+                    level,
+                    mask,
+                    *is_optional,
+                    *slots,
+                    rest,
+                    above,
+                    from,
+                    to,
+                )
         }
         Nested::List(list) => {
             let (first, last) = items_between(list, from, to);
             let here = beneath_list(above, list.is_optional);
-            if !tell_pieces(lower, upper, level, rest, here, first, last) {
-                return false;
-            }
-            raise_lists(upper, lower, level, list, rest, above, from, to)
+            tell_pieces(lower, upper, level, rest, here, first, last)
+                && raise_lists(upper, lower, level, list, rest, above, from, to)
         }
         Nested::LargeList(list) => {
             let (first, last) = items_between(list, from, to);
             let here = beneath_list(above, list.is_optional);
-            if !tell_pieces(lower, upper, level, rest, here, first, last) {
-                return false;
-            }
-            raise_lists(upper, lower, level, list, rest, above, from, to)
+            tell_pieces(lower, upper, level, rest, here, first, last)
+                && raise_lists(upper, lower, level, list, rest, above, from, to)
         }
     }
 }
