@@ -39,7 +39,11 @@ all_boxed [] = no_arrays
 all_boxed (b ∷ bs) = more_arrays (boxed b) (all_boxed bs)
 
 -- whether other arrays are in the array
-abbrev pub holds_arrays : ArrayTree → Bool
-holds_arrays (null_array t n) = false
-holds_arrays (leaf_array t vs m) = false
-holds_arrays _ = true
+abbrev pub holds_arrays : ArrayBox → Bool
+holds_arrays (DictionaryBox a) = true
+holds_arrays (ListBox a) = true
+holds_arrays (LargeListBox a) = true
+holds_arrays (FixedSizeListBox a) = true
+holds_arrays (StructBox a) = true
+holds_arrays (MapBox a) = true
+holds_arrays b = false

@@ -14,7 +14,7 @@ use columns_core::{Bitmap, DataType};
 // Keeps so many positions of an array that holds no others, from a position on.
 #[tactic(auto, using(columns_slots::proofs::Cuts::map_cut, crate::proofs::Know::strings_cut, crate::proofs::Know::strings_fit, crate::proofs::Know::widths_cut, crate::proofs::Know::widths_fit))]
 fn cut_leaf(array: &mut ArrayBox, offset: usize, length: usize)
-    requires leaf { holds_arrays (boxed array.old) ≡ false }
+    requires leaf { holds_arrays array.old ≡ false }
     requires within { offset + length ≤ tree_len (boxed array.old) }
     ensures { boxed array.new ≡ cut (boxed array.old) offset length }
 {
@@ -39,30 +39,12 @@ fn cut_leaf(array: &mut ArrayBox, offset: usize, length: usize)
             a.know();
             a.slice(offset, length)
         }
-        ArrayBox::Dictionary(a) => {
-            a.know();
-            unreachable!()
-        }
-        ArrayBox::List(a) => {
-            a.know();
-            unreachable!()
-        }
-        ArrayBox::LargeList(a) => {
-            a.know();
-            unreachable!()
-        }
-        ArrayBox::FixedSizeList(a) => {
-            a.know();
-            unreachable!()
-        }
-        ArrayBox::Struct(a) => {
-            a.know();
-            unreachable!()
-        }
-        ArrayBox::Map(a) => {
-            a.know();
-            unreachable!()
-        }
+        ArrayBox::Dictionary(_) => unreachable!(),
+        ArrayBox::List(_) => unreachable!(),
+        ArrayBox::LargeList(_) => unreachable!(),
+        ArrayBox::FixedSizeList(_) => unreachable!(),
+        ArrayBox::Struct(_) => unreachable!(),
+        ArrayBox::Map(_) => unreachable!(),
     }
 }
 

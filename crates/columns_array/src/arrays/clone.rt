@@ -180,7 +180,7 @@ impl StructArray {
 
 // A copy of an array that holds no others.
 fn copy_leaf(array: &ArrayBox, alloc: Global) -> Result<ArrayBox>
-    requires { holds_arrays (boxed array.now) ≡ false }
+    requires { holds_arrays array.now ≡ false }
     ensures ok { IfOk result (λ b. boxed b ≡ boxed array.now) }
     ensures err { IfErr result (λ e. e ≡ Error.Memory) }
 {
@@ -202,30 +202,12 @@ fn copy_leaf(array: &ArrayBox, alloc: Global) -> Result<ArrayBox>
         ArrayBox::Binary(a) => a.clone(alloc).map(ArrayBox::Binary),
         ArrayBox::LargeBinary(a) => a.clone(alloc).map(ArrayBox::LargeBinary),
         ArrayBox::FixedSizeBinary(a) => a.clone(alloc).map(ArrayBox::FixedSizeBinary),
-        ArrayBox::Dictionary(a) => {
-            a.know();
-            unreachable!()
-        }
-        ArrayBox::List(a) => {
-            a.know();
-            unreachable!()
-        }
-        ArrayBox::LargeList(a) => {
-            a.know();
-            unreachable!()
-        }
-        ArrayBox::FixedSizeList(a) => {
-            a.know();
-            unreachable!()
-        }
-        ArrayBox::Struct(a) => {
-            a.know();
-            unreachable!()
-        }
-        ArrayBox::Map(a) => {
-            a.know();
-            unreachable!()
-        }
+        ArrayBox::Dictionary(_) => unreachable!(),
+        ArrayBox::List(_) => unreachable!(),
+        ArrayBox::LargeList(_) => unreachable!(),
+        ArrayBox::FixedSizeList(_) => unreachable!(),
+        ArrayBox::Struct(_) => unreachable!(),
+        ArrayBox::Map(_) => unreachable!(),
     }
 }
 
