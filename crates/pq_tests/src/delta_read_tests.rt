@@ -27,11 +27,10 @@ fn gives(bytes: &[u8], numbers: &[i64], failed: bool, size: usize) -> bool {
     end && decoder.next().is_none() && decoder.len() == 0 && decoder.consumed_bytes() == size
 }
 
-// The standard's example, with its last byte and without. Blocks of 256 in two miniblocks, where 8 times 16 bytes are 128 numbers of a byte.
-// Widths of 0 and 64, miniblocks that are not needed with widths above 64, sums that wrap, and a needed width of 65.
+// None, one, the standard's example with its last byte and without, and blocks of 256 in two miniblocks, where 8 times 16 bytes are 128 numbers of a byte.
 #[test]
 fn deltas(rt: HostRuntime) {
-    let cases: [(&[u8], &[i64], bool, usize); 10] = [
+    let cases: [(&[u8], &[i64], bool, usize); 5] = [
         (&[128, 1, 4, 0, 0], &[], false, 5),
         (&[128, 1, 4, 1, 1], &[-1], false, 5),
         (
@@ -52,6 +51,17 @@ fn deltas(rt: HostRuntime) {
             false,
             136,
         ),
+    ];
+    for (i, (bytes, numbers, failed, size)) in cases.iter().enumerate() {
+        let given = gives(bytes, numbers, *failed, *size);
+        assert!(rt; given, "at {i}");
+    }
+}
+
+// Widths of 0 and 64, miniblocks that are not needed with widths above 64, sums that wrap, and a needed width of 65.
+#[test]
+fn delta_widths(rt: HostRuntime) {
+    let cases: [(&[u8], &[i64], bool, usize); 5] = [
         (
             &[128, 1, 4, 4, 2, 1, 0, 0, 0, 0],
             &[1, 0, -1, -2],
