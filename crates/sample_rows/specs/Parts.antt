@@ -2,6 +2,8 @@
 use Rattle.std.specs.Prelude.{◌≡◌, ℕ, ℤ, pos, ◌*◌, ◌%◌, ◌≤◌, ◌==◌, if◌then◌else◌, Bool, not, List, [], ◌∷◌, length, map, flat_map, Some}
 use Rattle.std.specs.Fmt.{decimal}
 use Rattle.std.specs.List.{range_with_len}
+use Rattle.columns_array.specs.declared.arrays.ArrayBox.{ArrayBox}
+use Rattle.columns_array.specs.declared.arrays.ArrayBox.TheVariants as boxes
 use Rattle.columns_core.specs.Natives.{value_i32}
 use Rattle.columns_core.specs.Rising.{last_place, places_from}
 use Rattle.columns_core.specs.Shapes.{base}
@@ -53,3 +55,8 @@ item_array numbers marks = leaf_array t_int32 (map (value_i32 t_int32) numbers) 
 -- the tree of an array of numbers of 32 bits
 abbrev pub numbers_tree : TypeTree × (List ℤ × Mask) → ArrayTree
 numbers_tree a = leaf_array a.0 (map (value_i32 (base a.0)) a.1.0) a.1.1
+
+-- the array is one of numbers of 32 bits by its kind
+abbrev pub AreInt32 : ArrayBox → Type 0
+AreInt32 (boxes.Int32 a) = Unit {0}
+AreInt32 array = ⊥
