@@ -1,6 +1,8 @@
 -- The leaf arrays whose values are written, by what they stand for.
 use Rattle.std.specs.Prelude.{◌≡◌, true, map}
 use Rattle.shredding.specs.Slot.{truth}
+use Rattle.columns_array.specs.declared.arrays.ArrayBox.{ArrayBox}
+use Rattle.columns_array.specs.declared.arrays.ArrayBox.TheVariants as boxes
 use Rattle.columns_core.specs.Natives.{value_days, value_i8, value_i16, value_i32, value_i64, value_i128, value_u8, value_u16, value_u32, value_u64}
 use Rattle.columns_core.specs.Shapes.{base, leaf_type}
 use Rattle.columns_slots.specs.Bytes.{pieces_values}
@@ -57,6 +59,27 @@ leaf_physical (FixedSizeBinary a) = fixed (width_in a.now.0)
 leaf_physical (Months a) = fixed 12
 leaf_physical (Days a) = fixed 12
 leaf_physical (Decimal a form) = form_physical form
+
+-- The values of an array that are written under the physical type have it by their kind; numbers of 32 bits and decimals are of several kinds.
+abbrev pub IsStoredAs : ArrayBox → Physical → Type 0
+IsStoredAs (boxes.Null a) p = p ≡ int32
+IsStoredAs (boxes.Boolean a) p = p ≡ boolean
+IsStoredAs (boxes.Int8 a) p = p ≡ int32
+IsStoredAs (boxes.Int16 a) p = p ≡ int32
+IsStoredAs (boxes.Int32 a) p = Unit {0}
+IsStoredAs (boxes.Int64 a) p = p ≡ int64
+IsStoredAs (boxes.Int128 a) p = Unit {0}
+IsStoredAs (boxes.UInt8 a) p = p ≡ int32
+IsStoredAs (boxes.UInt16 a) p = p ≡ int32
+IsStoredAs (boxes.UInt32 a) p = Unit {0}
+IsStoredAs (boxes.UInt64 a) p = p ≡ int64
+IsStoredAs (boxes.DaysMs a) p = p ≡ fixed 12
+IsStoredAs (boxes.Utf8 a) p = p ≡ byte_array
+IsStoredAs (boxes.LargeUtf8 a) p = p ≡ byte_array
+IsStoredAs (boxes.Binary a) p = p ≡ byte_array
+IsStoredAs (boxes.LargeBinary a) p = p ≡ byte_array
+IsStoredAs (boxes.FixedSizeBinary a) p = p ≡ fixed (width_in a.0)
+IsStoredAs a p = ⊥
 
 -- The leaf is this array, whose values are written under this physical type.
 pub record IsLeafOf (a : ArrayTree) (p : Physical) (leaf : Leaf) : Type 0 where

@@ -9,7 +9,7 @@ ghost use Rattle.columns_slots.specs.Types.{is_boolean};
 ghost use Rattle.columns_array.specs.Boxed.{boxed};
 ghost use Rattle.pq_tree.specs.Views.{physical_view};
 ghost use Rattle.write_values.specs.Served.{is_decimal, is_fixed, is_small, is_wide, is_string, is_served};
-ghost use Rattle.write_values.specs.Leaf.{HasOrder, IsLeafOf, leaf_physical, leaf_tree};
+ghost use Rattle.write_values.specs.Leaf.{HasOrder, IsLeafOf, IsStoredAs, leaf_physical, leaf_tree};
 
 use crate::decimals::DecimalForm;
 use columns_array::ArrayBox;
@@ -182,6 +182,39 @@ fn decimal_leaf(array: &PrimitiveArray<i128>, physical_type: PhysicalType) -> Op
     }
 }
 
+// Callers learn from the array's kind which physical type it is, which is named for the contract alone.
+fn know_stored(array: &ArrayBox, physical_type: PhysicalType)
+    requires { is_served (base (type_of (boxed array.now))) (physical_view physical_type) ≡ true }
+    ensures { IsStoredAs array.now (physical_view physical_type) }
+{
+    let _stored = physical_type;
+    match array {
+        ArrayBox::Null(a) => a.know(),
+        ArrayBox::Boolean(a) => a.know(),
+        ArrayBox::Int8(a) => a.know(),
+        ArrayBox::Int16(a) => a.know(),
+        ArrayBox::Int32(a) => a.know(),
+        ArrayBox::Int64(a) => a.know(),
+        ArrayBox::Int128(a) => a.know(),
+        ArrayBox::UInt8(a) => a.know(),
+        ArrayBox::UInt16(a) => a.know(),
+        ArrayBox::UInt32(a) => a.know(),
+        ArrayBox::UInt64(a) => a.know(),
+        ArrayBox::DaysMs(a) => a.know(),
+        ArrayBox::Utf8(a) => a.know(),
+        ArrayBox::LargeUtf8(a) => a.know(),
+        ArrayBox::Binary(a) => a.know(),
+        ArrayBox::LargeBinary(a) => a.know(),
+        ArrayBox::FixedSizeBinary(a) => a.know(),
+        ArrayBox::Dictionary(a) => a.know(),
+        ArrayBox::List(a) => a.know(),
+        ArrayBox::LargeList(a) => a.know(),
+        ArrayBox::FixedSizeList(a) => a.know(),
+        ArrayBox::Struct(a) => a.know(),
+        ArrayBox::Map(a) => a.know(),
+    }
+}
+
 /// The array as one whose values are written under the physical type, and `None` where they are not.
 pub fn leaf_of(array: &ArrayBox, physical_type: PhysicalType) -> Option<Leaf<'_>>
     ensures { MatchOption result (is_served (base (type_of (boxed array.now))) (physical_view physical_type) ≡ false)
@@ -190,90 +223,27 @@ pub fn leaf_of(array: &ArrayBox, physical_type: PhysicalType) -> Option<Leaf<'_>
     if !is_served(array.data_type(), physical_type) {
         return None;
     }
+    know_stored(array, physical_type);
     match array {
-        ArrayBox::Boolean(a) => {
-            a.know();
-            Some(Leaf::Boolean(a))
-        }
-        ArrayBox::Int8(a) => {
-            a.know();
-            Some(Leaf::Int8(a))
-        }
-        ArrayBox::Int16(a) => {
-            a.know();
-            Some(Leaf::Int16(a))
-        }
-        ArrayBox::UInt8(a) => {
-            a.know();
-            Some(Leaf::UInt8(a))
-        }
-        ArrayBox::UInt16(a) => {
-            a.know();
-            Some(Leaf::UInt16(a))
-        }
-        ArrayBox::Int64(a) => {
-            a.know();
-            Some(Leaf::Int64(a))
-        }
-        ArrayBox::UInt64(a) => {
-            a.know();
-            Some(Leaf::UInt64(a))
-        }
-        ArrayBox::Utf8(a) => {
-            a.know();
-            Some(Leaf::Utf8(a))
-        }
-        ArrayBox::LargeUtf8(a) => {
-            a.know();
-            Some(Leaf::LargeUtf8(a))
-        }
-        ArrayBox::Binary(a) => {
-            a.know();
-            Some(Leaf::Binary(a))
-        }
-        ArrayBox::LargeBinary(a) => {
-            a.know();
-            Some(Leaf::LargeBinary(a))
-        }
-        ArrayBox::FixedSizeBinary(a) => {
-            a.know();
-            Some(Leaf::FixedSizeBinary(a))
-        }
-        ArrayBox::DaysMs(a) => {
-            a.know();
-            Some(Leaf::Days(a))
-        }
+        ArrayBox::Null(a) => Some(Leaf::Null(a)),
+        ArrayBox::Boolean(a) => Some(Leaf::Boolean(a)),
+        ArrayBox::Int8(a) => Some(Leaf::Int8(a)),
+        ArrayBox::Int16(a) => Some(Leaf::Int16(a)),
         ArrayBox::Int32(a) => int32_leaf(a, physical_type),
-        ArrayBox::UInt32(a) => uint32_leaf(a, physical_type),
+        ArrayBox::Int64(a) => Some(Leaf::Int64(a)),
         ArrayBox::Int128(a) => decimal_leaf(a, physical_type),
-        ArrayBox::Null(a) => {
-            a.know();
-            Some(Leaf::Null(a))
-        }
-        ArrayBox::Dictionary(a) => {
-            a.know();
-            None
-        }
-        ArrayBox::List(a) => {
-            a.know();
-            None
-        }
-        ArrayBox::LargeList(a) => {
-            a.know();
-            None
-        }
-        ArrayBox::FixedSizeList(a) => {
-            a.know();
-            None
-        }
-        ArrayBox::Struct(a) => {
-            a.know();
-            None
-        }
-        ArrayBox::Map(a) => {
-            a.know();
-            None
-        }
+        ArrayBox::UInt8(a) => Some(Leaf::UInt8(a)),
+        ArrayBox::UInt16(a) => Some(Leaf::UInt16(a)),
+        ArrayBox::UInt32(a) => uint32_leaf(a, physical_type),
+        ArrayBox::UInt64(a) => Some(Leaf::UInt64(a)),
+        ArrayBox::DaysMs(a) => Some(Leaf::Days(a)),
+        ArrayBox::Utf8(a) => Some(Leaf::Utf8(a)),
+        ArrayBox::LargeUtf8(a) => Some(Leaf::LargeUtf8(a)),
+        ArrayBox::Binary(a) => Some(Leaf::Binary(a)),
+        ArrayBox::LargeBinary(a) => Some(Leaf::LargeBinary(a)),
+        ArrayBox::FixedSizeBinary(a) => Some(Leaf::FixedSizeBinary(a)),
+        ArrayBox::Dictionary(_) | ArrayBox::Struct(_) | ArrayBox::Map(_) => None,
+        ArrayBox::List(_) | ArrayBox::LargeList(_) | ArrayBox::FixedSizeList(_) => None,
     }
 }
 

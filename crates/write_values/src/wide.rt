@@ -15,7 +15,7 @@ ghost use Rattle.write_values.specs.Decimals.{HasWide, any_wide, form_physical, 
 ghost use Rattle.write_values.specs.Leaf.{leaf_physical, leaf_tree};
 ghost use Rattle.write_values.specs.Pages.{value_column};
 ghost use Rattle.write_values.specs.Served.{is_decimal, is_served};
-ghost use Rattle.write_values.specs.Wide.{number_at, numbers_in};
+ghost use Rattle.write_values.specs.Wide.{AreDecimals, number_at, numbers_in};
 
 use crate::decimals::Decimals;
 use crate::leaf::{Leaf, is_decimal, leaf_of};
@@ -123,6 +123,34 @@ fn find_wide(decimals: Decimals<'_>, nested: &[Nested]) -> bool
     }
 }
 
+// Callers learn that leaves of no other kind have decimals.
+fn know_decimals(leaf: Leaf<'_>)
+    requires { is_decimal (base (type_of (leaf_tree leaf))) ≡ true }
+    ensures { AreDecimals leaf.entry }
+{
+    match leaf {
+        Leaf::Null(a) => a.know(),
+        Leaf::Boolean(a) => a.know(),
+        Leaf::Int8(a) => a.know(),
+        Leaf::Int16(a) => a.know(),
+        Leaf::Int32(a) => a.know(),
+        Leaf::UInt8(a) => a.know(),
+        Leaf::UInt16(a) => a.know(),
+        Leaf::UInt32(a) => a.know(),
+        Leaf::WideUInt32(a) => a.know(),
+        Leaf::Int64(a) => a.know(),
+        Leaf::UInt64(a) => a.know(),
+        Leaf::Utf8(a) => a.know(),
+        Leaf::LargeUtf8(a) => a.know(),
+        Leaf::Binary(a) => a.know(),
+        Leaf::LargeBinary(a) => a.know(),
+        Leaf::FixedSizeBinary(a) => a.know(),
+        Leaf::Months(a) => a.know(),
+        Leaf::Days(a) => a.know(),
+        Leaf::Decimal(a, _) => a.know(),
+    }
+}
+
 // Whether one of the values that a path reaches is past what its physical type holds. They are decimals.
 fn leaf_has_wide(leaf: Leaf<'_>, nested: &[Nested]) -> bool
     requires well { IsPath (parts_of nested.now) }
@@ -132,75 +160,13 @@ fn leaf_has_wide(leaf: Leaf<'_>, nested: &[Nested]) -> bool
     ensures { result ≡ any_wide (leaf_physical leaf.entry) (map (value_at (leaf_tree leaf.entry))
         (path_places (parts_of nested.now))) }
 {
+    know_decimals(leaf);
     match leaf {
         Leaf::Decimal(array, form) => {
             array.know();
             find_wide(Decimals::new(array, form), nested)
         }
-        Leaf::Boolean(a) => {
-            a.know();
-            false
-        }
-        Leaf::Int8(a) => {
-            a.know();
-            false
-        }
-        Leaf::Int16(a) => {
-            a.know();
-            false
-        }
-        Leaf::Int32(a) | Leaf::Months(a) => {
-            a.know();
-            false
-        }
-        Leaf::UInt8(a) => {
-            a.know();
-            false
-        }
-        Leaf::UInt16(a) => {
-            a.know();
-            false
-        }
-        Leaf::UInt32(a) | Leaf::WideUInt32(a) => {
-            a.know();
-            false
-        }
-        Leaf::Int64(a) => {
-            a.know();
-            false
-        }
-        Leaf::UInt64(a) => {
-            a.know();
-            false
-        }
-        Leaf::Utf8(a) => {
-            a.know();
-            false
-        }
-        Leaf::LargeUtf8(a) => {
-            a.know();
-            false
-        }
-        Leaf::Binary(a) => {
-            a.know();
-            false
-        }
-        Leaf::LargeBinary(a) => {
-            a.know();
-            false
-        }
-        Leaf::FixedSizeBinary(a) => {
-            a.know();
-            false
-        }
-        Leaf::Days(a) => {
-            a.know();
-            false
-        }
-        Leaf::Null(a) => {
-            a.know();
-            false
-        }
+        _ => unreachable!(),
     }
 }
 
