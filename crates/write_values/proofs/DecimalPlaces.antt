@@ -20,7 +20,6 @@ use Rattle.write_values.specs.declared.decimals.DecimalForm.TheVariants.{Int32, 
 use Rattle.write_values.specs.Decimals.{HasWide, IsForm, form_physical, held_decimal, held_value, stored_decimal}
 use Rattle.write_values.specs.Numbers.{at_place}
 use Rattle.write_values.specs.Rows.{AppendsRow}
-use Rattle.write_values.specs.Served.{is_decimal}
 use Rattle.write_values.specs.Stored.{stored_at, stored_value}
 use Rattle.write_values.proofs.DecimalBytes.{all_below}
 use Rattle.write_values.proofs.AlikeColumns.{columns_alike}
@@ -33,10 +32,6 @@ use Rattle.write_values.proofs.WideColumns.{HasRoom, form_room, held_holds, held
 pub decimals_are : (t : TypeTree) → stores_i128 t ≡ true → leaf_type t ≡ decimal
 decimals_are (t_decimal p s) e = refl
 decimals_are t e = absurd (true≢false (sym e))
-
-pub are_decimals : (t : TypeTree) → stores_i128 t ≡ true → is_decimal t ≡ true
-are_decimals (t_decimal p s) e = refl
-are_decimals t e = absurd (true≢false (sym e))
 
 -- ---- at a place
 

@@ -1,21 +1,15 @@
 -- Intervals as 12 bytes.
-use Rattle.std.proofs.Common.{◌≡◌, ℕ, ◌<◌, ℤ, pos, negsuc, true, false, true≢false, List, [], ◌∷◌, length, map, get_or, refl, sym, ap, subst, ◌∙◌, arith, SFits}
+use Rattle.std.proofs.Common.{◌≡◌, ℤ, pos, negsuc, true, false, true≢false, List, [], ◌∷◌, map, refl, sym, ap, ◌∙◌, arith, SFits}
 use Rattle.std.specs.Int.{w32, cast_signed, cast_unsigned}
 use Rattle.std.proofs.lemmas.Int.{to_z-of_z}
 use Rattle.shredding.specs.Slot.{Value, bytes}
-use Rattle.columns_core.specs.declared.native.DaysMs.{DaysMs}
-use Rattle.columns_core.specs.declared.types.IntervalUnit.TheVariants.{YearMonth, DayTime}
-use Rattle.columns_core.specs.Natives.{interval_bytes, two_power_32, value_i32, value_days, stores_i32, stores_days}
-use Rattle.columns_core.specs.Shapes.{base, leaf_type}
+use Rattle.columns_core.specs.declared.types.IntervalUnit.TheVariants.{YearMonth}
+use Rattle.columns_core.specs.Natives.{interval_bytes, two_power_32, value_i32, stores_i32}
+use Rattle.columns_core.specs.Shapes.{leaf_type}
 use Rattle.columns_core.specs.Tree.{TypeTree, t_int32, t_date32, t_time32, t_interval}
-use Rattle.columns_slots.specs.Tree.{Mask, leaf_array}
 use Rattle.pq_tree.specs.Physical.{fixed}
 use Rattle.pq_files.specs.Statistics.{has_order}
-use Rattle.write_values.specs.Rows.{AppendsRow}
 use Rattle.write_values.specs.Served.{are_months, is_served}
-use Rattle.write_values.specs.Stored.{stored_at}
-use Rattle.write_values.proofs.FixedPlaces.{bytes_stored}
-use Rattle.write_values.proofs.Picked.{number_here}
 
 bits_are : (z : ℤ) → cast_unsigned w32 z ≡ two_power_32 z
 bits_are (pos n) = refl
@@ -33,20 +27,6 @@ months_values : (t : TypeTree) (zs : List ℤ) → are_months t ≡ true → map
 months_values t [] e = refl
 months_values t (z ∷ zs) e = ap (λ (v : Value). v ∷ map (λ x. bytes (interval_bytes x (pos 0) (pos 0))) zs) (sym (months_are t z e)) ∙ ap (λ (vs : List Value). value_i32 t z ∷ vs) (months_values t zs e)
 
--- an interval as it is stored at its place
-pub months_here : (t : TypeTree) (zs : List ℤ) (m : Mask) (i : ℕ) (z : ℤ) (a b : List ℕ) → are_months (base t) ≡ true → i < length zs → z ≡ get_or zs i z → AppendsRow (fixed 12) a b (bytes (interval_bytes z (pos 0) (pos 0)) ∷ []) → AppendsRow (fixed 12) a b (stored_at (leaf_array t (map (value_i32 (base t)) zs) m) (fixed 12) i ∷ [])
-months_here t zs m i z a b e h is r =
-    let f : ℤ → Value = λ x. bytes (interval_bytes x (pos 0) (pos 0)) in
-    let here : f z ≡ stored_at (leaf_array t (map f zs) m) (fixed 12) i = number_here f zs i z h is ∙ bytes_stored t (λ x. interval_bytes x (pos 0) (pos 0)) zs m 12 i in
-    let same : f z ≡ stored_at (leaf_array t (map (value_i32 (base t)) zs) m) (fixed 12) i = here ∙ ap (λ (vs : List Value). stored_at (leaf_array t vs m) (fixed 12) i) (months_values (base t) zs e) in
-    subst (λ (v : Value). AppendsRow (fixed 12) a b (v ∷ [])) same r
-
-pub days_here : (t : TypeTree) (xs : List DaysMs) (m : Mask) (i : ℕ) (x : DaysMs) (a b : List ℕ) → i < length xs → x ≡ get_or xs i x → AppendsRow (fixed 12) a b (bytes (interval_bytes (pos 0) x.days x.milliseconds) ∷ []) → AppendsRow (fixed 12) a b (stored_at (leaf_array t (map (value_days (base t)) xs) m) (fixed 12) i ∷ [])
-days_here t xs m i x a b h is r =
-    let g : DaysMs → List ℕ = λ d. interval_bytes (pos 0) d.days d.milliseconds in
-    let same : bytes (g x) ≡ stored_at (leaf_array t (map (value_days (base t)) xs) m) (fixed 12) i = number_here (value_days (base t)) xs i x h is ∙ bytes_stored t g xs m 12 i in
-    subst (λ (v : Value). AppendsRow (fixed 12) a b (v ∷ [])) same r
-
 -- ---- types of intervals
 
 pub months_served : (t : TypeTree) → stores_i32 t ≡ true → is_served t (fixed 12) ≡ true → are_months t ≡ true
@@ -62,7 +42,3 @@ months_unordered t e = absurd (true≢false (sym e))
 
 pub served_unordered : (t : TypeTree) → stores_i32 t ≡ true → is_served t (fixed 12) ≡ true → has_order (leaf_type t) ≡ false
 served_unordered t e h = months_unordered t (months_served t e h)
-
-pub days_unordered : (t : TypeTree) → stores_days t ≡ true → has_order (leaf_type t) ≡ false
-days_unordered (t_interval DayTime) e = refl
-days_unordered t e = absurd (true≢false (sym e))

@@ -1,28 +1,23 @@
 -- The values of leaf arrays in order, and their texts as bounds.
-use Rattle.std.proofs.Common.{◌≡◌, ℕ, zero, suc, ◌+◌, ◌-◌, ◌≤◌, ◌<◌, ℤ, ◌≤ℤ◌, ◌<ℤ◌, Bool, true, false, true≢false, ◌⊎◌, inl, inr, List, [], ◌∷◌, map, length, take, drop, get_or, refl, sym, ap, subst, ◌∙◌, arith, cond, Some}
+use Rattle.std.proofs.Common.{◌≡◌, ℕ, zero, suc, ◌+◌, ◌-◌, ◌≤◌, ◌<◌, ℤ, ◌≤ℤ◌, ◌<ℤ◌, Bool, true, false, true≢false, List, [], ◌∷◌, map, length, take, drop, get_or, refl, sym, ap, subst, ◌∙◌, arith, Some}
 use Rattle.std.specs.Prelude.{All, IsTrue, IsUtf8, ◌↔◌, ◌||◌, not}
 use Rattle.std.proofs.lemmas.List.{get_or-map, get_or-take, get_or-drop, get_or_default, length-take, length-drop, take_more, take_all}
 use Rattle.std.proofs.lemmas.List.Elements.{All-append}
-use Rattle.std.proofs.lemmas.Bool.{cases_lt}
-use Rattle.std.proofs.lemmas.Int.{by_lt_z, ints}
-use Rattle.shredding.specs.Shape.{LeafType, truths, text, binary, fixed_bytes}
+use Rattle.std.proofs.lemmas.Int.{by_lt_z}
+use Rattle.shredding.specs.Shape.{LeafType, text, binary, fixed_bytes}
 use Rattle.shredding.specs.Slot.{Value, truth, number, bytes}
 use Rattle.columns_core.specs.Shapes.{base, leaf_type}
-use Rattle.columns_core.specs.Tree.{TypeTree, t_boolean, t_utf8, t_large_utf8, t_binary, t_fixed_size_binary, t_large_binary}
+use Rattle.columns_core.specs.Tree.{TypeTree, t_utf8, t_large_utf8, t_binary, t_fixed_size_binary, t_large_binary}
 use Rattle.columns_slots.specs.Bytes.{pieces, pieces_values}
-use Rattle.columns_slots.specs.Types.{byte_width, is_binary, is_boolean, is_text}
-use Rattle.pq_tree.specs.Physical.{Physical, boolean, byte_array, fixed}
+use Rattle.columns_slots.specs.Types.{byte_width, is_binary, is_text}
+use Rattle.pq_tree.specs.Physical.{Physical, byte_array, fixed}
 use Rattle.pq_files.specs.Statistics.{IsImplied, IsUpTo}
 use Rattle.pq_files.specs.Stored.{IsStored}
-use Rattle.page_statistics.specs.Between.{AreAllBetween}
 use Rattle.page_statistics.specs.Spelled.{IsSpelled, bound_text}
 use Rattle.write_values.specs.Fixed.{width_in}
 use Rattle.write_values.specs.Numbers.{at_place}
 use Rattle.write_values.proofs.Picked.{number_here}
 use Rattle.write_values.proofs.ServedTypes.{some_number}
-
-pub below_is_up_to : (a b : ℤ) → a <ℤ b → a ≤ℤ b
-below_is_up_to a b h = omega (arith, ints, h)
 
 pub not_below : (a b : ℤ) → (a <ℤ b → ⊥) → b ≤ℤ a
 not_below a b h = by_lt_z a b (λ l. absurd (h l)) (λ k. k)
@@ -74,17 +69,6 @@ pub between_all : {A : Type 0} (P : A → Type 0) (xs : List A) (i : ℕ) (past 
 between_all {A} P xs i false l h t = subst (λ (ys : List A). All P ys) (take_all i xs l) (h refl)
 between_all P xs i true l h t = absurd (true≢false (sym t))
 
-pub up_by : (a b c d : Value) → a ≡ c → b ≡ d → IsUpTo a b → IsUpTo c d
-up_by a b c d e f h = subst (λ (x : Value). IsUpTo x d) e (subst (λ (y : Value). IsUpTo a y) f h)
-
--- one value more that lies between two
-pub between_next : (value : ℕ → Value) (from at low high : ℕ) → AreAllBetween value from at low high → IsUpTo (value low) (value at) → IsUpTo (value at) (value high) → (i : ℕ) → from ≤ i → i < at + 1 → IsUpTo (value low) (value i) × IsUpTo (value i) (value high)
-between_next value from at low high h l g i a b = by_order (cases_lt i at)
-  where
-    by_order : (i < at) ⊎ (at ≤ i) → IsUpTo (value low) (value i) × IsUpTo (value i) (value high)
-    by_order (inl k) = h i a k
-    by_order (inr k) = let e : at ≡ i = omega (arith, k, b) in subst (λ (j : ℕ). IsUpTo (value low) (value j) × IsUpTo (value j) (value high)) e (l, g)
-
 -- the text of the number at a place
 pub number_spelled : {A : Type 0} (t : LeafType) (p : Physical) (g : A → Value) (xs : List A) (i : ℕ) (x : A) (z : ℤ) (s : List ℕ) → i < length xs → x ≡ get_or xs i x → IsStored t p (g x) (number z) → s ≡ bound_text p (number z) → IsSpelled t p s (at_place (map g xs) i)
 number_spelled t p g xs i x z s l e h is = subst (λ (v : Value). IsSpelled t p s v) (number_here g xs i x l e) (record { stored = number z; is_stored = h; has_bytes = λ d. tt; is = is })
@@ -103,10 +87,6 @@ binary_type true t_large_binary e = refl
 binary_type false t e = absurd (true≢false (sym e))
 binary_type true t e = absurd (true≢false (sym e))
 
-truth_type : (t : TypeTree) → is_boolean t ≡ true → leaf_type t ≡ truths
-truth_type t_boolean e = refl
-truth_type t e = absurd (true≢false (sym e))
-
 pub text_spelled : (large : Bool) (t : TypeTree) (s b : List ℕ) (v : Value) → is_text large t ≡ true → bytes b ≡ v → IsUtf8 b → s ≡ b → IsSpelled (leaf_type t) byte_array s v
 text_spelled large t s b v e i u h =
     subst (λ (w : Value). IsSpelled (leaf_type t) byte_array s w) i (subst (λ (l : LeafType). IsSpelled l byte_array s (bytes b)) (sym (text_type large t e)) (record { stored = bytes b; is_stored = (u, refl); has_bytes = λ d. absurd cc; is = h }))
@@ -124,15 +104,6 @@ text_at os bs b i all l e =
     bytes_in : Value → List ℕ
     bytes_in (bytes s) = s
     bytes_in v = []
-
-pub truth_spelled : (t : TypeTree) (bits : List Bool) (i : ℕ) (b : Bool) (s : List ℕ) → is_boolean t ≡ true → i < length bits → b ≡ get_or bits i false → s ≡ cond b 1 0 ∷ [] → IsSpelled (leaf_type t) boolean s (at_place (map truth bits) i)
-truth_spelled t bits i b s e l h k =
-    let here : truth b ≡ at_place (map truth bits) i = ap truth h ∙ sym (get_or-map truth bits i false (truth false) l) in
-    subst (λ (w : Value). IsSpelled (leaf_type t) boolean s w) here (subst (λ (y : LeafType). IsSpelled y boolean s (truth b)) (sym (truth_type t e)) (record { stored = truth b; is_stored = refl; has_bytes = λ d. tt; is = k ∙ text b }))
-  where
-    text : (b : Bool) → cond b 1 0 ∷ [] ≡ bound_text boolean (truth b)
-    text true = refl
-    text false = refl
 
 pub truths_up : (bits : List Bool) (i j : ℕ) (b c : Bool) → i < length bits → j < length bits → b ≡ get_or bits i false → c ≡ get_or bits j false → IsImplied b c → IsUpTo (at_place (map truth bits) i) (at_place (map truth bits) j)
 truths_up bits i j b c l m e f h =

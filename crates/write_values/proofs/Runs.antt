@@ -1,27 +1,16 @@
 -- Places picked by a word, run by run.
-use Rattle.std.proofs.Common.{◌≡◌, ℕ, cond, ◌-◌, ◌+◌, ◌/◌, ◌%◌, ◌^◌, ◌≤◌, ◌<◌, Bool, ◌⊎◌, inl, inr, List, [], ◌∷◌, ◌++◌, map, ap, sym, subst, ◌∙◌, arith}
-use Rattle.std.specs.Prelude.{◌==◌, sum_by}
-use Rattle.std.proofs.lemmas.List.{map-append}
-use Rattle.std.proofs.lemmas.List.Sums.{sum_by-append}
+use Rattle.std.proofs.Common.{◌≡◌, ℕ, cond, ◌-◌, ◌+◌, ◌/◌, ◌%◌, ◌^◌, ◌≤◌, ◌<◌, Bool, List, [], ◌∷◌, ◌++◌, ap, sym, subst, ◌∙◌, arith}
+use Rattle.std.specs.Prelude.{◌==◌}
 use Rattle.std.specs.Int.{bit_at, w64, trailing_zeros, trailing_ones}
-use Rattle.std.proofs.lemmas.Bool.{cases_lt}
-use Rattle.std.proofs.lemmas.Nat.{shr-shr, shr_below, pow_below}
+use Rattle.std.proofs.lemmas.Nat.{shr-shr, shr_below}
 use Rattle.write_places.specs.Places.{gather, picked, range}
 use Rattle.write_places.specs.Reach.{IsRun}
-use Rattle.write_places.proofs.Bits.{run_is, full_bits}
+use Rattle.write_places.proofs.Bits.{run_is}
 use Rattle.write_places.proofs.Gather.{gather-alike, gather-nothing, gather-split}
 
 -- whether a place is picked
 abbrev pub chosen : ℕ → ℕ → ℕ → List ℕ
 chosen word from i = cond (bit_at word (i - from) == 1) (i ∷ []) []
-
--- a word whose low bits are set picks all
-pub all_picked : (word from count : ℕ) → word ≡ 18446744073709551615 → count ≤ 64 → word < 2 ^ count → picked word from count ≡ range from count
-all_picked word from count e few low = by_order (cases_lt count 64)
-  where
-    by_order : (count < 64) ⊎ (64 ≤ count) → picked word from count ≡ range from count
-    by_order (inl h) = absurd (omega (arith, e, low, pow_below count 64 h))
-    by_order (inr h) = gather-alike (chosen word from) (λ i. i ∷ []) from count (λ i l g. ap (λ (b : Bool). cond b (i ∷ []) []) (full_bits word 64 (i - from) e (omega (arith, l, g, few))))
 
 pub shifted : (v g i : ℕ) → bit_at (v / 2 ^ g) i ≡ bit_at v (g + i)
 shifted v g i = ap (λ (j : ℕ). j % 2) (shr-shr v g i)
@@ -61,11 +50,3 @@ first_run word from count some most few low =
           ∙ (gather-split (chosen word from) (from + gap) (from + gap + run) (from + count) (omega arith) (omega (arith, within))
           ∙ rw (n, k, p) (ap (λ (xs : List ℕ). xs ++ gather (chosen word from) (from + (gap + run)) (count - (gap + run))) mid ∙ ap (λ (xs : List ℕ). range (from + gap) run ++ xs) behind))));
     }
-
--- the sum of the sizes of what is picked first, and of what is picked behind it
-pub run_less : {A : Type 0} (size : A → ℕ) (f : ℕ → A) (word from count gap run behind : ℕ) → IsFirstRun word from count gap run → behind ≡ from + (gap + run) → sum_by size (map f (picked word from count)) ≡ sum_by size (map f (range (from + gap) (behind - (from + gap)))) + sum_by size (map f (picked (word / 2 ^ gap / 2 ^ run) (from + (gap + run)) (count - (gap + run))))
-run_less size f word from count gap run behind n e =
-    let k : behind - (from + gap) ≡ run = omega (arith, e) in
-    let xs = range (from + gap) run in
-    let ys = picked (word / 2 ^ gap / 2 ^ run) (from + (gap + run)) (count - (gap + run)) in
-    rw k (ap (λ (ns : List ℕ). sum_by size (map f ns)) n.places ∙ (ap (sum_by size) (map-append f xs ys) ∙ sum_by-append size (map f xs) (map f ys)))

@@ -1,5 +1,5 @@
 -- Which types the arrays have whose values are written.
-use Rattle.std.proofs.Common.{◌≡◌, ◌⊎◌, ◌<◌, ℕ, ℤ, negsuc, SFits, Bool, true, false, true≢false, Option, Some, None, List, refl, ap, ◌∙◌, sym, subst, arith, lit≤, inl, inr, pos}
+use Rattle.std.proofs.Common.{◌≡◌, ◌⊎◌, ◌<◌, ℕ, ℤ, negsuc, SFits, Bool, true, false, true≢false, Option, Some, None, List, refl, ap, sym, subst, arith, lit≤, inl, inr, pos}
 use Rattle.std.specs.Prelude.{◌||◌}
 use Rattle.std.specs.Int.{w32, w64, w128, cast_unsigned, int_wrap}
 use Rattle.std.proofs.lemmas.Bool.{eqb-true}
@@ -11,7 +11,7 @@ use Rattle.columns_core.specs.Shapes.{base, leaf_type}
 use Rattle.columns_core.specs.Tree.{TypeTree, t_null, t_boolean, t_int8, t_int16, t_int32, t_int64, t_uint8, t_uint16, t_uint32, t_uint64, t_date32, t_date64, t_time32, t_time64, t_timestamp, t_duration, t_interval, t_utf8, t_large_utf8, t_binary, t_fixed_size_binary, t_large_binary, t_extension, t_list, t_large_list, t_map, t_fixed_size_list, t_struct, t_dictionary, t_decimal}
 use Rattle.columns_slots.specs.Tree.{ArrayTree, null_array, leaf_array, list_array, fixed_list_array, struct_array, dictionary_array, ArrayTrees, no_arrays, more_arrays}
 use Rattle.columns_slots.specs.Slots.{IsSound, AreTyped, count_arrays, type_of}
-use Rattle.columns_slots.specs.Types.{is_boolean, byte_width, list_item, fixed_item, entry_type, part_types}
+use Rattle.columns_slots.specs.Types.{is_boolean, list_item, fixed_item, entry_type, part_types}
 use Rattle.pq_tree.specs.Physical.{Physical, boolean, int32, int64, int96, float, double, byte_array, fixed}
 use Rattle.pq_files.specs.Stored.{IsStored, HoldsDecimal}
 use Rattle.write_values.specs.Decimals.{stored_decimal}
@@ -176,18 +176,6 @@ fixed_stored (t_interval DayTime) n v e h k = absurd h
 fixed_stored (t_decimal q x) n (number z) e h k = decimal_stored (fixed n) z k
 fixed_stored (t_decimal q x) n v e h k = absurd h
 fixed_stored t n v e h k = absurd (true≢false (sym e))
-
--- the length of the array's strings is that of its column
-pub width_served : (t : TypeTree) (w : ℕ) (p : Physical) → byte_width t ≡ Some w → is_served t p ≡ true → fixed w ≡ p
-width_served (t_fixed_size_binary m) w (fixed n) e h = ap fixed (sym (some_number m w e) ∙ eqb-true m n h)
-width_served (t_fixed_size_binary m) w boolean e h = absurd (true≢false (sym h))
-width_served (t_fixed_size_binary m) w int32 e h = absurd (true≢false (sym h))
-width_served (t_fixed_size_binary m) w int64 e h = absurd (true≢false (sym h))
-width_served (t_fixed_size_binary m) w int96 e h = absurd (true≢false (sym h))
-width_served (t_fixed_size_binary m) w float e h = absurd (true≢false (sym h))
-width_served (t_fixed_size_binary m) w double e h = absurd (true≢false (sym h))
-width_served (t_fixed_size_binary m) w byte_array e h = absurd (true≢false (sym h))
-width_served t w p e h = absurd cc
 
 -- what is stored for a decimal
 pub decimal_is : (p : Physical) (z : ℤ) → stored_value decimal p (number z) ≡ stored_decimal p z

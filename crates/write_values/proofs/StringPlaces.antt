@@ -15,10 +15,9 @@ use Rattle.pq_files.specs.Layout.{plain_length, plain_size}
 use Rattle.pq_files.specs.Room.{max_size}
 use Rattle.write_places.specs.Places.{gather, range, picked}
 use Rattle.write_places.proofs.Gather.{gather-split, gather-more, gather-none}
-use Rattle.write_places.proofs.Picked.{IsNext, each_picked}
+use Rattle.write_places.proofs.Picked.{IsNext}
 use Rattle.write_values.specs.Numbers.{at_place}
 use Rattle.write_values.specs.Rows.{AppendsRow, row-none}
-use Rattle.write_values.proofs.Picked.{few_picked}
 
 -- ---- one string
 
@@ -94,11 +93,6 @@ sum_few os bs limit (i ∷ places) p few h each =
     let more = sum_few os bs limit places p few h each.1 in
     let all = sum_by-cons (plain_size byte_array) (at_place (pieces_values os bs) i) (map (at_place (pieces_values os bs)) places) in
     omega (arith, all, one, s.1, more, few)
-
-pub picked_few : (os bs : List ℕ) (word from count : ℕ) → IsPlaces os (length bs) → length bs < 2 ^ 64 → from + count < length os → count ≤ 64 → word < 2 ^ count → plain_length byte_array (map (at_place (pieces_values os bs)) (picked word from count)) < 2 ^ 128
-picked_few os bs word from count p few within n low =
-    let sum = sum_few os bs (from + count) (picked word from count) p few within (each_picked (from + count) word from count (omega arith)) in
-    omega (arith, sum, few_picked word from count low, n)
 
 -- a string among some that fit into a page is short
 pub picked_short : (os bs : List ℕ) (word left from count t size : ℕ) → IsPlaces os (length bs) → IsNext word left from count t → from + count < length os → plain_length byte_array (map (at_place (pieces_values os bs)) (picked word from count)) ≤ max_size → size ≡ slice_index_or os (from + t + 1) 0 - slice_index_or os (from + t) 0 → size < 2 ^ 32

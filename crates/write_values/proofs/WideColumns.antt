@@ -53,9 +53,6 @@ holds_tells p z r = inr (refl, λ h. h)
 pub holds_true : (p : Physical) (z : ℤ) → HasRoom p → HoldsDecimal p z → holds_decimal p z ≡ true
 holds_true p z r h = elim (holds_tells p z r) [ inl t ↦ t.0 | inr t ↦ absurd (t.1 h) ]
 
-pub holds_held : (p : Physical) (z : ℤ) → HasRoom p → holds_decimal p z ≡ true → HoldsDecimal p z
-holds_held p z r e = elim (holds_tells p z r) [ inl t ↦ t.1 | inr t ↦ absurd (true≢false (sym e ∙ t.0)) ]
-
 -- what statistics see in its place
 pub held_same : (p : Physical) (z : ℤ) → HasRoom p → HoldsDecimal p z → held_decimal p z ≡ z
 held_same p z r h = rw (holds_true p z r h) refl
@@ -209,11 +206,6 @@ decimal_room t (fixed n) d e = absurd (true≢false (sym d))
 
 pub served_room : (t : TypeTree) (p : Physical) → is_served t p ≡ true → leaf_type t ≡ decimal → HasRoom p
 served_room t p e h = decimal_room t p (decimal_served t p e h) e
-
-pub form_served : (t : TypeTree) (form : DecimalForm) → is_decimal t ≡ true → is_served t (form_physical form) ≡ true → IsForm form
-form_served t Int32 d e = (omega arith, omega arith)
-form_served t Int64 d e = (omega arith, omega arith)
-form_served t (Fixed n) d e = decimal_room t (fixed n) d e
 
 -- an array of another type has no decimals
 pub apart : (t : TypeTree) (f : TypeTree → Bool) → is_decimal t ≡ true → ((p s : ℕ) → f (t_decimal p s) ≡ false) → f t ≡ true → ⊥
