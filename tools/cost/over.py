@@ -4,7 +4,7 @@
 usage: over.py CRATE FOLDER [flags of rattle check, e.g. --test, --only NAME]
 
 FOLDER keeps what was checked: an empty one gives the costs from nothing, one of an earlier run those of what changed since. Printed are the dearest functions, then
-the dearest modules, in processor seconds. **A function's seconds hold all that is made before its line comes**, also of what calls it: a cycle's bodies are made before the
+the dearest modules, and what the modules of each function or cycle make together, in processor seconds. **A function's seconds hold all that is made before its line comes**, also of what calls it: a cycle's bodies are made before the
 functions that they call are checked, so the modules tell where the time goes (of a function or a cycle, `Lts-..` is its body, and `Proof` its goals). A run that is
 killed (the `rattle check` within) prints what it came to."""
 import collections
@@ -37,6 +37,12 @@ def main():
     print("by kind: " + ", ".join(f"{kind} {it:.1f}" for kind, it in kinds.most_common(12)))
     for seconds, module in sorted(modules, reverse=True)[:40]:
         print(f"{seconds:8.1f}  {module}")
+    print("by the modules of a function or cycle:")
+    together = collections.Counter()
+    for seconds, module in modules:
+        together[module.rpartition(".")[0] or module] += seconds
+    for name, seconds in together.most_common(30):
+        print(f"{seconds:8.1f}  {name}")
 
 
 main()
