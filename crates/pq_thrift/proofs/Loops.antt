@@ -32,10 +32,6 @@ values_regroup : (front : List Thrift) (v : Thrift) (read : Result (Values × Li
 values_regroup front v (Ok x) = ap (λ (vs : Values). Ok (vs, x.1)) (sym (one_value front v x.0))
 values_regroup front v (Err f) = refl
 
-pub values_begin : (read : Result (Values × List ℕ) Fault) → under (before_values []) read ≡ read
-values_begin (Ok x) = refl
-values_begin (Err f) = refl
-
 pub values_go_on : (one : Parse Value) (front : List Thrift) (count i : ℕ) (bytes : List ℕ) (v : Thrift) (after : List ℕ) (total : Result (Values × List ℕ) Fault) → i < count → one bytes ≡ Ok (view v, after)
     → under (before_values front) (values_at one (count - i) bytes) ≡ total → under (before_values (front ++ v ∷ [])) (values_at one (count - (i + 1)) after) ≡ total
 unfolding values_at
@@ -79,10 +75,6 @@ pairs_regroup : (front : List (Thrift × Thrift)) (p : Thrift × Thrift) (read :
     → under (before_pairs front) (read >>= λ x. Ok (pair (view p.0) (view p.1) x.0, x.1)) ≡ under (before_pairs (front ++ p ∷ [])) read
 pairs_regroup front p (Ok x) = ap (λ (ps : Pairs). Ok (ps, x.1)) (sym (one_pair front p x.0))
 pairs_regroup front p (Err f) = refl
-
-pub pairs_begin : (read : Result (Pairs × List ℕ) Fault) → under (before_pairs []) read ≡ read
-pairs_begin (Ok x) = refl
-pairs_begin (Err f) = refl
 
 pub pairs_go_on : (one : Parse (Value × Value)) (front : List (Thrift × Thrift)) (count i : ℕ) (bytes : List ℕ) (p : Thrift × Thrift) (after : List ℕ) (total : Result (Pairs × List ℕ) Fault) → i < count → one bytes ≡ Ok (pair_view p, after)
     → under (before_pairs front) (pairs_at one (count - i) bytes) ≡ total → under (before_pairs (front ++ p ∷ [])) (pairs_at one (count - (i + 1)) after) ≡ total

@@ -6,7 +6,7 @@ use Rattle.pq_thrift.specs.declared.kind.Kind.TheVariants as kinds
 use Rattle.pq_thrift.specs.declared.value.Thrift.{Thrift}
 use Rattle.pq_thrift.specs.Value.{view, no_values, values_view, no_pairs, pairs_view, no_fields, field, fields_view}
 use Rattle.pq_thrift.specs.Grammar.{count, pair_count}
-use Rattle.pq_thrift.specs.Spelling.{number_of, field_head, kind_in_field, behind_head, spell, spell_values, spell_pairs, spell_fields, IsWritable, AreWritable, ArePairsWritable, AreFieldsWritable, Fits, ValuesFit, PairsFit, FieldsFit}
+use Rattle.pq_thrift.specs.Spelling.{number_of, field_head, kind_in_field, behind_head, spell, spell_values, spell_pairs, spell_fields, IsWritable, AreWritable, ArePairsWritable, AreFieldsWritable, ValuesFit, PairsFit, FieldsFit}
 
 pub count_is : (vs : List Thrift) → count (values_view vs) ≡ length vs
 count_is [] = refl
@@ -36,26 +36,6 @@ pub record WritesValues (out : List ℕ) (number : ℕ) (vs : List Thrift) (i : 
   pub writable : AreWritable (values_view (drop i vs)) number
   pub fit : ValuesFit (values_view (drop i vs)) → ValuesFit (values_view vs)
 
-pub values_begun : (out : List ℕ) (number : ℕ) (vs : List Thrift) → AreWritable (values_view vs) number → WritesValues out number vs 0 (out ++ spell_values (values_view vs))
-values_begun out number vs w = record { so_far = refl; writable = w; fit = λ f. f }
-
-next_value : (vs : List Thrift) (i : ℕ) (v : Thrift) → i < length vs → v ≡ get_or vs i v → drop i vs ≡ v ∷ drop (i + 1) vs
-next_value vs i v h is = drop_more vs i v h ∙ ap (λ (w : Thrift). w ∷ drop (i + 1) vs) (sym is)
-
-pub next_writable : (out : List ℕ) (number : ℕ) (vs : List Thrift) (i : ℕ) (all : List ℕ) (v : Thrift) → i < length vs → v ≡ get_or vs i v → WritesValues out number vs i all → IsWritable (view v)
-next_writable out number vs i all v h is w =
-    let e = next_value vs i v h is in
-    let all_writable : AreWritable (values_view (v ∷ drop (i + 1) vs)) number = subst (λ (xs : List Thrift). AreWritable (values_view xs) number) e w.writable in
-    all_writable.1
-
-pub values_more : (out : List ℕ) (number : ℕ) (vs : List Thrift) (i : ℕ) (all : List ℕ) (v : Thrift) → i < length vs → v ≡ get_or vs i v → Fits (view v) → WritesValues out number vs i all → WritesValues (out ++ spell (view v)) number vs (i + 1) all
-values_more out number vs i all v h is fits w =
-    let e = next_value vs i v h is in
-    let so_far : out ++ spell_values (values_view (v ∷ drop (i + 1) vs)) ≡ all = subst (λ (xs : List Thrift). out ++ spell_values (values_view xs) ≡ all) e w.so_far in
-    let all_writable : AreWritable (values_view (v ∷ drop (i + 1) vs)) number = subst (λ (xs : List Thrift). AreWritable (values_view xs) number) e w.writable in
-    let fit : ValuesFit (values_view (v ∷ drop (i + 1) vs)) → ValuesFit (values_view vs) = subst (λ (xs : List Thrift). ValuesFit (values_view xs) → ValuesFit (values_view vs)) e w.fit in
-    record { so_far = append_assoc out (spell (view v)) (spell_values (values_view (drop (i + 1) vs))) ∙ so_far; writable = all_writable.2; fit = λ f. fit (fits, f) }
-
 pub values_done : (out : List ℕ) (number : ℕ) (vs : List Thrift) (i : ℕ) (all : List ℕ) → length vs ≤ i → WritesValues out number vs i all → (out ≡ all) × ValuesFit (values_view vs)
 values_done out number vs i all h w =
     let e : drop i vs ≡ [] = drop_all i vs h in
@@ -70,9 +50,6 @@ pub record WritesPairs (out : List ℕ) (keys values : ℕ) (ps : List (Thrift �
   pub writable : ArePairsWritable (pairs_view (drop i ps)) keys values
   pub fit : PairsFit (pairs_view (drop i ps)) → PairsFit (pairs_view ps)
 
-pub pairs_begun : (out : List ℕ) (keys values : ℕ) (ps : List (Thrift × Thrift)) → ArePairsWritable (pairs_view ps) keys values → WritesPairs out keys values ps 0 (out ++ spell_pairs (pairs_view ps))
-pairs_begun out keys values ps w = record { so_far = refl; writable = w; fit = λ f. f }
-
 next_pair : (ps : List (Thrift × Thrift)) (i : ℕ) (p : Thrift × Thrift) → i < length ps → p ≡ get_or ps i p → drop i ps ≡ p ∷ drop (i + 1) ps
 next_pair ps i p h is = drop_more ps i p h ∙ ap (λ (q : Thrift × Thrift). q ∷ drop (i + 1) ps) (sym is)
 
@@ -81,18 +58,6 @@ next_pair_writable out keys values ps i all p h is w =
     let e = next_pair ps i p h is in
     let all_writable : ArePairsWritable (pairs_view (p ∷ drop (i + 1) ps)) keys values = subst (λ (xs : List (Thrift × Thrift)). ArePairsWritable (pairs_view xs) keys values) e w.writable in
     (all_writable.1, all_writable.3)
-
-pub pairs_more : (out : List ℕ) (keys values : ℕ) (ps : List (Thrift × Thrift)) (i : ℕ) (all : List ℕ) (p : Thrift × Thrift) → i < length ps → p ≡ get_or ps i p → Fits (view p.0) → Fits (view p.1) → WritesPairs out keys values ps i all
-    → WritesPairs ((out ++ spell (view p.0)) ++ spell (view p.1)) keys values ps (i + 1) all
-pairs_more out keys values ps i all p h is key_fits fits w =
-    let e = next_pair ps i p h is in
-    let key = spell (view p.0) in
-    let item = spell (view p.1) in
-    let more = spell_pairs (pairs_view (drop (i + 1) ps)) in
-    let so_far : out ++ (key ++ (item ++ more)) ≡ all = subst (λ (xs : List (Thrift × Thrift)). out ++ spell_pairs (pairs_view xs) ≡ all) e w.so_far in
-    let all_writable : ArePairsWritable (pairs_view (p ∷ drop (i + 1) ps)) keys values = subst (λ (xs : List (Thrift × Thrift)). ArePairsWritable (pairs_view xs) keys values) e w.writable in
-    let fit : PairsFit (pairs_view (p ∷ drop (i + 1) ps)) → PairsFit (pairs_view ps) = subst (λ (xs : List (Thrift × Thrift)). PairsFit (pairs_view xs) → PairsFit (pairs_view ps)) e w.fit in
-    record { so_far = append_assoc (out ++ key) item more ∙ append_assoc out key (item ++ more) ∙ so_far; writable = all_writable.4; fit = λ f. fit (key_fits, fits, f) }
 
 pub pairs_done : (out : List ℕ) (keys values : ℕ) (ps : List (Thrift × Thrift)) (i : ℕ) (all : List ℕ) → length ps ≤ i → WritesPairs out keys values ps i all → (out ≡ all) × PairsFit (pairs_view ps)
 pairs_done out keys values ps i all h w =
@@ -107,9 +72,6 @@ pub record WritesFields (out : List ℕ) (last : ℤ) (fs : List (ℤ × Thrift)
   pub so_far : out ++ spell_fields (fields_view (drop i fs)) last ≡ all
   pub writable : AreFieldsWritable (fields_view (drop i fs))
   pub fit : FieldsFit (fields_view (drop i fs)) → FieldsFit (fields_view fs)
-
-pub fields_begun : (out : List ℕ) (last : ℤ) (fs : List (ℤ × Thrift)) → AreFieldsWritable (fields_view fs) → WritesFields out last fs 0 (out ++ spell_fields (fields_view fs) last)
-fields_begun out last fs w = record { so_far = refl; writable = w; fit = λ f. f }
 
 next_field : (fs : List (ℤ × Thrift)) (i : ℕ) (f : ℤ × Thrift) → i < length fs → f ≡ get_or fs i f → drop i fs ≡ f ∷ drop (i + 1) fs
 next_field fs i f h is = drop_more fs i f h ∙ ap (λ (g : ℤ × Thrift). g ∷ drop (i + 1) fs) (sym is)
