@@ -1,5 +1,5 @@
 -- Paths without lists, and lists above them.
-use Rattle.std.proofs.Common.{◌≡◌, ℕ, zero, suc, ◌+◌, ◌-◌, ◌<◌, ◌≤◌, ◌/◌, ◌^◌, ◌==◌, min, max, true, false, Bool, cond, Option, List, [], ◌∷◌, refl, arith, ap, ◌∙◌}
+use Rattle.std.proofs.Common.{◌≡◌, ℕ, zero, suc, ◌+◌, ◌-◌, ◌<◌, ◌≤◌, ◌/◌, ◌^◌, min, max, true, false, Bool, cond, Option, List, [], ◌∷◌, refl, arith, ap, ◌∙◌}
 use Rattle.std.specs.Int.{bit_at}
 use Rattle.std.proofs.lemmas.Nat.Bits.{ones_shr, bit_at_ones}
 use Rattle.shredding.specs.Shred.{max_repetition}
@@ -74,9 +74,6 @@ pub full_bit : (count i : ℕ) → count ≤ 64 → i < count → bit_at ((2 ^ 6
 full_bit count i few below =
     let width : 64 - (64 - count) ≡ count = omega (arith, few) in
     ap (λ n. bit_at n i) (ones_shr 64 (64 - count) (omega arith)) ∙ rw width (bit_at_ones count i below)
-
-pub full_tests : (word i : ℕ) → bit_at word i ≡ 1 → (bit_at word i == 1) ≡ true
-full_tests word i e = rw e refl
 
 -- the pairs of a path in which at most the first part is a list
 module _ (part : Nested) (rest : List Nested) (from to : ℕ) (flat : max_repetition (path_way (parts_of rest)) ≡ 0) where

@@ -61,15 +61,6 @@ unfolding total_or_one
 total_or_one-none size place zero h = refl
 total_or_one-none size place (suc count) h = absurd (omega arith)
 
-pub total-one : (size : ℕ → ℕ) (place count : ℕ) → count ≡ 1 → total size place count ≡ size place
-total-one size place count e = rw (total-more size place count 0 e, total-none size (place + 1) 0 refl) (omega arith)
-
--- one more place, where sums stand at the largest number max
-pub total-step : (size : ℕ → ℕ) (i to sum pairs new all max : ℕ) → i < to → min (sum + total size i (to - i)) max ≡ all → pairs ≡ min (size i) max → new ≡ min (sum + pairs) max → min (new + total size (i + 1) (to - (i + 1))) max ≡ all
-total-step size i to sum pairs new all max below h p n =
-    let more = total-more size i (to - i) (to - (i + 1)) (omega arith) in
-    omega (arith, more)
-
 pub total-add : (size : ℕ → ℕ) (place m n : ℕ) → total size place (m + n) ≡ total size place m + total size (place + m) n
 unfolding total
 total-add size place zero n =
