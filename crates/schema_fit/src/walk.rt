@@ -95,7 +95,8 @@ fn eat_type(
         (rest_from source.entry.is_inside (tree_view source.entry.node.now) path.new) }
 {
     match data_type {
-        DataType::List(item) | DataType::LargeList(item) => eat_items(asked, item, source, path),
+        DataType::List(item) => eat_items(asked, item, source, path),
+        DataType::LargeList(item) => eat_items(asked, item, source, path),
         DataType::Map(entry, _) => eat_items(asked, entry, source, path),
         DataType::Struct(fields) => eat_fields(asked, fields, source, path),
         DataType::Extension(_, inner, _) => eat_type(asked, is_nullable, inner, source, path),
