@@ -33,14 +33,6 @@ told_all start out out1 out2 out3 w w1 w2 w3 depth pairs starts none rest whole 
     let two = goes_on start out1 out2 w1 w2 _ (replicate 1 depth) (replicate (pairs - 1) (depth + 1) ++ rest) whole refl f1 one in
     goes_on start out2 out3 w2 w3 _ (replicate (pairs - 1) (depth + 1)) (pending depth none ++ rest) whole (ap (λ (t : List ℕ). replicate (pairs - 1) (depth + 1) ++ t) (sym left)) f2 two
 
--- a list has room behind what waits
-pub told_none : (start out : List ℕ) (w : Waiting) (depth : ℕ) (starts after : Starts) (piece rest whole : List ℕ) → pending depth after ≡ pending depth starts ++ piece → Goes start out w (pending depth starts ++ (piece ++ rest)) whole → Goes start out w (pending depth after ++ rest) whole
-told_none start out w depth starts after piece rest whole e g = record {
-  done = g.done;
-  all = ap (λ (t : List ℕ). g.done ++ t) (ap (λ (t : List ℕ). t ++ rest) e ∙ append_assoc (pending depth starts) piece rest) ∙ g.all;
-  keeps = g.keeps;
-}
-
 -- nothing waits at first
 pub told_begin : (start out : List ℕ) (w : Waiting) (depth : ℕ) (none : Starts) (xs left : List ℕ) → none.count ≡ 0 → Keeps start out w xs → Goes start out w (pending depth none ++ left) (xs ++ left)
 told_begin start out w depth none xs left z k = record { done = xs; all = ap (λ (t : List ℕ). xs ++ (t ++ left)) (numbers-none depth none.word 0 none.count z); keeps = k }

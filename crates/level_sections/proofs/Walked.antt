@@ -47,9 +47,6 @@ walked-step level parts here next place end to er ed ek some within =
     ∙ (map-append (level_of level) (run (slot_pairs parts here.def here.depth) here.rep here.depth place (end - place)) (run (slot_pairs parts here.def here.depth) here.depth here.depth end (to - end))
     ∙ ap (λ xs. walked level parts here place (end - place) ++ xs) (rw (er, ed, ek) refl))
 
-pub goes_begin : (start out : List ℕ) (w : Waiting) (xs left left' : List ℕ) → left ≡ left' → Keeps start out w xs → Goes start out w left (xs ++ left')
-goes_begin start out w xs left left' e k = record { done = xs; all = ap (λ (t : List ℕ). xs ++ t) e; keeps = k }
-
 pub goes_on : (start out out' : List ℕ) (w w' : Waiting) (left piece left' whole : List ℕ) → left ≡ piece ++ left' → ((start' xs : List ℕ) → Keeps start' out w xs → Keeps start' out' w' (xs ++ piece)) → Goes start out w left whole → Goes start out' w' left' whole
 goes_on start out out' w w' left piece left' whole e f g = record {
   done = g.done ++ piece;
