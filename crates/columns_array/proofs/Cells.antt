@@ -1,18 +1,13 @@
 -- What one position of an array holds.
-use Rattle.std.proofs.Common.{◌≡◌, ℕ, zero, suc, ◌+◌, ◌-◌, ◌*◌, ◌/◌, ◌≤◌, ◌<◌, Bool, true, false, true≢false, List, [], ◌∷◌, length, map, take, drop, get_or, zero-mul, refl, ap, sym, ◌∙◌, arith}
+use Rattle.std.proofs.Common.{◌≡◌, ℕ, zero, suc, ◌+◌, ◌-◌, ◌*◌, ◌/◌, ◌≤◌, ◌<◌, List, [], ◌∷◌, length, map, take, drop, get_or, zero-mul, refl, sym, arith}
 use Rattle.std.proofs.Math.Nat.{add-mul}
 use Rattle.std.proofs.lemmas.Nat.{mul-le}
 use Rattle.std.proofs.lemmas.List.{drop-drop}
-use Rattle.shredding.specs.Slot.{Value, Slot, null, value, bytes}
-use Rattle.shredding.specs.Parts.{keeps}
-use Rattle.columns_core.specs.Tree.{TypeTree}
-use Rattle.columns_slots.specs.Tree.{ArrayTree, null_array, leaf_array, list_array, fixed_list_array, struct_array, dictionary_array}
-use Rattle.columns_slots.specs.Slots.{slot_at, leaf_at, mask_of, IsPlaces}
+use Rattle.shredding.specs.Slot.{Value, bytes}
+use Rattle.columns_slots.specs.Slots.{leaf_at, IsPlaces}
 use Rattle.columns_slots.specs.Bytes.{pieces, pieces_values, chunks, chunks_values}
 use Rattle.columns_slots.proofs.Strings.{pieces_len, chunks_len}
-use Rattle.columns_leaf.specs.Fixed.{fixed_width, fixed_count}
 use Rattle.columns_array.proofs.Know.{whole_fits, strings_len, widths_len}
-use Rattle.columns_array.specs.Cells.{content}
 
 pub leaf_mapped : {A : Type 0} (f : A → Value) (xs : List A) (i : ℕ) (d : A) → i < length xs → leaf_at (map f xs) i ≡ f (get_or xs i d)
 leaf_mapped f [] i d h = absurd (omega (arith, h))
@@ -41,23 +36,6 @@ widths_under w n bs i h = omega (arith, h, widths_len w n bs)
 -- the string at a position lies within the bytes
 pub chunk_within : (w k i : ℕ) → i < k / w → i * w + w ≤ k
 chunk_within w k i h = omega (arith, add-mul i 1 w, mul-le (i + 1) w (k / w) w (omega (arith, h)) (omega arith), whole_fits w k)
-
--- ---- a position that the mask keeps, and one that it hides
-pub shown : (a : ArrayTree) (i : ℕ) (s : Slot) → keeps (mask_of a) i ≡ true → s ≡ content a i → s ≡ slot_at a i
-shown (null_array t n) i s k e = e
-shown (leaf_array t vs m) i s k e = rw k e
-shown (list_array t os c m) i s k e = rw k e
-shown (fixed_list_array t w n c m) i s k e = rw k e
-shown (struct_array t cs m) i s k e = rw k e
-shown (dictionary_array t ks c m) i s k e = rw k e
-
-pub hidden : (a : ArrayTree) (i : ℕ) → keeps (mask_of a) i ≡ false → null ≡ slot_at a i
-hidden (null_array t n) i k = refl
-hidden (leaf_array t vs m) i k = rw k refl
-hidden (list_array t os c m) i k = rw k refl
-hidden (fixed_list_array t w n c m) i k = rw k refl
-hidden (struct_array t cs m) i k = rw k refl
-hidden (dictionary_array t ks c m) i k = rw k refl
 
 -- ---- places of items
 pub some_places : (os : List ℕ) (u i : ℕ) → IsPlaces os u → i < length os - 1 → i + 1 < length os

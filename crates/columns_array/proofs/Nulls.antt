@@ -1,12 +1,12 @@
 -- The null slots of any array.
-use Rattle.std.proofs.Common.{◌≡◌, ℕ, zero, suc, ◌+◌, ◌≤◌, ◌<◌, Bool, true, false, true≢false, not, cond, List, [], ◌∷◌, ◌++◌, length, get_or, count_by, Some, None, subst, add-one, zero-add, refl, ap, sym, ◌∙◌, arith}
+use Rattle.std.proofs.Common.{◌≡◌, ℕ, zero, suc, ◌+◌, ◌<◌, Bool, true, false, cond, List, length, count_by, Some, subst, add-one, zero-add, refl, ap, ◌∙◌, arith}
 use Rattle.std.proofs.lemmas.List.Sums.{sum_by-cons}
 use Rattle.shredding.specs.Slot.{Slot, null}
-use Rattle.shredding.specs.Parts.{keeps, slots_from, MaskFits}
+use Rattle.shredding.specs.Parts.{slots_from, MaskFits}
 use Rattle.columns_core.specs.Tree.{TypeTree}
-use Rattle.columns_array.proofs.Keys.{kept_bit, mask_long}
-use Rattle.columns_slots.specs.Tree.{Mask, ArrayTree, null_array, leaf_array, list_array, fixed_list_array, struct_array, dictionary_array}
-use Rattle.columns_slots.specs.Slots.{IsSound, slot_at, tree_len, is_null, is_masked, null_slots, mask_of}
+use Rattle.columns_array.proofs.Keys.{mask_long}
+use Rattle.columns_slots.specs.Tree.{ArrayTree, null_array, leaf_array, list_array, fixed_list_array, struct_array, dictionary_array}
+use Rattle.columns_slots.specs.Slots.{IsSound, tree_len, is_null, null_slots, mask_of}
 
 abbrev weight : Bool → ℕ
 weight b = cond b 1 0
@@ -23,18 +23,6 @@ all_from a (suc n) = nulls_on (λ i. null) a n ∙ omega (arith, all_from (a + 1
 pub all_null : (t : TypeTree) (n : ℕ) → null_slots (null_array t n) ≡ n
 all_null t n = all_from 0 n
 
-one : (b : Bool) (s : Slot) → is_null s ≡ false → is_null (cond b s null) ≡ not b
-one true s e = e
-one false s e = refl
-
-pub null_kept : (a : ArrayTree) (i : ℕ) → is_masked a ≡ true → is_null (slot_at a i) ≡ not (keeps (mask_of a) i)
-null_kept (null_array t n) i e = absurd (true≢false (sym e))
-null_kept (leaf_array t vs m) i e = one (keeps m i) _ refl
-null_kept (list_array t os c m) i e = one (keeps m i) _ refl
-null_kept (fixed_list_array t w n c m) i e = one (keeps m i) _ refl
-null_kept (struct_array t cs m) i e = one (keeps m i) _ refl
-null_kept (dictionary_array t ks c m) i e = absurd (true≢false (sym e))
-
 pub sound_mask : (a : ArrayTree) → IsSound a → MaskFits (mask_of a) (tree_len a)
 sound_mask (null_array t n) s = tt
 sound_mask (leaf_array t vs m) s = s.0
@@ -42,15 +30,6 @@ sound_mask (list_array t os c m) s = s.1
 sound_mask (fixed_list_array t w n c m) s = s.1
 sound_mask (struct_array t cs m) s = s.1
 sound_mask (dictionary_array t ks c m) s = s.0
-
--- a key that is null, or numbers a null entry
-pub entry_null : (b : Bool) (s : Slot) → b ≡ true → is_null s ≡ is_null (cond b s null)
-entry_null true s e = refl
-entry_null false s e = absurd (true≢false (sym e))
-
-pub key_null : (b : Bool) (s : Slot) → b ≡ false → true ≡ is_null (cond b s null)
-key_null false s e = refl
-key_null true s e = absurd (true≢false e)
 
 -- ---- a count that goes on
 from_one : (f : ℕ → Slot) (a : ℕ) → weight (is_null (f a)) + count_by is_null (slots_from f (a + 1) zero) ≡ count_by is_null (slots_from f a zero) + weight (is_null (f (a + 0)))
@@ -74,9 +53,6 @@ pub count_same : (f : ℕ → Slot) (i c : ℕ) → c ≡ count_by is_null (slot
 count_same f i c h e =
     let z : 0 + i ≡ i = zero-add i in
     rw (add-one i) (omega (arith, h, from_more f 0 i, ap (λ j. weight (is_null (f j))) z, ap weight e))
-
-pub bit_kept : (bits : List Bool) (i : ℕ) → i < length bits → not (get_or bits i false) ≡ not (keeps (Some bits) i)
-bit_kept bits i h = ap not (kept_bit bits i h)
 
 pub mask_bit : (a : ArrayTree) (bits : List Bool) (i : ℕ) → IsSound a → mask_of a ≡ Some bits → i < tree_len a → i < length bits
 mask_bit a bits i s e h = mask_long bits (tree_len a) i (subst (λ m. MaskFits m (tree_len a)) e (sound_mask a s)) h
