@@ -29,7 +29,7 @@ fn few_bytes(bytes: &[u8]) -> u64
     }
 }
 
-// The number that the first eight bytes spell.
+/// The number that the first eight bytes spell, lowest first, or all where there are fewer.
 pub fn low_bytes(bytes: &[u8]) -> u64
     ensures { result ≡ number_of (take 8 bytes.now) }
 {
@@ -64,7 +64,7 @@ pub fn eight_of(word: u64, width: u32) -> [u32; 8]
     ]
 }
 
-// The number that at most four bytes spell, as a repeated number stands in a run.
+/// The number that at most four bytes spell, lowest first, as a repeated number stands in a run.
 pub fn whole_number(value: &[u8]) -> u32
     requires { length value.now ≤ 4 }
     ensures { result ≡ number_of value.now }
@@ -78,7 +78,7 @@ pub fn whole_number(value: &[u8]) -> u32
     }
 }
 
-// The number of so many bits from a bit of the first byte on.
+/// The number of `width` bits, at most 32, from bit `shift` of the first byte on, lowest bit first.
 pub fn number_at(bytes: &[u8], shift: u32, width: u32) -> u32
     requires within { shift < 8 }
     requires fits { width ≤ 32 }

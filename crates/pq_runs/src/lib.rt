@@ -25,7 +25,7 @@ mod wide;
 mod words;
 mod writer;
 
-pub use bits::{get_bit_width, unpack};
+pub use bits::{get_bit_width, low_bytes, number_at, unpack, whole_number};
 pub use encode::{encode_bool, encode_u32};
 pub use hybrid::HybridRleDecoder;
 pub use laws::{

@@ -1,7 +1,6 @@
 //! Indices of a dictionary's entries.
-ghost use Rattle.std.specs.Prelude.{◌≡◌, ◌*◌, ◌/◌, ◌<◌, ◌≤◌, ◌∷◌, ℕ, IfErr, IfOk, IsTrue, length, min, replicate};
+ghost use Rattle.std.specs.Prelude.{◌≡◌, ◌*◌, ◌/◌, ◌<◌, ◌≤◌, ◌∷◌, IfErr, IfOk, IsTrue, length, min, replicate};
 ghost use Rattle.columns_base.specs.declared.error.Error.TheVariants.{Memory};
-ghost use Rattle.pq_numbers.specs.Texts.{number_of};
 ghost use Rattle.pq_runs.specs.Hybrid.{given, hybrid};
 ghost use Rattle.pq_runs.specs.Taking.{IsPackedRun, IsRepeatedRun};
 ghost use Rattle.read_column.specs.Dictionary.{IsLaid, indices_in};
@@ -11,6 +10,7 @@ use crate::entries::Entries;
 use crate::lookup::{push_copies, push_packed};
 use columns_base::Result;
 use pq_runs::hybrid_rle::{Decoder, Run};
+use pq_runs::whole_number;
 use std::alloc::Global;
 
 // The bytes of runs that are left, and how many numbers are called for.
@@ -18,20 +18,6 @@ use std::alloc::Global;
 struct Runs<'a> {
     bytes: &'a [u8],
     left: usize,
-}
-
-// The number that at most four bytes spell.
-fn whole_number(value: &[u8]) -> u32
-    requires { length value.now ≤ 4 }
-    ensures { result ≡ number_of value.now }
-{
-    match value {
-        [a, b, c, d] => u32::from_le_bytes([*a, *b, *c, *d]),
-        [a, b, c] => u32::from_le_bytes([*a, *b, *c, 0]),
-        [a, b] => u32::from_le_bytes([*a, *b, 0, 0]),
-        [a] => u32::from(*a),
-        _ => 0,
-    }
 }
 
 // How many packed numbers stand in the bytes, of those that are called for.

@@ -3,45 +3,8 @@ ghost use Rattle.std.specs.Prelude.{◌≡◌, ◌+◌, ◌*◌, ◌/◌, ◌%�
 ghost use Rattle.pq_numbers.specs.Bits.{digits_of};
 ghost use Rattle.pq_numbers.specs.Texts.{number_of};
 
+use pq_runs::low_bytes;
 use std::simd::prelude::*;
-
-// The number that less than eight bytes spell.
-#[cold]
-fn few_bytes(bytes: &[u8]) -> u64
-    requires { length bytes.now < 8 }
-    ensures { result ≡ number_of bytes.now }
-{
-    match bytes {
-        [a, b, c, d, e, f, g] => u64::from_le_bytes([*a, *b, *c, *d, *e, *f, *g, 0]),
-        [a, b, c, d, e, f] => u64::from_le_bytes([*a, *b, *c, *d, *e, *f, 0, 0]),
-        [a, b, c, d, e] => u64::from_le_bytes([*a, *b, *c, *d, *e, 0, 0, 0]),
-        [a, b, c, d] => u64::from_le_bytes([*a, *b, *c, *d, 0, 0, 0, 0]),
-        [a, b, c] => u64::from_le_bytes([*a, *b, *c, 0, 0, 0, 0, 0]),
-        [a, b] => u64::from_le_bytes([*a, *b, 0, 0, 0, 0, 0, 0]),
-        [a] => u64::from(*a),
-        _ => 0,
-    }
-}
-
-/// The number that the first eight bytes spell, lowest first, or all where there are fewer.
-pub fn low_bytes(bytes: &[u8]) -> u64
-    ensures { result ≡ number_of (take 8 bytes.now) }
-{
-    match bytes {
-        [a, b, c, d, e, f, g, h, ..] => u64::from_le_bytes([*a, *b, *c, *d, *e, *f, *g, *h]),
-        _ => few_bytes(bytes),
-    }
-}
-
-/// The number of so many bits from a bit of the first byte on.
-pub fn number_at(bytes: &[u8], shift: u32, width: u32) -> u32
-    requires within { shift < 8 }
-    requires fits { width ≤ 32 }
-    requires enough { shift + width ≤ 8 * length bytes.now }
-    ensures { result ≡ number_of bytes.now / 2 ^ shift % 2 ^ width }
-{
-    ((low_bytes(bytes) >> shift) % (1 << width)) as u32
-}
 
 // Eight numbers of one bit in the front of the memory, the lowest first. Each is moved to the top of its lane, where what stands above it is lost.
 fn put_bits(out: &mut [u32], word: u64)
@@ -256,20 +219,6 @@ pub fn put_few(out: &mut [u32], word: u64, width: u32, count: usize)
     for i in 0..count {
         out[i] = (left % (1 << width)) as u32;
         left = left >> width;
-    }
-}
-
-/// The number that at most four bytes spell.
-pub fn whole_number(value: &[u8]) -> u32
-    requires { length value.now ≤ 4 }
-    ensures { result ≡ number_of value.now }
-{
-    match value {
-        [a, b, c, d] => u32::from_le_bytes([*a, *b, *c, *d]),
-        [a, b, c] => u32::from_le_bytes([*a, *b, *c, 0]),
-        [a, b] => u32::from_le_bytes([*a, *b, 0, 0]),
-        [a] => u32::from(*a),
-        _ => 0,
     }
 }
 

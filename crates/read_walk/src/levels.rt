@@ -1,15 +1,15 @@
 //! Level pairs in blocks of 64.
-ghost use Rattle.std.specs.Prelude.{◌≡◌, ◌⊎◌, ℕ, ◌+◌, ◌-◌, ◌/◌, ◌<◌, ◌≤◌, ◌^◌, ◌||◌, ◌&&◌, ◌++◌, [], true, false, length, take, drop, slice_index, Ok, Some, IfSome, MatchOption, IsTrue, count_by};
+ghost use Rattle.std.specs.Prelude.{◌≡◌, ℕ, ◌+◌, ◌-◌, ◌/◌, ◌<◌, ◌≤◌, ◌^◌, ◌||◌, ◌&&◌, ◌++◌, [], true, false, length, take, drop, slice_index, Ok, Some, IfSome, MatchOption, IsTrue};
 ghost use Rattle.pq_numbers.specs.Bits.{digits_of};
 ghost use Rattle.pq_numbers.specs.Texts.{number_of};
 ghost use Rattle.pq_runs.specs.Hybrid.{given};
 ghost use Rattle.read_laws.specs.State.{kept_way};
-ghost use Rattle.read_walk.specs.LevelRuns.{runs_left, IsReading, IsFilled};
+ghost use Rattle.read_walk.specs.LevelRuns.{runs_left, IsReading};
 ghost use Rattle.read_walk.specs.Levels.{levels_left, ArePacked, IsLevels, IsFlatNext, IsUsedUp};
 ghost use Rattle.read_walk.specs.Order.{AreLevels, MayTake};
-ghost use Rattle.read_walk.specs.Pairs.{TakesBlock, TakesCopies, TakesRun, is_within, rows_in, is_row};
+ghost use Rattle.read_walk.specs.Pairs.{TakesBlock, TakesCopies, TakesRun, is_within, rows_in};
 
-use crate::bits::{low_bytes, put_bytes};
+use crate::bits::put_bytes;
 use crate::block::{PairBlock, fill_flat};
 use crate::folds::{are_within, count_zeros};
 use crate::narrow::{are_bytes, narrowed};
@@ -17,6 +17,7 @@ use crate::order::{WayLevels, may_begin, may_take};
 use crate::runs::{LevelRuns, copied, drop_copies, drop_packed, fill, fill_whole, stop_runs};
 use crate::words::take_word;
 use columns_base::{Error, Result, S};
+use pq_runs::low_bytes;
 use read_state::{BlockLevels, NestedState};
 
 /// The levels that were unpacked, from one place of a block to another, those that were not, and whether a fault stands behind the block.

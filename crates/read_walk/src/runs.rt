@@ -1,5 +1,5 @@
 //! The levels of one section, a block at a time (Parquet format, Encodings, "Run Length Encoding / Bit-Packing Hybrid").
-ghost use Rattle.std.specs.Prelude.{◌≡◌, ◌<◌, ◌≤◌, ◌+◌, ◌*◌, ◌/◌, ◌^◌, ◌∷◌, ◌++◌, [], length, take, replicate, min, Ok, Err, Some, OnOk, OnSome, IfErr, IsTrue, MatchOption, ℕ, List};
+ghost use Rattle.std.specs.Prelude.{◌≡◌, ◌<◌, ◌≤◌, ◌+◌, ◌*◌, ◌/◌, ◌^◌, ◌∷◌, ◌++◌, [], length, take, replicate, min, Ok, Err, Some, OnOk, OnSome, IfErr, IsTrue, MatchOption};
 ghost use Rattle.pq_numbers.specs.Bits.{digits_of};
 ghost use Rattle.pq_numbers.specs.Texts.{number_of};
 ghost use Rattle.pq_numbers.specs.Varint.{varint_at};
@@ -7,9 +7,10 @@ ghost use Rattle.pq_runs.specs.Hybrid.{fault, given, hybrid};
 ghost use Rattle.pq_runs.specs.Taking.{IsRun, IsRepeatedRun, IsPackedRun, NoRun};
 ghost use Rattle.read_walk.specs.LevelRuns.{runs_left, IsReading, IsFilled};
 
-use crate::bits::{low_bytes, number_at, put_eights, put_few, skip, whole_number};
+use crate::bits::{put_eights, put_few, skip};
 use columns_base::{Error, Result, S};
 use pq_runs::hybrid_rle::{Decoder, Run};
+use pq_runs::{low_bytes, number_at, whole_number};
 
 /// The runs behind the one that is being read, how many levels are still called for, and what is left of that run: copies of a number, or
 /// packed numbers from a bit of the first byte on.

@@ -1,13 +1,12 @@
 //! Levels of one bit, 64 at once as a word.
-ghost use Rattle.std.specs.Prelude.{◌≡◌, ◌+◌, ◌*◌, ◌%◌, ◌^◌, ◌<◌, ◌≤◌, ◌++◌, IfSome, map, nat_eq, replicate};
-ghost use Rattle.columns_core.specs.Bits.{word_bits};
+ghost use Rattle.std.specs.Prelude.{◌≡◌, ◌+◌, ◌*◌, ◌%◌, ◌^◌, ◌<◌, ◌≤◌, ◌++◌, IfSome, replicate};
 ghost use Rattle.pq_numbers.specs.Bits.{digits_of};
 ghost use Rattle.pq_runs.specs.Hybrid.{given};
 ghost use Rattle.read_walk.specs.LevelRuns.{runs_left, IsReading};
 ghost use Rattle.read_walk.specs.Words.{TakesBits};
 
-use crate::bits::low_bytes;
 use crate::runs::{LevelRuns, begin, drop_copies, drop_packed};
+use pq_runs::low_bytes;
 
 // The lowest bits of a word.
 fn lowest(word: u64, count: usize) -> u64
