@@ -75,21 +75,21 @@ impl<W: Sink + Drop> SchemaFile<W> {
     }
 
     // Adds a group whose columns are as many as the schema's leaves.
-    fn put_columns<P: ChunkPages>(&mut self, columns: &mut [P], rows: u64) -> Result<()>
+    fn put_columns<P: ChunkPages + Drop>(&mut self, columns: Vec<P>, rows: u64) -> Result<()>
         ensures ok { (before : Option (List ℕ)) (version : PageVersion) (groups : List OutGroup) (g : OutGroup)
             → IsOpen W.taken before version groups self.old → AllGive P.begins version
-            (columns_of (schema_of (fields_in self.old))) g.chunks columns.old → HasRows g → g.rows ≡ rows
+            (columns_of (schema_of (fields_in self.old))) g.chunks columns.items → HasRows g → g.rows ≡ rows
             → OnOk result (IsOpen W.taken before version (groups ++ g ∷ []) self.new) }
         ensures kept { (self.new.schema ≡ self.old.schema) × (self.new.refusal ≡ self.old.refusal) }
         ensures refused { (before : Option (List ℕ)) (version : PageVersion) (groups : List OutGroup) (g : OutGroup)
             → IsOpen W.taken before version groups self.old → AllGive P.begins version
-            (columns_of (schema_of (fields_in self.old))) g.chunks columns.old → g.rows ≡ rows
+            (columns_of (schema_of (fields_in self.old))) g.chunks columns.items → g.rows ≡ rows
             → IfErr result (λ e. (e ≡ Memory) ⊎ ((e ≡ WriteFault)
             ×
             (Rose (W.faults self.old.body.writer) (W.faults self.new.body.writer)
-            ⊎ SomeRefuses P.refuses columns.old WriteFault))
+            ⊎ SomeRefuses P.refuses columns.items WriteFault))
             ⊎ ((e ≡ Overflow V3) × GroupPasses version (columns_of (schema_of (fields_in self.old))) groups g)
-            ⊎ SomeRefuses P.refuses columns.old e) }
+            ⊎ SomeRefuses P.refuses columns.items e) }
         ensures later { W.faults self.old.body.writer ≤ W.faults self.new.body.writer }
     {
         if !are_so_many(&self.body.leaves, columns.len()) {
@@ -111,21 +111,21 @@ impl<W: Sink + Drop> SchemaFile<W> {
     /// - `WriteFault`: the sink failed. `Memory`: memory ran out.
     /// - `Overflow(V3)`: the rows of the file, the level pairs of a column or the bytes of the pages pass 2^63 - 1.
     /// - Those of the pages.
-    pub fn put<P: ChunkPages>(&mut self, columns: &mut [P], rows: u64) -> Result<()>
+    pub fn put<P: ChunkPages + Drop>(&mut self, columns: Vec<P>, rows: u64) -> Result<()>
         ensures ok { (before : Option (List ℕ)) (version : PageVersion) (groups : List OutGroup) (g : OutGroup)
             → IsOpen W.taken before version groups self.old → AllGive P.begins version
-            (columns_of (schema_of (fields_in self.old))) g.chunks columns.old → HasRows g → g.rows ≡ rows
+            (columns_of (schema_of (fields_in self.old))) g.chunks columns.items → HasRows g → g.rows ≡ rows
             → OnOk result (IsOpen W.taken before version (groups ++ g ∷ []) self.new) }
         ensures schema { self.new.schema ≡ self.old.schema }
         ensures refused { (before : Option (List ℕ)) (version : PageVersion) (groups : List OutGroup) (g : OutGroup)
             → IsOpen W.taken before version groups self.old → AllGive P.begins version
-            (columns_of (schema_of (fields_in self.old))) g.chunks columns.old → g.rows ≡ rows
+            (columns_of (schema_of (fields_in self.old))) g.chunks columns.items → g.rows ≡ rows
             → IfErr result (λ e. (e ≡ Memory) ⊎ ((e ≡ WriteFault)
             ×
             (Rose (W.faults self.old.body.writer) (W.faults self.new.body.writer)
-            ⊎ SomeRefuses P.refuses columns.old WriteFault))
+            ⊎ SomeRefuses P.refuses columns.items WriteFault))
             ⊎ ((e ≡ Overflow V3) × GroupPasses version (columns_of (schema_of (fields_in self.old))) groups g)
-            ⊎ SomeRefuses P.refuses columns.old e) }
+            ⊎ SomeRefuses P.refuses columns.items e) }
         ensures again { (e : Fault) → self.old.refusal ≡ Some e → (result ≡ Err e) × (self.new ≡ self.old) }
         ensures stays { IfErr result (λ e. self.new.refusal ≡ Some e) }
         ensures later { W.faults self.old.body.writer ≤ W.faults self.new.body.writer }

@@ -1,20 +1,28 @@
 -- One column after another in a list of columns.
 use Rattle.std.proofs.Common.{◌≡◌, ◌⊎◌, inl, inr, ℕ, zero, suc, ◌+◌, ◌<◌, ◌≤◌, List, [], ◌∷◌, length, drop, get_or, sym, ap, subst, ◌∙◌, arith}
-use Rattle.std.proofs.lemmas.List.{drop-drop, drop-set-lt, get_or-drop}
-use Rattle.std.specs.Prelude.{slice_set, Result, Ok, Err}
+use Rattle.std.proofs.lemmas.List.{drop-drop, get_or-drop, length-drop}
+use Rattle.std.specs.Prelude.{Result, Ok, Err}
 use Rattle.columns_base.specs.declared.error.Error.{Error}
 use Rattle.columns_base.specs.declared.error.Error.TheVariants.{Memory, WriteFault}
 use Rattle.pq_io.specs.Causes.{Rose}
 use Rattle.write_file.specs.Pages.{SomeRefuses}
 
--- what is not gone through yet is as it was
-pub as_it_was : {S : Type 0} (xs ys : List S) (i : ℕ) (s : S) → drop i xs ≡ drop i ys → s ≡ get_or xs i s → s ≡ get_or ys i s
-as_it_was xs ys i s h e =
+-- what is left begins with what stands at its place
+pub first_at : {S : Type 0} (all rest : List S) (i : ℕ) (s : S) → drop i all ≡ s ∷ rest → s ≡ get_or all i s
+first_at all rest i s h =
     let n : i + 0 ≡ i = omega arith in
-    e ∙ (sym (get_or-drop i xs 0 s ∙ ap (λ (k : ℕ). get_or xs k s) n) ∙ (ap (λ zs. get_or zs 0 s) h ∙ (get_or-drop i ys 0 s ∙ ap (λ (k : ℕ). get_or ys k s) n)))
+    ap (λ zs. get_or zs 0 s) (sym h) ∙ (get_or-drop i all 0 s ∙ ap (λ (k : ℕ). get_or all k s) n)
 
-pub rest_after : {S : Type 0} (xs ys : List S) (i : ℕ) (x : S) → drop i xs ≡ drop i ys → drop (i + 1) (slice_set xs i x) ≡ drop (i + 1) ys
-rest_after xs ys i x h = drop-set-lt (i + 1) xs i x (omega arith) ∙ (sym (drop-drop 1 i xs) ∙ (ap (drop 1) h ∙ drop-drop 1 i ys))
+pub rest_behind : {S : Type 0} (all rest : List S) (i : ℕ) (s : S) → drop i all ≡ s ∷ rest → drop (i + 1) all ≡ rest
+rest_behind all rest i s h = sym (drop-drop 1 i all) ∙ ap (drop 1) h
+
+pub is_within : {S : Type 0} (all rest : List S) (i : ℕ) (s : S) → drop i all ≡ s ∷ rest → i < length all
+is_within all rest i s h =
+    let n : length (drop i all) ≡ suc (length rest) = ap length h in
+    omega (arith, n, length-drop i all)
+
+pub none_behind : {S : Type 0} (all rest : List S) (i : ℕ) → drop i all ≡ rest → length rest ≡ 0 → length all ≤ i
+none_behind all rest i h none = omega (arith, ap length h, none, length-drop i all)
 
 pub refuses_at : {S : Type 0} (refuses : S → Error → Type 0) (xs : List S) (i : ℕ) (s : S) (e : Error) → i < length xs → s ≡ get_or xs i s → refuses s e → SomeRefuses refuses xs e
 refuses_at refuses [] i s e b q h = absurd (omega (arith, b))

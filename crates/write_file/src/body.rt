@@ -163,24 +163,24 @@ impl<W: Sink + Drop> FileBody<W> {
     /// - Those of the pages.
     ///
     /// After an error nothing is said of what is kept.
-    pub fn write_group<P: ChunkPages>(&mut self, columns: &mut [P], rows: u64) -> Result<()>
-        requires even { length self.old.leaves.physicals.items ≡ length columns.old }
-        requires named { length self.old.leaves.paths.items ≡ length columns.old }
+    pub fn write_group<P: ChunkPages + Drop>(&mut self, columns: Vec<P>, rows: u64) -> Result<()>
+        requires even { length self.old.leaves.physicals.items ≡ length columns.items }
+        requires named { length self.old.leaves.paths.items ≡ length columns.items }
         ensures ok { OnOk result ((before : Option (List ℕ)) (tree : Schema) (version : PageVersion)
             (groups : List OutGroup) (g : OutGroup) → HasWritten W.taken before tree version groups self.old
-            → AllGive P.begins version (columns_of tree) g.chunks columns.old → HasRows g → g.rows ≡ rows
+            → AllGive P.begins version (columns_of tree) g.chunks columns.items → HasRows g → g.rows ≡ rows
             → HasWritten W.taken before tree version (groups ++ g ∷ []) self.new) }
         ensures later { W.faults self.old.writer ≤ W.faults self.new.writer }
         ensures fault { IsErrOf result WriteFault → Rose (W.faults self.old.writer) (W.faults self.new.writer)
-            ⊎ SomeRefuses P.refuses columns.old WriteFault }
+            ⊎ SomeRefuses P.refuses columns.items WriteFault }
         ensures refused { IfErr result (λ e. (e ≡ Memory) ⊎ (e ≡ WriteFault)
             ⊎
             ((e ≡ Overflow V3)
             ×
             ((before : Option (List ℕ)) (tree : Schema) (version : PageVersion) (groups : List OutGroup)
             (g : OutGroup) → HasWritten W.taken before tree version groups self.old
-            → AllGive P.begins version (columns_of tree) g.chunks columns.old → g.rows ≡ rows
-            → GroupPasses version (columns_of tree) groups g)) ⊎ SomeRefuses P.refuses columns.old e) }
+            → AllGive P.begins version (columns_of tree) g.chunks columns.items → g.rows ≡ rows
+            → GroupPasses version (columns_of tree) groups g)) ⊎ SomeRefuses P.refuses columns.items e) }
     {
         let rows = match rows_after(self.rows, rows) {
             Ok(rows) => rows,

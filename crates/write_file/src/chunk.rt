@@ -109,21 +109,21 @@ pub(crate) struct Chunk {
     pub pages: Count,
 }
 
-/// Pushes the pages of a column that starts at a place, the dictionary page first (Parquet format, "Column chunks").
+/// Pushes the pages of a column that starts at a place, the dictionary page first (Parquet format, "Column chunks"), and drops the column.
 ///
 /// # Errors
 ///
 /// Those of `push_column` and of the dictionary page.
-pub(crate) fn push_chunk<W: Sink, P: ChunkPages>(
+pub(crate) fn push_chunk<W: Sink, P: ChunkPages + Drop>(
     alloc: Global,
     sink: &mut W,
     physical: PhysicalType,
     path: &[String],
-    pages: &mut P,
+    pages: P,
     start: Count,
 ) -> Result<Chunk>
     ensures ok { IfOk result (λ k. (version : Version) (l : Leaf) (c : OutChunk) → physical_view physical ≡ l.physical
-        → map string_bytes path.now ≡ names_of l → P.begins pages.old version l c → 0 < length c.pages
+        → map string_bytes path.now ≡ names_of l → P.begins pages version l c → 0 < length c.pages
         → (text : List ℕ) × (w : Place) × Appends (W.taken sink.old) (W.taken sink.new) text × (w.start ≡ start)
         × IsWrittenChunk version l c w text × (chunk_view k.meta ≡ chunk_record l c w)
         × (k.end ≡ start + length text) × (k.pages ≡ length c.pages)) }
@@ -131,14 +131,15 @@ pub(crate) fn push_chunk<W: Sink, P: ChunkPages>(
     ensures most { IfOk result (λ k. k.end ≤ max_count) }
     ensures later { W.faults sink.old ≤ W.faults sink.new }
     ensures fault { IsErrOf result WriteFault → Rose (W.faults sink.old) (W.faults sink.new)
-        ⊎ P.refuses pages.old WriteFault }
+        ⊎ P.refuses pages WriteFault }
     ensures refused { IfErr result (λ e. (e ≡ Memory) ⊎ (e ≡ WriteFault)
         ⊎
         ((e ≡ Overflow V3)
         ×
-        ((version : Version) (l : Leaf) (c : OutChunk) → P.begins pages.old version l c
-        → ColumnPasses version l c start)) ⊎ P.refuses pages.old e) }
+        ((version : Version) (l : Leaf) (c : OutChunk) → P.begins pages version l c
+        → ColumnPasses version l c start)) ⊎ P.refuses pages e) }
 {
+    let mut pages = pages;
     let path_in_schema = copy_path(alloc, path)?;
     let statistics = copy_statistics(alloc, pages.statistics())?;
     let dictionary = match pages.dictionary_page() {
@@ -147,7 +148,7 @@ pub(crate) fn push_chunk<W: Sink, P: ChunkPages>(
     };
     let has_dictionary = dictionary.is_some();
     let encodings = encodings_from(alloc, pages.encoding(), has_dictionary)?;
-    let placed = match push_column(alloc, sink, dictionary, pages, start) {
+    let placed = match push_column(alloc, sink, dictionary, &mut pages, start) {
         Ok(placed) => placed,
         Err(error) => return Err(error),
     };

@@ -34,17 +34,17 @@ pub(crate) struct Chunks {
 /// # Errors
 ///
 /// Those of `push_chunk`.
-pub(crate) fn push_columns<W: Sink, P: ChunkPages>(
+pub(crate) fn push_columns<W: Sink, P: ChunkPages + Drop>(
     alloc: Global,
     sink: &mut W,
     leaves: &LeafMetas,
-    columns: &mut [P],
+    columns: Vec<P>,
     start: Count,
 ) -> Result<Chunks>
-    requires even { length leaves.now.physicals.items ≡ length columns.old }
-    requires named { length leaves.now.paths.items ≡ length columns.old }
+    requires even { length leaves.now.physicals.items ≡ length columns.items }
+    requires named { length leaves.now.paths.items ≡ length columns.items }
     ensures ok { IfOk result (λ k. (version : Version) (ls : List Leaf) (cs : List OutChunk) → AreMetasOf ls leaves.now
-        → AllGive P.begins version ls cs columns.old → (text : List ℕ)
+        → AllGive P.begins version ls cs columns.items → (text : List ℕ)
         × Appends (W.taken sink.old) (W.taken sink.new) text
         × AreChunks version ls cs start text (map chunk_view k.metas.items) × (k.end ≡ start + length text)
         × (k.pages ≡ sum_by (λ c. length c.pages) cs)) }
@@ -52,23 +52,24 @@ pub(crate) fn push_columns<W: Sink, P: ChunkPages>(
     ensures most { IfOk result (λ k. k.end ≤ max_count) }
     ensures later { W.faults sink.old ≤ W.faults sink.new }
     ensures fault { IsErrOf result WriteFault → Rose (W.faults sink.old) (W.faults sink.new)
-        ⊎ SomeRefuses P.refuses columns.old WriteFault }
+        ⊎ SomeRefuses P.refuses columns.items WriteFault }
     ensures refused { IfErr result (λ e. (e ≡ Memory) ⊎ (e ≡ WriteFault)
         ⊎
         ((e ≡ Overflow V3)
         ×
         ((version : Version) (ls : List Leaf) (cs : List OutChunk) → AreMetasOf ls leaves.now
-        → AllGive P.begins version ls cs columns.old → SomeColumnPasses version ls cs start))
-        ⊎ SomeRefuses P.refuses columns.old e) }
+        → AllGive P.begins version ls cs columns.items → SomeColumnPasses version ls cs start))
+        ⊎ SomeRefuses P.refuses columns.items e) }
 {
     let mut metas = Vec::with_capacity(alloc, columns.len())?;
     let mut end = start;
     let mut pages = Count::zero();
+    let mut left = columns.into_iter();
     let mut i: usize = 0;
-    'columns: while i < columns.len() {
+    'columns: while let Some(column) = left.next() {
         let physical = leaves.physicals[i];
         let path = &leaves.paths[i];
-        let chunk = match push_chunk(alloc, sink, physical, path, &mut columns[i], end) {
+        let chunk = match push_chunk(alloc, sink, physical, path, column, end) {
             Ok(chunk) => chunk,
             Err(error) => return Err(error),
         };

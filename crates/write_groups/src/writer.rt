@@ -22,6 +22,7 @@ ghost use Rattle.write_groups.specs.Accepted.{HasAccepted, IsFileOf};
 ghost use Rattle.write_groups.specs.declared.group.RowGroupIter.{RowGroupIter as Group};
 ghost use Rattle.write_groups.specs.Writing.{Adds, HasColumns, HasEnded, IsWriting, Refuses, Takes, fields_in};
 
+use crate::column::ChunkColumn;
 use crate::group::RowGroupIter;
 use crate::laws::groups_are_laid;
 use columns_array::{ArrayBox, Chunk};
@@ -84,6 +85,13 @@ fn rows_in(chunk: &Chunk) -> usize
     arrays[0].len()
 }
 
+// Its columns, which alone still hold its arrays.
+fn columns_in(row_group: RowGroupIter) -> Vec<ChunkColumn>
+    ensures { result.items ≡ row_group.columns.items }
+{
+    row_group.columns
+}
+
 impl<W: Sink + Drop> FileWriter<W> {
     /// A writer that has pushed nothing.
     ///
@@ -120,15 +128,15 @@ impl<W: Sink + Drop> FileWriter<W> {
     }
 
     // Adds a group that is one of the schema.
-    fn put(&mut self, row_group: &mut RowGroupIter) -> Result<()>
-        requires { Takes self.old row_group.old }
+    fn put(&mut self, row_group: RowGroupIter) -> Result<()>
+        requires { Takes self.old row_group }
         ensures ok { (before : Option (List ℕ)) (groups : List OutGroup) → IsWriting W.taken before self.old groups
-            → HasColumns row_group.old → OnOk result (Adds W.taken before groups row_group.old self.old self.new) }
+            → HasColumns row_group → OnOk result (Adds W.taken before groups row_group self.old self.new) }
         ensures schema { self.new.file.schema ≡ self.old.file.schema }
         ensures options { self.new.options ≡ self.old.options }
         ensures refused { (before : Option (List ℕ)) (groups : List OutGroup) → IsWriting W.taken before self.old groups
-            → HasColumns row_group.old → IfErr result (Refuses W.faults groups row_group.old self.old self.new) }
-        ensures again { (e : Fault) → self.old.file.refusal ≡ Some e → 0 < first_len row_group.old.chunk
+            → HasColumns row_group → IfErr result (Refuses W.faults groups row_group self.old self.new) }
+        ensures again { (e : Fault) → self.old.file.refusal ≡ Some e → 0 < first_len row_group.chunk
             → (result ≡ Err e) × (self.new ≡ self.old) }
         ensures stays { IfErr result (λ e. self.new.file.refusal ≡ Some e) }
         ensures later { W.faults self.old.file.body.writer ≤ W.faults self.new.file.body.writer }
@@ -139,7 +147,8 @@ impl<W: Sink + Drop> FileWriter<W> {
         }
         row_group.chunk.know();
         paths_have_levels();
-        match self.file.put(&mut row_group.columns, rows as u64) {
+        let columns = columns_in(row_group);
+        match self.file.put(columns, rows as u64) {
             Ok(()) => Ok(()),
             Err(error) => Err(error),
         }
@@ -179,8 +188,7 @@ impl<W: Sink + Drop> FileWriter<W> {
             return Err(Error::InvalidArgumentError(A::A8));
         }
         row_group.chunk.know();
-        let mut row_group = row_group;
-        match self.put(&mut row_group) {
+        match self.put(row_group) {
             Ok(()) => Ok(()),
             Err(error) => Err(error),
         }

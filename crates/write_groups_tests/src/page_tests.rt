@@ -137,7 +137,7 @@ fn file(alloc: Global) -> Result<Vec<u8>> {
 }
 
 // Pushes a group of the columns to a file that has as many.
-fn push(body: &mut FileBody<PlainSink>, columns: &mut [TextColumn]) -> Result<()> {
+fn push(body: &mut FileBody<PlainSink>, columns: Vec<TextColumn>) -> Result<()> {
     let leaves = &body.leaves;
     if leaves.physicals.len() != columns.len() || leaves.paths.len() != columns.len() {
         return Err(Error::InvalidArgumentError(A::A8));
@@ -150,8 +150,7 @@ fn the_dictionary_page_stands_first(rt: HostRuntime) -> Result<()> {
     let alloc = rt.alloc();
     let sink = PlainSink::new(alloc);
     let mut body = FileBody::try_new(alloc, sink, schema(alloc)?, Version::V1)?;
-    let mut columns = Vec::from_array(alloc, [texts(alloc)?])?;
-    push(&mut body, &mut columns)?;
+    push(&mut body, Vec::from_array(alloc, [texts(alloc)?])?)?;
     let size = body.write_footer(None)?;
     assert!(rt; size == 175);
     assert!(rt; body.writer.bytes() == file(alloc)?.as_slice());

@@ -1,5 +1,5 @@
-use Rattle.std.proofs.Common.{◌≡◌, ◌+◌, ◌∙◌, ◌++◌, ◌∷◌, [], ℕ, suc, List, length, map, take, get_or, sym, ap, subst, arith, ◌<◌, ◌≤◌}
-use Rattle.std.proofs.lemmas.List.{length-set, map-append, take_all}
+use Rattle.std.proofs.Common.{◌≡◌, ◌+◌, ◌∙◌, ◌++◌, ◌∷◌, [], ℕ, suc, List, map, take, get_or, sym, ap, subst, arith}
+use Rattle.std.proofs.lemmas.List.{map-append, take_all}
 use Rattle.footer_write.specs.FooterView.{chunk_view}
 use Rattle.std.proofs.Math.ListN.{get_or-map}
 use Rattle.std.specs.Prelude.{string_bytes, Err}
@@ -12,28 +12,27 @@ use Rattle.pq_files.specs.Layout.{OutChunk}
 use Rattle.pq_files.specs.Packed.{AreChunks}
 use Rattle.write_file.proofs.Columns.{at_place, one_more, give_lengths, pages_of}
 use Rattle.write_file.proofs.Passed.{column_passes}
-use Rattle.write_file.proofs.Places.{as_it_was, rest_after, one_fails, one_refuses, same_error}
+use Rattle.write_file.proofs.Places.{first_at, is_within, none_behind, rest_behind, one_fails, one_refuses, same_error}
 use Rattle.write_file.proofs.group.push_columns.Goals as goal
 
 pub columns-preserved : goal.columns-preserved
 columns-preserved g c =
     let v = c.columns.invariant in
     let i = c.columns.i in
-    let s = get_or c.columns.columns i c.index-columns-i.result in
+    let s = c.in-Some.column in
     let chunk = c.in-Ok.chunk in
-    let b : i < length c.args.columns.now = omega (arith, c.columns-test.true, v.even) in
-    let within : i + 1 ≤ length c.args.columns.now = omega (arith, b) in
-    let item = as_it_was c.columns.columns c.args.columns.now i s v.rest (ap (λ (d : _). get_or c.columns.columns i d) c.index-columns-i.is) in
+    let left = v.rest ∙ c.in-Some.ensures.items in
+    let b = is_within c.args.columns.items _ i s left in
+    let item = first_at c.args.columns.items _ i s left in
     let total : c.in-Ok-plus.pages ≡ c.columns.pages + chunk.pages = omega (arith, c.in-Ok-plus.ensures.ok, c.get.ensures.is) in
     record {
-      even = length-set c.columns.columns i c.push_chunk.new.pages ∙ v.even;
-      within = within;
+      within = omega (arith, b);
       few = omega (arith, v.few, c.in-Ok.ensures.few, total);
       most = c.in-Ok.ensures.most;
-      rest = rest_after c.columns.columns c.args.columns.now i c.push_chunk.new.pages v.rest;
+      rest = rest_behind c.args.columns.items _ i s left;
       pushed = λ version ls cs metas gives.
           let old = v.pushed version ls cs metas gives in
-          let at = at_place g.P.ChunkPages.begins version ls cs c.args.columns.now i s gives b item in
+          let at = at_place g.P.ChunkPages.begins version ls cs c.args.columns.items i s gives b item in
           let kind : physical_view c.index-physical.result.now ≡ at.l.physical =
           ap physical_view c.index-physical.ensures ∙ (sym (get_or-map physical_view c.args.leaves.now.physicals.items i c.index-physical.result.now) ∙ (ap (λ (xs : List Physical). get_or xs i (physical_view c.index-physical.result.now)) metas.physicals ∙ at.physical _)) in
           let names : map string_bytes c.deref.result.now ≡ names_of at.l =
@@ -50,9 +49,10 @@ pub returns-clause-ok : goal.returns-clause-ok
 returns-clause-ok g c = λ version ls cs metas gives.
     let v = c.columns.invariant in
     let p = v.pushed version ls cs metas gives in
-    let n = give_lengths g.P.ChunkPages.begins version ls cs c.args.columns.now gives in
-    let leaves : take c.columns.i ls ≡ ls = take_all c.columns.i ls (omega (arith, n.0, c.columns-test.false, v.even)) in
-    let chunks : take c.columns.i cs ≡ cs = take_all c.columns.i cs (omega (arith, n.1, c.columns-test.false, v.even)) in
+    let n = give_lengths g.P.ChunkPages.begins version ls cs c.args.columns.items gives in
+    let all = none_behind c.args.columns.items _ c.columns.i v.rest (omega (arith, c.columns.left.rest.ok.0, c.in_default.ensures.cases.0)) in
+    let leaves : take c.columns.i ls ≡ ls = take_all c.columns.i ls (omega (arith, n.0, all)) in
+    let chunks : take c.columns.i cs ≡ cs = take_all c.columns.i cs (omega (arith, n.1, all)) in
     let metas_are = map chunk_view c.columns.metas.items in (
       p.text,
       p.gained,
@@ -65,20 +65,21 @@ pub returns-in-Err-clause-fault : goal.returns-in-Err-clause-fault
 returns-in-Err-clause-fault g c = λ h.
     let v = c.columns.invariant in
     let i = c.columns.i in
-    let item = as_it_was c.columns.columns c.args.columns.now i (get_or c.columns.columns i c.index-columns-i.result) v.rest (ap (λ (d : _). get_or c.columns.columns i d) c.index-columns-i.is) in
-    one_fails g.P.ChunkPages.refuses c.args.columns.now i _ _ _ _ _ (omega (arith, c.columns-test.true, v.even)) item v.later (c.in-Err.ensures.fault (ap (λ (e : Error). Err e) (same_error _ _ h)))
+    let left = v.rest ∙ c.in-Some.ensures.items in
+    one_fails g.P.ChunkPages.refuses c.args.columns.items i _ _ _ _ _ (is_within c.args.columns.items _ i _ left) (first_at c.args.columns.items _ i _ left) v.later (c.in-Err.ensures.fault (ap (λ (e : Error). Err e) (same_error _ _ h)))
 
 pub returns-in-Err-clause-refused : goal.returns-in-Err-clause-refused
 returns-in-Err-clause-refused g c =
     let v = c.columns.invariant in
     let i = c.columns.i in
-    let b : i < length c.args.columns.now = omega (arith, c.columns-test.true, v.even) in
-    let s = get_or c.columns.columns i c.index-columns-i.result in
-    let item = as_it_was c.columns.columns c.args.columns.now i s v.rest (ap (λ (d : _). get_or c.columns.columns i d) c.index-columns-i.is) in
-    one_refuses g.P.ChunkPages.refuses c.args.columns.now i _ _ _ _ b item (λ h. (
+    let s = c.in-Some.column in
+    let left = v.rest ∙ c.in-Some.ensures.items in
+    let b = is_within c.args.columns.items _ i s left in
+    let item = first_at c.args.columns.items _ i s left in
+    one_refuses g.P.ChunkPages.refuses c.args.columns.items i _ _ _ _ b item (λ h. (
       h.0,
       λ version ls cs metas gives.
-          let at = at_place g.P.ChunkPages.begins version ls cs c.args.columns.now i s gives b item in
+          let at = at_place g.P.ChunkPages.begins version ls cs c.args.columns.items i s gives b item in
           column_passes version ls cs at.l at.c i c.args.start c.columns.end c.columns.pages (g.W.Sink.taken c.args.sink.now) (g.W.Sink.taken c.columns.sink) (map chunk_view c.columns.metas.items) (v.pushed version ls cs metas gives) at.leaves at.chunks (h.1 version at.l at.c at.gives_it),
     )) c.in-Err.ensures.refused
 
