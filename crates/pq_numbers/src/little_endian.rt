@@ -1,6 +1,6 @@
 //! Numbers of fixed size, lowest byte first (Parquet format, Encodings, "Plain").
 
-ghost use Rattle.std.specs.Prelude.{◌≡◌, ◌<◌, ◌++◌, length, take, OnOk, OnErr, MatchOption};
+ghost use Rattle.std.specs.Prelude.{◌≡◌, ◌<◌, ◌++◌, length, take, OnOk, OnErr, MatchOption, None};
 ghost use Rattle.std.specs.Int.{w32, w64, to_le_bytes, cast_signed, cast_unsigned};
 ghost use Rattle.pq_numbers.specs.Texts.{number_of};
 
@@ -44,7 +44,8 @@ pub fn push_i64_le(out: &mut Vec<u8>, number: i64) -> Result<(), AllocError>
 
 /// The number that the first four bytes spell, lowest first; `None` where there are fewer.
 pub fn read_u32_le(bytes: &[u8]) -> Option<u32>
-    ensures { MatchOption result (length bytes.now < 4) (λ n. n ≡ number_of (take 4 bytes.now)) }
+    ensures gives { MatchOption result (length bytes.now < 4) (λ n. n ≡ number_of (take 4 bytes.now)) }
+    ensures few { length bytes.now < 4 → result ≡ None }
 {
     match bytes {
         [a, b, c, d, ..] => Some(u32::from_le_bytes([*a, *b, *c, *d])),
@@ -54,7 +55,8 @@ pub fn read_u32_le(bytes: &[u8]) -> Option<u32>
 
 /// The signed number that the first four bytes spell in two's complement, lowest first; `None` where there are fewer.
 pub fn read_i32_le(bytes: &[u8]) -> Option<i32>
-    ensures { MatchOption result (length bytes.now < 4) (λ z. z ≡ cast_signed w32 (number_of (take 4 bytes.now))) }
+    ensures gives { MatchOption result (length bytes.now < 4) (λ z. z ≡ cast_signed w32 (number_of (take 4 bytes.now))) }
+    ensures few { length bytes.now < 4 → result ≡ None }
 {
     match bytes {
         [a, b, c, d, ..] => Some(i32::from_le_bytes([*a, *b, *c, *d])),
@@ -64,7 +66,8 @@ pub fn read_i32_le(bytes: &[u8]) -> Option<i32>
 
 /// The signed number that the first eight bytes spell in two's complement, lowest first; `None` where there are fewer.
 pub fn read_i64_le(bytes: &[u8]) -> Option<i64>
-    ensures { MatchOption result (length bytes.now < 8) (λ z. z ≡ cast_signed w64 (number_of (take 8 bytes.now))) }
+    ensures gives { MatchOption result (length bytes.now < 8) (λ z. z ≡ cast_signed w64 (number_of (take 8 bytes.now))) }
+    ensures few { length bytes.now < 8 → result ≡ None }
 {
     match bytes {
         [a, b, c, d, e, f, g, h, ..] => {

@@ -6,12 +6,12 @@ pub returns-in-Some : goal.returns-in-Some
 returns-in-Some c = λ p w n h.
     elim (unsigned_text p w n c.args.text.now h) [
       | inl e ↦ absurd (omega (arith, e.1, c.if-text-ge8.true))
-      | inr e ↦ ap (λ (m : ℕ). Some m) (c.cast_unsigned.ensures ∙ twice_64 n c.in-Some.number _ e.0 c.in-Some.ensures e.2)
+      | inr e ↦ ap (λ (m : ℕ). Some m) (c.cast_unsigned.ensures ∙ twice_64 n c.in-Some.number _ e.0 c.in-Some.ensures.gives e.2)
     ]
 
 pub returns-in-Some-read_i32_le : goal.returns-in-Some-read_i32_le
 returns-in-Some-read_i32_le c = λ p w n h.
     elim (unsigned_text p w n c.args.text.now h) [
-      | inl e ↦ ap (λ (m : ℕ). Some m) (c.cast_unsigned-in-Some-read_i32_le.ensures ∙ twice_32 n c.in-Some-read_i32_le.number _ e.0 c.in-Some-read_i32_le.ensures e.2)
+      | inl e ↦ ap (λ (m : ℕ). Some m) (c.cast_unsigned-in-Some-read_i32_le.ensures ∙ twice_32 n c.in-Some-read_i32_le.number _ e.0 c.in-Some-read_i32_le.ensures.gives e.2)
       | inr e ↦ absurd (omega (arith, e.1, c.if-text-ge8.false))
     ]

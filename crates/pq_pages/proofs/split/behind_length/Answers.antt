@@ -16,4 +16,4 @@ by_front max n bytes rest (Some x) e ne four is h =
     subst₂ (λ (s t : List ℕ). IsBehindLength max bytes s t) (ap (take n) (sym e) ∙ sym h.1) (ap (drop n) (sym e) ∙ sym h.2) (section_at max n bytes ne four is (omega (arith, h.0, ap length e)))
 
 pub returns : goal.returns
-returns c = by_front c.args.maximum c.in-Some.size c.args.bytes.now (take (length c.args.bytes.now - 4) (drop 4 c.args.bytes.now)) c.front.result (all_of 4 c.args.bytes.now) c.if-maximum-eq0.false (omega (arith, c.if-bytes-lt4.false)) c.in-Some.ensures c.front.ensures
+returns c = by_front c.args.maximum c.in-Some.size c.args.bytes.now (take (length c.args.bytes.now - 4) (drop 4 c.args.bytes.now)) c.front.result (all_of 4 c.args.bytes.now) c.if-maximum-eq0.false (omega (arith, c.if-bytes-lt4.false)) c.in-Some.ensures.gives c.front.ensures
