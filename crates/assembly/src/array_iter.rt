@@ -33,5 +33,6 @@ impl<I: Pages> Model for ArrayIter<I> {
 
     ghost view = { λ it. record { field = field_view it.field; columns = it.columns.items; left = it.left } };
 
-    ghost invariant = { λ it. (field_nesting (field_view it.field) ≤ 128) × (is_some (field_fault (field_view it.field)) ≡ false) };
+    ghost invariant = { λ it. (field_nesting (field_view it.field) ≤ 128)
+        × (is_some (field_fault (field_view it.field)) ≡ false) };
 }

@@ -49,7 +49,8 @@ impl<I: Pages + Drop> ArrayIter<I> {
     ///
     /// After an error nothing is said of what it gives.
     pub fn next(&mut self) -> Option<Result<ArrayBox>>
-        ensures { (o : Opening) (arrays : List ArrayTree) → IsGiving o arrays self.old → Gives o arrays result self.new }
+        ensures { (o : Opening) (arrays : List ArrayTree) → IsGiving o arrays self.old
+            → Gives o arrays result self.new }
     {
         if self.left > 0 {
             return Some(self.next_array());

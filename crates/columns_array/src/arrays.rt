@@ -125,7 +125,8 @@ impl Model for ListArray {
 
     ghost view = { λ a. list_array (type_view a.data_type) a.offsets (boxed a.values.value) a.validity };
 
-    ghost invariant = { λ a. IsSound (list_array (type_view a.data_type) a.offsets (boxed a.values.value) a.validity) × (small_item (base (type_view a.data_type)) ≡ Some (type_of (boxed a.values.value))) };
+    ghost invariant = { λ a. IsSound (list_array (type_view a.data_type) a.offsets (boxed a.values.value) a.validity)
+        × (small_item (base (type_view a.data_type)) ≡ Some (type_of (boxed a.values.value))) };
 
     ghost size = { tree_size };
 
@@ -152,7 +153,8 @@ impl Model for LargeListArray {
 
     ghost view = { λ a. list_array (type_view a.data_type) a.offsets (boxed a.values.value) a.validity };
 
-    ghost invariant = { λ a. IsSound (list_array (type_view a.data_type) a.offsets (boxed a.values.value) a.validity) × (large_item (base (type_view a.data_type)) ≡ Some (type_of (boxed a.values.value))) };
+    ghost invariant = { λ a. IsSound (list_array (type_view a.data_type) a.offsets (boxed a.values.value) a.validity)
+        × (large_item (base (type_view a.data_type)) ≡ Some (type_of (boxed a.values.value))) };
 
     ghost size = { tree_size };
 
@@ -179,7 +181,8 @@ impl Model for FixedSizeListArray {
 
     ghost view = { λ a. fixed_list_array (type_view a.data_type) a.width a.size (boxed a.values.value) a.validity };
 
-    ghost invariant = { λ a. IsSound (fixed_list_array (type_view a.data_type) a.width a.size (boxed a.values.value) a.validity) };
+    ghost invariant = { λ a. IsSound (fixed_list_array (type_view a.data_type) a.width a.size
+        (boxed a.values.value) a.validity) };
 
     ghost size = { tree_size };
 
@@ -206,7 +209,8 @@ impl Model for MapArray {
 
     ghost view = { λ a. list_array (type_view a.data_type) a.offsets (boxed a.values.value) a.validity };
 
-    ghost invariant = { λ a. IsSound (list_array (type_view a.data_type) a.offsets (boxed a.values.value) a.validity) × (map_item (base (type_view a.data_type)) ≡ Some (type_of (boxed a.values.value))) };
+    ghost invariant = { λ a. IsSound (list_array (type_view a.data_type) a.offsets (boxed a.values.value) a.validity)
+        × (map_item (base (type_view a.data_type)) ≡ Some (type_of (boxed a.values.value))) };
 
     ghost size = { tree_size };
 
@@ -233,7 +237,8 @@ impl Model for StructArray {
 
     ghost view = { λ a. struct_array (type_view a.data_type) (all_boxed a.values.items) a.validity };
 
-    ghost invariant = { λ a. (a.size ≡ first_len (all_boxed a.values.items)) × IsSound (struct_array (type_view a.data_type) (all_boxed a.values.items) a.validity) };
+    ghost invariant = { λ a. (a.size ≡ first_len (all_boxed a.values.items))
+        × IsSound (struct_array (type_view a.data_type) (all_boxed a.values.items) a.validity) };
 
     ghost size = { tree_size };
 
@@ -258,9 +263,12 @@ impl Model for DictionaryArray {
     ghost use Rattle.columns_array.specs.Boxed.{boxed, all_boxed};
     ghost use Rattle.columns_leaf.specs.Keyed.{keys_of, key_mask, key_kind};
 
-    ghost view = { λ a. dictionary_array (type_view a.data_type) (keys_of a.keys) (boxed a.values.value) (key_mask a.keys) };
+    ghost view = { λ a. dictionary_array (type_view a.data_type) (keys_of a.keys) (boxed a.values.value)
+        (key_mask a.keys) };
 
-    ghost invariant = { λ a. IsSound (dictionary_array (type_view a.data_type) (keys_of a.keys) (boxed a.values.value) (key_mask a.keys)) × (key_type (base (type_view a.data_type)) ≡ Some (key_kind a.keys)) };
+    ghost invariant = { λ a. IsSound
+        (dictionary_array (type_view a.data_type) (keys_of a.keys) (boxed a.values.value) (key_mask a.keys))
+        × (key_type (base (type_view a.data_type)) ≡ Some (key_kind a.keys)) };
 
     ghost size = { tree_size };
 

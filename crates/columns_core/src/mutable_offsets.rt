@@ -23,7 +23,8 @@ impl<O: Offset> Model for Offsets<O> {
 
     ghost view = { λ b. (map (λ o. whole (O.number o)) b.values.items, vec_capacity b.values - vec_len b.values) };
 
-    ghost invariant = { λ b. (0 < vec_len b.values) × AreFrom 0 (map O.number b.values.items) × (b.end ≡ last_place (map (λ o. whole (O.number o)) b.values.items)) };
+    ghost invariant = { λ b. (0 < vec_len b.values) × AreFrom 0 (map O.number b.values.items)
+        × (b.end ≡ last_place (map (λ o. whole (O.number o)) b.values.items)) };
 }
 
 impl<O: Offset> Offsets<O> {

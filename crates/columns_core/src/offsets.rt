@@ -135,7 +135,8 @@ impl<O: Offset> Model for OffsetsBuffer<O> {
 
     ghost view = { λ b. map (λ o. whole (O.number o)) (take (b.size + 1) (drop b.start b.values.value.items)) };
 
-    ghost invariant = { λ b. (b.start + b.size < list_length b.values.value.items) × AreFrom 0 (map O.number b.values.value.items) };
+    ghost invariant = { λ b. (b.start + b.size < list_length b.values.value.items)
+        × AreFrom 0 (map O.number b.values.value.items) };
 }
 
 impl<O: Offset> OffsetsBuffer<O> {

@@ -42,7 +42,8 @@ impl<O: Offset> Model for BinaryArray<O> {
 
     ghost view = { λ a. (type_view a.data_type, (a.offsets, (a.values.value.items, a.validity))) };
 
-    ghost invariant = { λ a. IsPlaces a.offsets (list_length a.values.value.items) × MaskFits a.validity (list_length a.offsets - 1) × (is_binary O.large (base (type_view a.data_type)) ≡ true) };
+    ghost invariant = { λ a. IsPlaces a.offsets (list_length a.values.value.items)
+        × MaskFits a.validity (list_length a.offsets - 1) × (is_binary O.large (base (type_view a.data_type)) ≡ true) };
 }
 
 impl<O: Offset> BinaryArray<O> {

@@ -41,9 +41,13 @@ impl Model for FixedSizeBinaryArray {
 
     ghost coded = { coded× type_code (coded× (coded_list coded_ℕ) mask_code) };
 
-    ghost view = { λ a. (type_view a.data_type, (take (a.size * a.width) (drop a.start a.values.value.items), a.validity)) };
+    ghost view = { λ a. (
+      type_view a.data_type,
+      (take (a.size * a.width) (drop a.start a.values.value.items), a.validity),
+    ) };
 
-    ghost invariant = { λ a. (a.start + a.size * a.width ≤ list_length a.values.value.items) × MaskFits a.validity a.size × (fixed_width (base (type_view a.data_type)) ≡ a.width) × (0 < a.width) };
+    ghost invariant = { λ a. (a.start + a.size * a.width ≤ list_length a.values.value.items)
+        × MaskFits a.validity a.size × (fixed_width (base (type_view a.data_type)) ≡ a.width) × (0 < a.width) };
 }
 
 impl FixedSizeBinaryArray {

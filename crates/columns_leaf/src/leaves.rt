@@ -164,7 +164,8 @@ impl Model for BooleanArray {
 
     ghost view = { λ a. (type_view a.data_type, (a.values, a.validity)) };
 
-    ghost invariant = { λ a. MaskFits a.validity (list_length a.values) × (is_boolean (base (type_view a.data_type)) ≡ true) };
+    ghost invariant = { λ a. MaskFits a.validity (list_length a.values)
+        × (is_boolean (base (type_view a.data_type)) ≡ true) };
 }
 
 impl BooleanArray {
@@ -234,7 +235,8 @@ impl BooleanArray {
     #[tactic(auto, using(columns_slots::proofs::Sound::mask_over, columns_slots::proofs::Sound::mask_cut, columns_slots::proofs::Sound::length_cut))]
     pub fn slice(&mut self, offset: usize, length: usize)
         requires { offset + length ≤ list_length self.old.1.0 }
-        ensures { self.new ≡ (self.old.0, (take length (drop offset self.old.1.0), cut_mask self.old.1.1 offset length)) }
+        ensures { self.new
+            ≡ (self.old.0, (take length (drop offset self.old.1.0), cut_mask self.old.1.1 offset length)) }
     {
         self.values.slice(offset, length);
         cut_validity(&mut self.validity, offset, length);
@@ -290,7 +292,8 @@ impl<T: NativeType> Model for PrimitiveArray<T> {
 
     ghost view = { λ a. (type_view a.data_type, (take a.size (drop a.start a.values.value.items), a.validity)) };
 
-    ghost invariant = { λ a. (a.start + a.size ≤ list_length a.values.value.items) × MaskFits a.validity a.size × (T.stores (base (type_view a.data_type)) ≡ true) };
+    ghost invariant = { λ a. (a.start + a.size ≤ list_length a.values.value.items) × MaskFits a.validity a.size
+        × (T.stores (base (type_view a.data_type)) ≡ true) };
 }
 
 impl<T: NativeType> PrimitiveArray<T> {
@@ -365,7 +368,8 @@ impl<T: NativeType> PrimitiveArray<T> {
     /// Keeps `length` positions from the position `offset` on. Nothing is copied.
     pub fn slice(&mut self, offset: usize, length: usize)
         requires { offset + length ≤ list_length self.old.1.0 }
-        ensures { self.new ≡ (self.old.0, (take length (drop offset self.old.1.0), cut_mask self.old.1.1 offset length)) }
+        ensures { self.new
+            ≡ (self.old.0, (take length (drop offset self.old.1.0), cut_mask self.old.1.1 offset length)) }
     {
         self.start += offset;
         self.size = length;

@@ -47,7 +47,9 @@ impl<O: Offset> Model for Utf8Array<O> {
 
     ghost view = { λ a. (type_view a.data_type, (a.offsets, (a.values.value.items, a.validity))) };
 
-    ghost invariant = { λ a. IsPlaces a.offsets (list_length a.values.value.items) × MaskFits a.validity (list_length a.offsets - 1) × (is_text O.large (base (type_view a.data_type)) ≡ true) × AreTexts (pieces a.offsets a.values.value.items) };
+    ghost invariant = { λ a. IsPlaces a.offsets (list_length a.values.value.items)
+        × MaskFits a.validity (list_length a.offsets - 1) × (is_text O.large (base (type_view a.data_type)) ≡ true)
+        × AreTexts (pieces a.offsets a.values.value.items) };
 }
 
 impl<O: Offset> Utf8Array<O> {

@@ -38,7 +38,8 @@ pub trait KeyArray: DictionaryKey + IntoKeys<PrimitiveArray<Self>> {
     ghost use Rattle.columns_core.specs.Tree.{TypeTree};
     ghost use Rattle.columns_slots.specs.Tree.{Mask};
 
-    ghost same_numbers: { (t : TypeTree) (xs : List Self) (mask : Mask) → Self.numbers (t, (xs, mask)) ≡ map Self.number xs };
+    ghost same_numbers: { (t : TypeTree) (xs : List Self) (mask : Mask)
+        → Self.numbers (t, (xs, mask)) ≡ map Self.number xs };
 
     ghost same_mask: { (t : TypeTree) (xs : List Self) (mask : Mask) → Self.validity (t, (xs, mask)) ≡ mask };
 

@@ -26,7 +26,8 @@ pub trait NativeArray: NativeType + Default + IntoBox<PrimitiveArray<Self>> {
     ghost use Rattle.columns_core.specs.Tree.{TypeTree};
     ghost use Rattle.columns_slots.specs.Tree.{Mask};
 
-    ghost is_leaf: { (t : TypeTree) (xs : List Self) (mask : Mask) → Self.tree (t, (xs, mask)) ≡ leaf_array t (map (Self.value (base t)) xs) mask };
+    ghost is_leaf: { (t : TypeTree) (xs : List Self) (mask : Mask)
+        → Self.tree (t, (xs, mask)) ≡ leaf_array t (map (Self.value (base t)) xs) mask };
 }
 
 impl IntoBox<PrimitiveArray<i8>> for i8 {

@@ -32,9 +32,11 @@ pub trait OffsetArray: Offset + IntoStrings<Utf8Array<Self>, BinaryArray<Self>> 
     ghost use Rattle.columns_core.specs.Tree.{TypeTree};
     ghost use Rattle.columns_slots.specs.Tree.{Mask};
 
-    ghost are_texts: { (t : TypeTree) (offsets bytes : List ℕ) (mask : Mask) → Self.text_tree (t, (offsets, (bytes, mask))) ≡ leaf_array t (pieces_values offsets bytes) mask };
+    ghost are_texts: { (t : TypeTree) (offsets bytes : List ℕ) (mask : Mask)
+        → Self.text_tree (t, (offsets, (bytes, mask))) ≡ leaf_array t (pieces_values offsets bytes) mask };
 
-    ghost are_strings: { (t : TypeTree) (offsets bytes : List ℕ) (mask : Mask) → Self.binary_tree (t, (offsets, (bytes, mask))) ≡ leaf_array t (pieces_values offsets bytes) mask };
+    ghost are_strings: { (t : TypeTree) (offsets bytes : List ℕ) (mask : Mask)
+        → Self.binary_tree (t, (offsets, (bytes, mask))) ≡ leaf_array t (pieces_values offsets bytes) mask };
 }
 
 impl IntoStrings<Utf8Array<i32>, BinaryArray<i32>> for i32 {

@@ -20,7 +20,8 @@ pub trait OrderedNative: NativeType {
     ghost use Rattle.columns_core.specs.Shapes.{leaf_type};
     ghost use Rattle.pq_files.specs.Statistics.{has_order};
 
-    ghost in_order: { (t : TypeTree) (x : Self) → Self.stores t ≡ true → has_order (leaf_type t) ≡ true → Self.value t x ≡ number (ordinal x) };
+    ghost in_order: { (t : TypeTree) (x : Self) → Self.stores t ≡ true → has_order (leaf_type t) ≡ true
+        → Self.value t x ≡ number (ordinal x) };
 }
 
 impl OrderedNative for i8 {

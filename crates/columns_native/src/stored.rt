@@ -31,7 +31,9 @@ pub trait StoredAs<P: PlainNumber>: AsPrimitive<P> {
     ghost use Rattle.pq_files.specs.Statistics.{has_order};
     ghost use Rattle.pq_files.specs.Stored.{IsStored};
 
-    ghost by_the_table: { (t : TypeTree) (x : Self) → is_storable x → Self.stores t ≡ true → has_order (leaf_type t) ≡ true → IsStored (leaf_type t) (physical_view P.physical) (Self.value t x) (number (stored_number x)) };
+    ghost by_the_table: { (t : TypeTree) (x : Self) → is_storable x → Self.stores t ≡ true
+        → has_order (leaf_type t) ≡ true → IsStored (leaf_type t) (physical_view P.physical) (Self.value t x)
+        (number (stored_number x)) };
 }
 
 impl StoredAs<i32> for i8 {

@@ -62,7 +62,11 @@ impl<I: Pages> Model for DictionaryColumn<I> {
 
     ghost coded = { Prim.hlevel (codes, slot_code, type_code, tree_code) };
 
-    ghost view = { λ c. record { data_type = type_view c.data_type; entries = c.entries; stage = stage_view I.outcomes c.stage } };
+    ghost view = { λ c. record {
+      data_type = type_view c.data_type;
+      entries = c.entries;
+      stage = stage_view I.outcomes c.stage;
+    } };
 }
 
 impl<I: Pages> DictionaryColumn<I> {

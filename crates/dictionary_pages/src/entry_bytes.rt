@@ -73,7 +73,8 @@ fn size_of(
     requires leaf { IsEntryLeaf (boxed entries.now) (physical_view physical_type) leaf }
     requires ordered { from ≤ stretch.end }
     requires within { stretch.end ≤ tree_len (boxed entries.now) }
-    requires alike { (i : ℕ) → from ≤ i → i < stretch.end → keeps (mask_of (boxed entries.now)) i ≡ not stretch.are_null }
+    requires alike { (i : ℕ) → from ≤ i → i < stretch.end → keeps (mask_of (boxed entries.now)) i
+        ≡ not stretch.are_null }
     ensures { result ≡ plain_length (physical_view physical_type)
         (map (stored_entry_at (boxed entries.now) (physical_view physical_type)) (range from (stretch.end - from))) }
 {
@@ -103,7 +104,8 @@ pub fn entries_size(entries: &ArrayBox, leaf: Leaf<'_>, physical_type: PhysicalT
 
 // Appends so many fillers.
 fn push_fillers(physical_type: PhysicalType, count: usize, out: Vec<u8>) -> Result<Vec<u8>>
-    requires small { count * plain_size (physical_view physical_type) (filler (physical_view physical_type)) ≤ max_size }
+    requires small { count * plain_size (physical_view physical_type) (filler (physical_view physical_type))
+        ≤ max_size }
     ensures ok { IfOk result (λ after. after.items ≡ out.items ++ replicate
         (count * plain_size (physical_view physical_type) (filler (physical_view physical_type))) 0) }
     ensures err { IfErr result (λ e. e ≡ Memory) }
@@ -126,7 +128,8 @@ fn push_one(
     requires leaf { IsEntryLeaf (boxed entries.now) (physical_view physical_type) leaf }
     requires ordered { from ≤ stretch.end }
     requires within { stretch.end ≤ tree_len (boxed entries.now) }
-    requires alike { (i : ℕ) → from ≤ i → i < stretch.end → keeps (mask_of (boxed entries.now)) i ≡ not stretch.are_null }
+    requires alike { (i : ℕ) → from ≤ i → i < stretch.end → keeps (mask_of (boxed entries.now)) i
+        ≡ not stretch.are_null }
     requires small { plain_length (physical_view physical_type) (map
         (stored_entry_at (boxed entries.now) (physical_view physical_type)) (range from (stretch.end - from)))
         ≤ max_size }

@@ -35,9 +35,11 @@ impl<'a> EachPlace for Indices<'a> {
 
     ghost limit = { λ s. length (keys_of s.keys.now) };
 
-    ghost has = { λ a b places. (b.keys.now ≡ a.keys.now) × Writes (keys_of a.keys.now) places a.out.items a.writer b.out.items b.writer };
+    ghost has = { λ a b places. (b.keys.now ≡ a.keys.now) × Writes
+        (keys_of a.keys.now) places a.out.items a.writer b.out.items b.writer };
 
-    ghost accepts = { λ s i. (entry_at (keys_of s.keys.now) i < 2 ^ 32) × (entry_at (keys_of s.keys.now) i < 2 ^ s.writer.width) };
+    ghost accepts = { λ s i. (entry_at (keys_of s.keys.now) i < 2 ^ 32)
+        × (entry_at (keys_of s.keys.now) i < 2 ^ s.writer.width) };
 
     ghost refuses = { λ s e. e ≡ Memory };
 

@@ -48,7 +48,8 @@ impl<'a> EachPlace for Checking<'a> {
 
     ghost limit = { λ s. tree_len s.array.now };
 
-    ghost has = { λ a b places. (b.array.now ≡ a.array.now) × (b.is_optional ≡ a.is_optional) × Checks (IsKeyed a.is_optional a.array.now) places a.are_keyed b.are_keyed };
+    ghost has = { λ a b places. (b.array.now ≡ a.array.now) × (b.is_optional ≡ a.is_optional)
+        × Checks (IsKeyed a.is_optional a.array.now) places a.are_keyed b.are_keyed };
 
     ghost accepts = { λ s i. Unit {0} };
 

@@ -45,7 +45,8 @@ impl<'a> EachPlace for Reaching<'a> {
 
     ghost limit = { λ s. tree_len s.array.now };
 
-    ghost has = { λ a b places. (b.array.now ≡ a.array.now) × (b.physical_type ≡ a.physical_type) × Reaches (physical_view a.physical_type) a.array.now places a.reached b.reached };
+    ghost has = { λ a b places. (b.array.now ≡ a.array.now) × (b.physical_type ≡ a.physical_type)
+        × Reaches (physical_view a.physical_type) a.array.now places a.reached b.reached };
 
     ghost accepts = { λ s i. NamesValue s.array.now i };
 
@@ -86,7 +87,8 @@ pub fn reach_along(
     requires named { All (NamesValue array.now) (path_places (parts_of nested.now)) }
     ensures values { Measures (physical_view physical_type) (tree_len array.now)
         (stored_at array.now (physical_view physical_type)) (path_places (parts_of nested.now)) result.values }
-    ensures largest { IsLargest (map (entry_at (keys_in array.now)) (path_places (parts_of nested.now))) result.largest }
+    ensures largest { IsLargest (map (entry_at (keys_in array.now))
+        (path_places (parts_of nested.now))) result.largest }
 {
     let reaching = Reaching {
         array,

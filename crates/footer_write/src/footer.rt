@@ -45,7 +45,8 @@ fn push_each_struct(out: &mut Vec<u8>, values: &[Thrift]) -> Outcome<()>
 // A list of structs with the id, behind a field with the id `last`.
 fn push_structs(out: &mut Vec<u8>, last: u8, id: u8, values: &Vec<Thrift>) -> Outcome<()>
     requires { AreWritable (values_view values.now.items) 12 }
-    ensures ok { OnOk result (AppendsField last id (list 12 (values_view values.now.items)) out.old.items out.new.items) }
+    ensures ok { OnOk result (AppendsField last id
+        (list 12 (values_view values.now.items)) out.old.items out.new.items) }
     ensures err { IfErr result (λ e. e ≡ Memory) }
 {
     push_list_head(out, last, id, 12, values.len())?;

@@ -53,7 +53,8 @@ pub fn write_metadata(metadata: &ThriftFileMetaData, out: &mut Vec<u8>) -> Resul
     ensures exact { OnOk result (out.new.items ≡ out.old.items ++ spell (footer_value (footer_view metadata.now))) }
     ensures fits { OnOk result (FooterFits (footer_view metadata.now)) }
     ensures passed { (¬ FooterFits (footer_view metadata.now)) → result ≡ Err (Overflow V3) }
-    ensures refused { IfErr result (λ e. (e ≡ Memory) ⊎ ((e ≡ Overflow V3) × (¬ FooterFits (footer_view metadata.now)))) }
+    ensures refused { IfErr result (λ e. (e ≡ Memory) ⊎ ((e ≡ Overflow V3)
+        × (¬ FooterFits (footer_view metadata.now)))) }
     ensures err { OnErr result (out.new.items ≡ out.old.items) }
 {
     if !footer_fits(metadata) {

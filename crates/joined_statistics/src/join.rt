@@ -66,7 +66,8 @@ fn greatest_text(
 
 // The sum of two counts.
 fn sum_of(first: Option<i64>, second: Option<i64>) -> Option<i64>
-    ensures { (n m : ℕ) → first ≡ Some (pos n) → second ≡ Some (pos m) → n + m ≤ max_count → result ≡ Some (pos (n + m)) }
+    ensures { (n m : ℕ) → first ≡ Some (pos n) → second ≡ Some (pos m) → n + m ≤ max_count
+        → result ≡ Some (pos (n + m)) }
 {
     match (first, second) {
         (Some(n), Some(m)) => n.checked_add(m),

@@ -47,9 +47,17 @@ impl<I: Pages> Model for NullIter<I> {
 
     ghost coded = { Prim.hlevel (codes, type_code) };
 
-    ghost view = { λ it. record { data_type = type_view it.data_type; outcomes = I.outcomes it.pages; chunk_size = it.chunk_size; left = it.left; unseen = it.unseen } };
+    ghost view = { λ it. record {
+      data_type = type_view it.data_type;
+      outcomes = I.outcomes it.pages;
+      chunk_size =
+          it.chunk_size;
+      left = it.left;
+      unseen = it.unseen;
+    } };
 
-    ghost invariant = { λ it. (is_null_type (base (type_view it.data_type)) ≡ true) × (it.chunk_size ≢ Some 0) × (it.unseen ≤ it.left) };
+    ghost invariant = { λ it. (is_null_type (base (type_view it.data_type)) ≡ true) × (it.chunk_size ≢ Some 0)
+        × (it.unseen ≤ it.left) };
 }
 
 // Takes the next page. Answers how many values it has, a dictionary page none; None at the end.

@@ -72,7 +72,8 @@ fn tell_levels(told: &mut LevelBytes, parts: &[Nested], def: u32, from: usize, t
     requires parts { length parts.now ≤ 7 }
     requires low { def ≤ 248 }
     requires ordered { from ≤ to }
-    ensures { IsTrue result → told.new ≡ told.old ++ levels_from (flat_level (parts_of parts.now) def) from (to - from) }
+    ensures { IsTrue result → told.new ≡ told.old ++ levels_from (flat_level (parts_of parts.now) def) from
+        (to - from) }
 {
     let mut place = from;
     while place < to {

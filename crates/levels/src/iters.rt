@@ -39,7 +39,8 @@ impl<'a> Model for PathLevels<'a> {
 
     ghost view = { λ r. replicate r.more r.other ++ map (level_of r.level) (left r.stack.items) };
 
-    ghost invariant = { λ r. CursorsFit r.room r.stack.items × (r.room ≤ vec_capacity r.stack) × (r.remaining ≡ length (replicate r.more r.other ++ map (level_of r.level) (left r.stack.items))) };
+    ghost invariant = { λ r. CursorsFit r.room r.stack.items × (r.room ≤ vec_capacity r.stack)
+        × (r.remaining ≡ length (replicate r.more r.other ++ map (level_of r.level) (left r.stack.items))) };
 }
 
 impl<'a> PathLevels<'a> {

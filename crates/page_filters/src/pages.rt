@@ -27,15 +27,18 @@ impl<P: Pages, F: PageFilter> Model for FilteredPages<P, F> {
 
     ghost Value = { Source };
 
-    ghost view = { λ s. record { outcomes = kept (keeping F.keeps s.filter (column_view s.column)) (P.outcomes s.pages); lent = P.lent s.pages; shown = P.lent s.pages } };
+    ghost view = { λ s. record {
+      outcomes = kept (keeping F.keeps s.filter (column_view s.column)) (P.outcomes s.pages);
+      lent = P.lent s.pages;
+      shown = P.lent s.pages;
+    } };
 }
 
 impl<P: Pages, F: PageFilter> FilteredPages<P, F> {
     /// The pages of this column that the filter keeps, of those that the source gives. It lends what the source lends.
     pub fn new(pages: P, column: Descriptor, filter: Option<F>) -> Self
         ensures { result ≡ record {
-          outcomes = kept (keeping F.keeps filter (column_view column))
-              (P.outcomes pages);
+          outcomes = kept (keeping F.keeps filter (column_view column)) (P.outcomes pages);
           lent = P.lent pages;
           shown = P.lent pages;
         } }

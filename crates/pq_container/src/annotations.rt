@@ -291,7 +291,8 @@ fn integer_from(parts: &[(i16, Thrift)]) -> Result<Option<LogicalType>, Misfit>
 }
 
 fn logical_from_number(number: u16, parts: &[(i16, Thrift)]) -> Result<Option<LogicalType>, Misfit>
-    ensures { option_map (option_map logical_view) (result_ok result) ≡ logical_numbered number (fields_view parts.now) }
+    ensures { option_map (option_map logical_view) (result_ok result)
+        ≡ logical_numbered number (fields_view parts.now) }
 {
     match number {
         1 => Ok(Some(LogicalType::String)),

@@ -94,7 +94,8 @@ fn first_word(bytes: &[u8]) -> u64
 #[inline(always)]
 fn word_at(bytes: &[u8], bit: u32) -> u64
     requires { bit / 8 + 8 ≤ length bytes.now }
-    ensures { (w n : ℕ) → w * n ≤ 57 → digits_of (2 ^ w) n result ≡ digits_of (2 ^ w) n (number_of bytes.now / 2 ^ bit) }
+    ensures { (w n : ℕ) → w * n ≤ 57 → digits_of (2 ^ w) n result
+        ≡ digits_of (2 ^ w) n (number_of bytes.now / 2 ^ bit) }
 {
     first_word(behind(bytes, (bit / 8) as usize)) >> (bit % 8)
 }

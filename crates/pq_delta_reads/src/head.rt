@@ -27,7 +27,8 @@ fn is_good(size: u64, miniblocks: u64) -> bool
 
 /// The header at the front, and the bytes behind it. `None` where none stands there.
 pub fn take_head(bytes: &[u8]) -> Option<(Head, &[u8])>
-    ensures gives { MatchOption result (head_at bytes.now ≡ None) (λ x. head_at bytes.now ≡ Some (head_of x.0 x.1.now)) }
+    ensures gives { MatchOption result (head_at bytes.now ≡ None) (λ x. head_at bytes.now
+        ≡ Some (head_of x.0 x.1.now)) }
     ensures good { IfSome result (λ x. is_good x.0.size x.0.miniblocks ≡ true) }
     ensures shorter { IfSome result (λ x. length x.1.now < length bytes.now) }
 {

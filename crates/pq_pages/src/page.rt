@@ -24,7 +24,12 @@ impl Model for DataPage {
 
     ghost Value = { DataPageValue };
 
-    ghost view = { λ p. record { header = p.header; buffer = p.buffer.items; descriptor = p.descriptor; selected_rows = option_map (λ rows. rows.items) p.selected_rows } };
+    ghost view = { λ p. record {
+      header = p.header;
+      buffer = p.buffer.items;
+      descriptor = p.descriptor;
+      selected_rows = option_map (λ rows. rows.items) p.selected_rows;
+    } };
 
     ghost invariant = { λ p. IsHeld p.header p.descriptor (option_map (λ rows. rows.items) p.selected_rows) };
 }

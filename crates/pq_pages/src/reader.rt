@@ -52,7 +52,11 @@ impl<'a> Model for PageReader<'a> {
 
     ghost Value = { Source };
 
-    ghost view = { λ r. record { outcomes = pages_in r.max_header_size (levels_in r.descriptor) r.place r.left r.bytes.now; lent = option_map page_shown r.page; shown = option_map (λ s. outcome_in (levels_in r.descriptor) (typed_view s.header) s.body.now) r.seen } };
+    ghost view = { λ r. record {
+      outcomes = pages_in r.max_header_size (levels_in r.descriptor) r.place r.left r.bytes.now;
+      lent = option_map page_shown r.page;
+      shown = option_map (λ s. outcome_in (levels_in r.descriptor) (typed_view s.header) s.body.now) r.seen;
+    } };
 
     ghost invariant = { λ r. HasLevels r.descriptor × IfSome r.seen (λ s. IsCounted s.header × IsNamed s.header) };
 }
@@ -68,8 +72,7 @@ impl<'a> PageReader<'a> {
     ) -> Self
         requires { HasLevels descriptor }
         ensures { result ≡ record {
-          outcomes = pages_in max_header_size
-              (levels_in descriptor) at_start num_values bytes.entry.now;
+          outcomes = pages_in max_header_size (levels_in descriptor) at_start num_values bytes.entry.now;
           lent = None;
           shown = None;
         } }

@@ -22,7 +22,12 @@ impl<'a> Model for DataPageRef<'a> {
 
     ghost Value = { DataPageValue };
 
-    ghost view = { λ p. record { header = p.header.now; buffer = p.buffer.now; descriptor = p.descriptor.now; selected_rows = None } };
+    ghost view = { λ p. record {
+      header = p.header.now;
+      buffer = p.buffer.now;
+      descriptor = p.descriptor.now;
+      selected_rows = None;
+    } };
 
     ghost invariant = { λ p. IsHeld p.header.now p.descriptor.now None };
 }

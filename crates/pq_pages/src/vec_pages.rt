@@ -24,7 +24,11 @@ impl Model for VecPages {
 
     ghost Value = { Source };
 
-    ghost view = { λ s. record { outcomes = map outcome_of (into_iter_items s.left); lent = option_map page_shown s.page; shown = option_map page_shown s.page } };
+    ghost view = { λ s. record {
+      outcomes = map outcome_of (into_iter_items s.left);
+      lent = option_map page_shown s.page;
+      shown = option_map page_shown s.page;
+    } };
 }
 
 impl VecPages {

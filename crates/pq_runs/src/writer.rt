@@ -30,7 +30,8 @@ impl Model for RunWriter {
 
     ghost view = { λ r. record { width = r.width; block = r.block; number = r.number; count = r.count } };
 
-    ghost invariant = { λ r. IsReady (record { width = r.width; block = r.block; number = r.number; count = r.count }) };
+    ghost invariant = { λ r. IsReady
+        (record { width = r.width; block = r.block; number = r.number; count = r.count }) };
 }
 
 // No more copies are taken at once, so that their number has no end of digits.

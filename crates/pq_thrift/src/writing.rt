@@ -149,7 +149,8 @@ fn push_value(out: &mut Vec<u8>, value: &Thrift) -> Result<(), AllocError>
 fn push_list(out: &mut Vec<u8>, number: u8, values: &Vec<Thrift>) -> Result<(), AllocError>
     requires low { number < 16 }
     requires writable { AreWritable (values_view values.now.items) number }
-    ensures spelled { OnOk result (out.new.items ≡ out.old.items ++ spell (list number (values_view values.now.items))) }
+    ensures spelled { OnOk result (out.new.items ≡ out.old.items ++ spell
+        (list number (values_view values.now.items))) }
     ensures fits { OnOk result (Fits (list number (values_view values.now.items))) }
 {
     push_list_head(out, number, values.len())?;
@@ -197,7 +198,8 @@ fn push_in_field(out: &mut Vec<u8>, value: &Thrift) -> Result<(), AllocError>
 #[cycle(write)]
 fn push_fields(out: &mut Vec<u8>, fields: &Vec<(i16, Thrift)>) -> Result<(), AllocError>
     requires { AreFieldsWritable (fields_view fields.now.items) }
-    ensures spelled { OnOk result (out.new.items ≡ out.old.items ++ spell_fields (fields_view fields.now.items) (pos 0)) }
+    ensures spelled { OnOk result (out.new.items ≡ out.old.items ++ spell_fields (fields_view fields.now.items)
+        (pos 0)) }
     ensures fits { OnOk result (FieldsFit (fields_view fields.now.items)) }
 {
     let mut last = 0;

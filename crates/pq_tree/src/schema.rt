@@ -45,7 +45,8 @@ impl Model for SchemaDescriptor {
 
     ghost view = { λ s. record { name = string_bytes s.name; fields = s.fields.items } };
 
-    ghost invariant = { λ s. (map column_view s.columns.items ≡ columns_in (trees_view s.fields.items)) × (nesting_of (trees_view s.fields.items) ≤ max_nesting) };
+    ghost invariant = { λ s. (map column_view s.columns.items ≡ columns_in (trees_view s.fields.items))
+        × (nesting_of (trees_view s.fields.items) ≤ max_nesting) };
 }
 
 impl SchemaDescriptor {

@@ -39,7 +39,8 @@ impl Model for Entries {
 
     ghost view = { λ e. map (text_at e.body.items) e.places.items };
 
-    ghost invariant = { λ e. All (IsPadded (length e.body.items)) e.places.items × (0 < e.size → AreEven e.size e.body.items (map (text_at e.body.items) e.places.items)) };
+    ghost invariant = { λ e. All (IsPadded (length e.body.items)) e.places.items
+        × (0 < e.size → AreEven e.size e.body.items (map (text_at e.body.items) e.places.items)) };
 }
 
 // The bytes at a place.

@@ -43,9 +43,19 @@ impl<L: LeafReader> Model for Queue<L> {
 
     ghost coded = { Prim.hlevel (codes, slot_code) };
 
-    ghost view = { λ q. record { parts = q.parts.items; chunk_size = q.chunk_size; whole = map (λ p. (p.0, L.slots p.1)) q.whole.items; state = q.nested; leaf = L.slots q.values; width = L.width q.values; rows = q.rows; left = q.left } };
+    ghost view = { λ q. record {
+      parts = q.parts.items;
+      chunk_size = q.chunk_size;
+      whole = map (λ p. (p.0, L.slots p.1)) q.whole.items;
+      state = q.nested;
+      leaf = L.slots q.values;
+      width = L.width q.values;
+      rows = q.rows;
+      left = q.left;
+    } };
 
-    ghost invariant = { λ q. IsSound q.parts.items q.nested (L.slots q.values) q.rows q.left × All (λ p. L.width p.1 ≡ L.width q.values) q.whole.items };
+    ghost invariant = { λ q. IsSound q.parts.items q.nested (L.slots q.values) q.rows q.left
+        × All (λ p. L.width p.1 ≡ L.width q.values) q.whole.items };
 }
 
 // How many of the rows that are left go into the next piece.

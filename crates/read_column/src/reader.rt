@@ -54,7 +54,12 @@ impl<I: Pages, L: LeafReader> Model for ColumnReader<I, L> {
 
     ghost coded = { Prim.hlevel (codes, slot_code) };
 
-    ghost view = { λ r. record { outcomes = I.outcomes r.pages; means = means r.entries r.deltas; queue = r.queue; began = r.began } };
+    ghost view = { λ r. record {
+      outcomes = I.outcomes r.pages;
+      means = means r.entries r.deltas;
+      queue = r.queue;
+      began = r.began;
+    } };
 }
 
 // Nothing is left; no row may be wanting then.

@@ -23,7 +23,8 @@ pub trait StoredNumber: PlainNumber {
 
     ghost some_bytes: { 0 < Self.byte_count };
 
-    ghost as_plain: { (bs : List ℕ) → length bs ≡ Self.byte_count → IsOne (physical_view Self.physical) bs (number (spelled bs)) };
+    ghost as_plain: { (bs : List ℕ) → length bs ≡ Self.byte_count
+        → IsOne (physical_view Self.physical) bs (number (spelled bs)) };
 }
 
 impl StoredNumber for i32 {
@@ -84,8 +85,10 @@ pub trait FromStored<P: StoredNumber>: NativeType {
     ghost use Rattle.read_leaf.specs.Ranges.{LoadsStored};
 
     // in each type of arrays of such numbers, the value that the number stands for
-    ghost valued: { (t : TypeTree) (x : Self) → Self.stores t ≡ true → has_order (leaf_type t) ≡ true → Self.value t x ≡ number (loaded_number x) };
+    ghost valued: { (t : TypeTree) (x : Self) → Self.stores t ≡ true → has_order (leaf_type t) ≡ true
+        → Self.value t x ≡ number (loaded_number x) };
 
     // in each of them, the page table's value for the stored number
-    ghost loads: { (t : TypeTree) → Self.stores t ≡ true → has_order (leaf_type t) ≡ true → LoadsStored loaded (leaf_type t) (physical_view P.physical) (8 * P.byte_count) };
+    ghost loads: { (t : TypeTree) → Self.stores t ≡ true → has_order (leaf_type t) ≡ true
+        → LoadsStored loaded (leaf_type t) (physical_view P.physical) (8 * P.byte_count) };
 }

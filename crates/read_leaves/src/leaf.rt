@@ -52,9 +52,14 @@ impl<I: Pages> Model for LeafColumn<I> {
 
     ghost use Rattle.read_leaves.specs.Kinds.{IsSized, kind_in, reader_in};
 
-    ghost view = { λ c. record { data_type = type_view c.data_type; kind = kind_in c.column; reader = reader_in c.column } };
+    ghost view = { λ c. record {
+      data_type = type_view c.data_type;
+      kind = kind_in c.column;
+      reader = reader_in c.column;
+    } };
 
-    ghost invariant = { λ c. (types_of (kind_in c.column) (base (type_view c.data_type)) ≡ true) × IsSized (kind_in c.column) (reader_in c.column) };
+    ghost invariant = { λ c. (types_of (kind_in c.column) (base (type_view c.data_type)) ≡ true)
+        × IsSized (kind_in c.column) (reader_in c.column) };
 }
 
 // Whether leaves of this type are read beneath lists and structs too.

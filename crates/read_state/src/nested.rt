@@ -179,7 +179,8 @@ impl NestedState {
         steps: &mut Steps<L>,
     ) -> Result<()>
         requires few { count ≤ 2 ^ 31 }
-        requires fits { AllFit (marks_of (replicate count rep) (replicate count level) (replicate count false)) self.old }
+        requires fits { AllFit (marks_of (replicate count rep) (replicate count level)
+            (replicate count false)) self.old }
         ensures ok { OnOk result (self.new ≡ block
             (marks_of (replicate count rep) (replicate count level) (replicate count false)) 0 0 self.old) }
         ensures counted { OnOk result (HasLongItems self.new → ⊥) }

@@ -132,7 +132,8 @@ impl<T: FromStored<P>, P: StoredNumber> LeafReader for Numbers<T, P> {
         steps: &mut Steps<L>,
     ) -> Result<()>
         requires fits { StateFits nested.old }
-        requires decoded { length (number_slots (map T.loaded_number values.old.0) values.old.1) ≡ leaf_count nested.old }
+        requires decoded { length (number_slots (map T.loaded_number values.old.0) values.old.1)
+            ≡ leaf_count nested.old }
         ensures ok { OnOk result (Extends additional page.old page.new
             (stored_numbers T.loaded P.spelled P.byte_count bytes.old.values.now)
             (stored_numbers T.loaded P.spelled P.byte_count bytes.new.values.now) nested.old nested.new

@@ -238,7 +238,8 @@ fn are_packed<'a>(runs: &LevelRuns<'a>) -> bool
 fn tell_packed<'a>(runs: &LevelRuns<'a>, told: &mut BlockLevels)
     requires is { IsReading runs.now }
     requires packed { ArePacked runs.now }
-    ensures { told.new ≡ digits_of (2 ^ runs.now.runs.num_bits) 64 (number_of runs.now.packed.now / 2 ^ runs.now.shift) }
+    ensures { told.new ≡ digits_of (2 ^ runs.now.runs.num_bits) 64
+        (number_of runs.now.packed.now / 2 ^ runs.now.shift) }
 {
     let width = runs.runs.num_bits;
     if width == 1 {

@@ -143,7 +143,8 @@ fn choose_encodings(
 ) -> Result<Vec<Vec<Encoding>>>
     requires nesting { nesting_of (trees_view trees.now) ≤ 128 }
     requires trees { trees_view trees.now ≡ trees_of (fields_view fields.now) }
-    ensures ok { IfOk result (λ v. AreChosen wants_deltas (fields_view fields.now) (trees_view trees.now) (lists_of v)) }
+    ensures ok { IfOk result (λ v. AreChosen wants_deltas (fields_view fields.now) (trees_view trees.now)
+        (lists_of v)) }
     ensures err { IfErr result (λ e. e ≡ Memory) }
 {
     let mut encodings = Vec::new(alloc);

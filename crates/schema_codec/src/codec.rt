@@ -39,8 +39,10 @@ pub trait SchemaCodec {
         ensures memory { IfErr result (λ e. e ≡ Memory) };
 
     // the bytes of a schema are read as that schema
-    ghost read_again: { (c : Self) (s : SchemaTree) → IsSchema s → fields_nesting s.fields ≤ max_nesting → length (bytes_of c s) ≤ max_length → reads c (bytes_of c s) ≡ Some s };
+    ghost read_again: { (c : Self) (s : SchemaTree) → IsSchema s → fields_nesting s.fields ≤ max_nesting
+        → length (bytes_of c s) ≤ max_length → reads c (bytes_of c s) ≡ Some s };
 
     // the types of a schema that is read do not nest deeper
-    ghost shallow: { (c : Self) (bytes : List ℕ) (s : SchemaTree) → IsBytes bytes → reads c bytes ≡ Some s → fields_nesting s.fields ≤ max_nesting };
+    ghost shallow: { (c : Self) (bytes : List ℕ) (s : SchemaTree) → IsBytes bytes → reads c bytes ≡ Some s
+        → fields_nesting s.fields ≤ max_nesting };
 }

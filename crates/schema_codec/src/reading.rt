@@ -97,7 +97,8 @@ fn take_union(alloc: Global, bytes: &[u8], depth: u8) -> Result<(DataType, &[u8]
 
 #[cycle(read)]
 fn take_dictionary(alloc: Global, bytes: &[u8], depth: u8) -> Result<(DataType, &[u8]), Refusal>
-    ensures { Gives (λ x. (type_view x.0, x.1.now)) result (nested_with (type_at depth) Container.Dictionary bytes.now) }
+    ensures { Gives (λ x. (type_view x.0, x.1.now)) result (nested_with
+        (type_at depth) Container.Dictionary bytes.now) }
 {
     let (key, rest) = take_key_type(bytes)?;
     let (value, rest) = take_type(alloc, rest, depth)?;

@@ -92,7 +92,8 @@ pub fn made_field(
     data_type: DataType,
     mut metadata: Metadata,
 ) -> Result<Field, Refusal>
-    ensures { Gives field_view result (Some (made_field (string_bytes name) is_nullable (type_view data_type) metadata)) }
+    ensures { Gives field_view result (Some
+        (made_field (string_bytes name) is_nullable (type_view data_type) metadata)) }
 {
     let Some(extension) = metadata.remove(NAME_KEY) else {
         return Ok(field_of(name, is_nullable, data_type, metadata));

@@ -166,7 +166,8 @@ fn unit_of_annotations(
     logical_type: Option<LogicalType>,
     converted_type: Option<ConvertedType>,
 ) -> Option<TimeUnit>
-    ensures { result ≡ annotated_unit (option_map logical_view logical_type) (option_map converted_view converted_type) }
+    ensures { result ≡ annotated_unit (option_map logical_view logical_type)
+        (option_map converted_view converted_type) }
 {
     match (logical_type, converted_type) {
         (Some(LogicalType::Time { unit, .. } | LogicalType::Timestamp { unit, .. }), _) => {

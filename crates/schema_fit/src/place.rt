@@ -96,7 +96,8 @@ fn pass(path: &mut [usize])
 #[cycle(places)]
 fn next_inside<'a>(node: &'a ParquetType, path: &mut [usize]) -> Option<Found<'a>>
     requires { nesting (tree_view node.now) ≤ length path.old }
-    ensures next { Steps result (rest_inside (tree_view node.now) path.old) (rest_inside (tree_view node.now) path.new) }
+    ensures next { Steps result (rest_inside (tree_view node.now) path.old)
+        (rest_inside (tree_view node.now) path.new) }
     ensures shallow { IfSome result (λ b. found_nesting b ≤ nesting (tree_view node.now)) }
 {
     match node {

@@ -31,7 +31,8 @@ impl<I: Pages + Drop> ColumnsIter<I> {
     fn next_piece(&mut self) -> Option<Result<ColumnPiece>>
         ensures gives { (above : List Above) (n : Bool) (t : TypeTree) (xs : List Progress)
             → IsGivingItems above n t xs (columns_in self.old) → GivesPiece above n t xs result (columns_in self.new) }
-        ensures ended { AreGone (columns_in self.old).readers → (result ≡ None) × AreGone (columns_in self.new).readers }
+        ensures ended { AreGone (columns_in self.old).readers → (result ≡ None)
+            × AreGone (columns_in self.new).readers }
         ensures gone { result ≡ None → AreGone (columns_in self.new).readers }
     {
         let pieces = match take_pieces(self.alloc, &mut self.columns) {
@@ -60,7 +61,8 @@ impl<I: Pages + Drop> ColumnsIter<I> {
         ensures gives { (above : List Above) (n : Bool) (t : TypeTree) (xs : List Progress)
             → IsGivingItems above n t xs (columns_in self.old) → GivesItem above n t xs result (columns_in self.new) }
         ensures ends { IsAtEnd result (columns_in self.new) }
-        ensures ended { AreGone (columns_in self.old).readers → (result ≡ None) × AreGone (columns_in self.new).readers }
+        ensures ended { AreGone (columns_in self.old).readers → (result ≡ None)
+            × AreGone (columns_in self.new).readers }
     {
         match self.next_piece() {
             None => None,

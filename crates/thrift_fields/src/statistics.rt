@@ -11,7 +11,8 @@ use std::alloc::AllocError;
 
 // Statistics as a struct.
 fn push_statistics(out: &mut Vec<u8>, statistics: &Statistics) -> Result<(), AllocError>
-    ensures { OnOk result (AppendsValue (statistics_value (statistics_view statistics.now)) out.old.items out.new.items) }
+    ensures { OnOk result
+        (AppendsValue (statistics_value (statistics_view statistics.now)) out.old.items out.new.items) }
 {
     let last = push_some_i64(out, 0, 3, statistics.null_count)?;
     let last = push_some_bytes(out, last, 5, &statistics.max_value)?;

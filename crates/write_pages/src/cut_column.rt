@@ -81,7 +81,8 @@ pub fn seen_column(
 ) -> Result<CutColumn>
     requires in_bounds { IsInBounds (parts_of nested.now) }
     requires leaf { tree_len (boxed array.now) ≡ leaf_count_or 0 (parts_of nested.now) }
-    requires reached { All (IsAlong (path_way (parts_of nested.now))) (rows_of (parts_of nested.now) (boxed array.now)) }
+    requires reached { All (IsAlong (path_way (parts_of nested.now)))
+        (rows_of (parts_of nested.now) (boxed array.now)) }
     requires rows { first + count ≤ slot_count (parts_of nested.now) }
     ensures ok { IfOk result (IsCutColumn (boxed array.now) (parts_of nested.now) first count) }
     ensures told { IfOk result (λ c. TellsNulls (boxed c.array) (parts_of c.nested.items)) }

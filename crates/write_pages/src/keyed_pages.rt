@@ -61,7 +61,15 @@ impl Model for DictionaryPages {
 
     ghost coded = { Prim.hlevel (codes, tree_code) };
 
-    ghost view = { λ s. record { options = s.options; type_ = s.type_; array = s.array; parts = parts_of s.nested.items; owes_entries = s.owes_entries; owes_rows = s.owes_rows; statistics = option_map statistics_view s.statistics } };
+    ghost view = { λ s. record {
+      options = s.options;
+      type_ = s.type_;
+      array = s.array;
+      parts = parts_of s.nested.items;
+      owes_entries = s.owes_entries;
+      owes_rows = s.owes_rows;
+      statistics = option_map statistics_view s.statistics;
+    } };
 
     ghost invariant = { λ s. IsKeyedReady s.array (parts_of s.nested.items) (physical_view s.type_.physical_type) };
 }

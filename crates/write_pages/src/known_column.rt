@@ -59,9 +59,11 @@ fn held_rows(
 ) -> Result<CutColumn>
     requires in_bounds { IsInBounds (parts_of nested.now) }
     requires leaf { tree_len (boxed array.now) ≡ leaf_count_or 0 (parts_of nested.now) }
-    requires reached { All (IsAlong (path_way (parts_of nested.now))) (rows_of (parts_of nested.now) (boxed array.now)) }
+    requires reached { All (IsAlong (path_way (parts_of nested.now)))
+        (rows_of (parts_of nested.now) (boxed array.now)) }
     requires served { is_served (base (type_of (boxed array.now))) (physical_view physical_type) ≡ true }
-    ensures ok { IfOk result (IsCutColumn (boxed array.now) (parts_of nested.now) 0 (slot_count (parts_of nested.now))) }
+    ensures ok { IfOk result (IsCutColumn (boxed array.now) (parts_of nested.now) 0
+        (slot_count (parts_of nested.now))) }
     ensures told { IfOk result (λ c. TellsNulls (boxed c.array) (parts_of c.nested.items)) }
     ensures held { IfOk result (λ _. ¬ HasWide (leaf_type (type_of (boxed array.now))) (physical_view physical_type)
         (all_triples (boxed array.now) (parts_of nested.now))) }
@@ -110,7 +112,8 @@ pub fn known_column(
 ) -> Result<KnownColumn>
     requires in_bounds { IsInBounds (parts_of nested.now) }
     requires leaf { tree_len (boxed array.now) ≡ leaf_count_or 0 (parts_of nested.now) }
-    requires reached { All (IsAlong (path_way (parts_of nested.now))) (rows_of (parts_of nested.now) (boxed array.now)) }
+    requires reached { All (IsAlong (path_way (parts_of nested.now)))
+        (rows_of (parts_of nested.now) (boxed array.now)) }
     requires served { is_served (base (type_of (boxed array.now))) (physical_view physical_type) ≡ true }
     ensures ok { IfOk result (IsKnown is_wanted (boxed array.now) (parts_of nested.now) (physical_view physical_type)) }
     ensures held { IfOk result (λ _. ¬ HasWide (leaf_type (type_of (boxed array.now))) (physical_view physical_type)

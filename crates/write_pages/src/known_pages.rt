@@ -334,7 +334,8 @@ pub fn found_statistics(
     requires measured { AreMeasured (leaf_type (type_of (boxed array.now))) (physical_view physical_type)
         (path_way (parts_of nested.now)) (rows_of (parts_of nested.now) (boxed array.now)) plain }
     requires some { 0 < per_page }
-    ensures ok { IfOk result (AreFound is_wanted (boxed array.now) (parts_of nested.now) (physical_view physical_type)) }
+    ensures ok { IfOk result (AreFound is_wanted (boxed array.now) (parts_of nested.now)
+        (physical_view physical_type)) }
     ensures err { IfErr result (λ e. e ≡ Memory) }
 {
     match order_of_pages(array, nested, plain, per_page, is_wanted) {

@@ -67,9 +67,21 @@ impl Model for LeafPages {
 
     ghost coded = { Prim.hlevel (codes, tree_code) };
 
-    ghost view = { λ s. record { options = s.options; with_deltas = s.with_deltas; type_ = s.type_; array = boxed s.array; parts = parts_of s.nested.items; next = s.next; per_page = s.per_page; has_failed = s.has_failed; statistics = option_map statistics_view s.whole.known.statistics } };
+    ghost view = { λ s. record {
+      options = s.options;
+      with_deltas = s.with_deltas;
+      type_ = s.type_;
+      array = boxed s.array;
+      parts = parts_of s.nested.items;
+      next = s.next;
+      per_page = s.per_page;
+      has_failed = s.has_failed;
+      statistics = option_map statistics_view s.whole.known.statistics;
+    } };
 
-    ghost invariant = { λ s. IsReady (boxed s.array) (parts_of s.nested.items) (physical_view s.type_.physical_type) s.per_page × IsKnown s.options.write_statistics (boxed s.array) (parts_of s.nested.items) (physical_view s.type_.physical_type) s.whole };
+    ghost invariant = { λ s. IsReady (boxed s.array) (parts_of s.nested.items)
+        (physical_view s.type_.physical_type) s.per_page × IsKnown s.options.write_statistics (boxed s.array)
+        (parts_of s.nested.items) (physical_view s.type_.physical_type) s.whole };
 }
 
 // The page of some rows of a path in bounds.
@@ -85,7 +97,8 @@ fn page_at(
 ) -> Result<DataPage>
     requires in_bounds { IsInBounds (parts_of nested.now) }
     requires parts { length nested.now ≤ 128 }
-    requires reached { All (IsAlong (path_way (parts_of nested.now))) (rows_of (parts_of nested.now) (boxed array.now)) }
+    requires reached { All (IsAlong (path_way (parts_of nested.now)))
+        (rows_of (parts_of nested.now) (boxed array.now)) }
     requires leaf { tree_len (boxed array.now) ≡ leaf_count_or 0 (parts_of nested.now) }
     requires served { is_served (base (type_of (boxed array.now))) (physical_view type_.now.physical_type) ≡ true }
     requires held { ¬ HasWide (leaf_type (type_of (boxed array.now))) (physical_view type_.now.physical_type)
@@ -128,7 +141,8 @@ fn some_page(
 ) -> Result<DataPage>
     requires in_bounds { IsInBounds (parts_of nested.now) }
     requires parts { length nested.now ≤ 128 }
-    requires reached { All (IsAlong (path_way (parts_of nested.now))) (rows_of (parts_of nested.now) (boxed array.now)) }
+    requires reached { All (IsAlong (path_way (parts_of nested.now)))
+        (rows_of (parts_of nested.now) (boxed array.now)) }
     requires leaf { tree_len (boxed array.now) ≡ leaf_count_or 0 (parts_of nested.now) }
     requires served { is_served (base (type_of (boxed array.now))) (physical_view type_.now.physical_type) ≡ true }
     requires held { ¬ HasWide (leaf_type (type_of (boxed array.now))) (physical_view type_.now.physical_type)
@@ -185,7 +199,8 @@ fn piece_page(
 ) -> Result<DataPage>
     requires in_bounds { IsInBounds (parts_of nested.now) }
     requires parts { length nested.now ≤ 128 }
-    requires reached { All (IsAlong (path_way (parts_of nested.now))) (rows_of (parts_of nested.now) (boxed array.now)) }
+    requires reached { All (IsAlong (path_way (parts_of nested.now)))
+        (rows_of (parts_of nested.now) (boxed array.now)) }
     requires leaf { tree_len (boxed array.now) ≡ leaf_count_or 0 (parts_of nested.now) }
     requires served { is_served (base (type_of (boxed array.now))) (physical_view type_.now.physical_type) ≡ true }
     requires held { ¬ HasWide (leaf_type (type_of (boxed array.now))) (physical_view type_.now.physical_type)

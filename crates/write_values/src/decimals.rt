@@ -165,13 +165,15 @@ impl<'a> FixedValues for Decimals<'a> {
     ghost use Rattle.write_values.specs.Decimals.{form_in_a_row, form_physical, form_size, form_sizes};
     ghost use Rattle.write_values.specs.Stored.{stored_at};
 
-    ghost places = { λ s. tree_len (leaf_array s.array.now.0 (map (value_i128 (base s.array.now.0)) s.array.now.1.0) s.array.now.1.1) };
+    ghost places = { λ s. tree_len (leaf_array s.array.now.0
+        (map (value_i128 (base s.array.now.0)) s.array.now.1.0) s.array.now.1.1) };
 
     ghost physical = { λ s. form_physical s.form };
 
     ghost size = { λ s. form_size s.form };
 
-    ghost at = { λ s. stored_at (leaf_array s.array.now.0 (map (value_i128 (base s.array.now.0)) s.array.now.1.0) s.array.now.1.1) (form_physical s.form) };
+    ghost at = { λ s. stored_at (leaf_array s.array.now.0
+        (map (value_i128 (base s.array.now.0)) s.array.now.1.0) s.array.now.1.1) (form_physical s.form) };
 
     ghost sizes = { λ s v. form_sizes s.form v };
 
@@ -213,9 +215,11 @@ impl<'a> DeltaValues for Decimals32<'a> {
 
     ghost physical = { int32 };
 
-    ghost places = { λ s. tree_len (leaf_array s.array.now.0 (map (value_i128 (base s.array.now.0)) s.array.now.1.0) s.array.now.1.1) };
+    ghost places = { λ s. tree_len (leaf_array s.array.now.0
+        (map (value_i128 (base s.array.now.0)) s.array.now.1.0) s.array.now.1.1) };
 
-    ghost at = { λ s. stored_at (leaf_array s.array.now.0 (map (value_i128 (base s.array.now.0)) s.array.now.1.0) s.array.now.1.1) int32 };
+    ghost at = { λ s. stored_at (leaf_array s.array.now.0
+        (map (value_i128 (base s.array.now.0)) s.array.now.1.0) s.array.now.1.1) int32 };
 
     ghost narrow = { lit≤ tt };
 
@@ -255,9 +259,11 @@ impl<'a> DeltaValues for Decimals64<'a> {
 
     ghost physical = { int64 };
 
-    ghost places = { λ s. tree_len (leaf_array s.array.now.0 (map (value_i128 (base s.array.now.0)) s.array.now.1.0) s.array.now.1.1) };
+    ghost places = { λ s. tree_len (leaf_array s.array.now.0
+        (map (value_i128 (base s.array.now.0)) s.array.now.1.0) s.array.now.1.1) };
 
-    ghost at = { λ s. stored_at (leaf_array s.array.now.0 (map (value_i128 (base s.array.now.0)) s.array.now.1.0) s.array.now.1.1) int64 };
+    ghost at = { λ s. stored_at (leaf_array s.array.now.0
+        (map (value_i128 (base s.array.now.0)) s.array.now.1.0) s.array.now.1.1) int64 };
 
     ghost narrow = { lit≤ tt };
 

@@ -118,7 +118,8 @@ impl<'a, D: DeltaValues> Taker for Feeding<'a, D> {
 
     ghost limit = { λ s. D.places s.values.now };
 
-    ghost has = { λ a b places. (b.values.now ≡ a.values.now) × FeedsRow D.width D.physical a.out.items a.encoder b.out.items b.encoder (map (D.at a.values.now) places) };
+    ghost has = { λ a b places. (b.values.now ≡ a.values.now)
+        × FeedsRow D.width D.physical a.out.items a.encoder b.out.items b.encoder (map (D.at a.values.now) places) };
 
     ghost sound = { λ s. Unit {0} };
 

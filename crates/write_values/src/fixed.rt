@@ -210,13 +210,15 @@ impl<'a> FixedValues for FixedStrings<'a> {
     ghost use Rattle.write_values.specs.Numbers.{fixed_in_a_row};
     ghost use Rattle.write_values.specs.Stored.{stored_at};
 
-    ghost places = { λ s. tree_len (leaf_array s.array.now.0 (strings_in s.array.now.0 s.array.now.1.0) s.array.now.1.1) };
+    ghost places = { λ s. tree_len (leaf_array s.array.now.0
+        (strings_in s.array.now.0 s.array.now.1.0) s.array.now.1.1) };
 
     ghost physical = { λ s. fixed (width_in s.array.now.0) };
 
     ghost size = { λ s. width_in s.array.now.0 };
 
-    ghost at = { λ s. stored_at (leaf_array s.array.now.0 (strings_in s.array.now.0 s.array.now.1.0) s.array.now.1.1) (fixed (width_in s.array.now.0)) };
+    ghost at = { λ s. stored_at (leaf_array s.array.now.0 (strings_in s.array.now.0 s.array.now.1.0) s.array.now.1.1)
+        (fixed (width_in s.array.now.0)) };
 
     ghost sizes = { λ s v. refl };
 
@@ -244,11 +246,13 @@ impl<'a> LeafValues for FixedStrings<'a> {
     ghost use Rattle.write_values.specs.Numbers.{fixed_in_a_row};
     ghost use Rattle.write_values.specs.Stored.{stored_at};
 
-    ghost count = { λ s. tree_len (leaf_array s.array.now.0 (strings_in s.array.now.0 s.array.now.1.0) s.array.now.1.1) };
+    ghost count = { λ s. tree_len (leaf_array s.array.now.0
+        (strings_in s.array.now.0 s.array.now.1.0) s.array.now.1.1) };
 
     ghost physical = { λ s. fixed (width_in s.array.now.0) };
 
-    ghost stored = { λ s. stored_at (leaf_array s.array.now.0 (strings_in s.array.now.0 s.array.now.1.0) s.array.now.1.1) (fixed (width_in s.array.now.0)) };
+    ghost stored = { λ s. stored_at (leaf_array s.array.now.0
+        (strings_in s.array.now.0 s.array.now.1.0) s.array.now.1.1) (fixed (width_in s.array.now.0)) };
 
     ghost in_a_row = { λ s. fixed_in_a_row (width_in s.array.now.0) };
 

@@ -69,13 +69,15 @@ impl<'a> FixedValues for Months<'a> {
     ghost use Rattle.write_values.specs.Numbers.{fixed_in_a_row};
     ghost use Rattle.write_values.specs.Stored.{stored_at};
 
-    ghost places = { λ s. tree_len (leaf_array s.array.now.0 (map (value_i32 (base s.array.now.0)) s.array.now.1.0) s.array.now.1.1) };
+    ghost places = { λ s. tree_len (leaf_array s.array.now.0
+        (map (value_i32 (base s.array.now.0)) s.array.now.1.0) s.array.now.1.1) };
 
     ghost physical = { λ s. fixed 12 };
 
     ghost size = { λ s. 12 };
 
-    ghost at = { λ s. stored_at (leaf_array s.array.now.0 (map (value_i32 (base s.array.now.0)) s.array.now.1.0) s.array.now.1.1) (fixed 12) };
+    ghost at = { λ s. stored_at (leaf_array s.array.now.0
+        (map (value_i32 (base s.array.now.0)) s.array.now.1.0) s.array.now.1.1) (fixed 12) };
 
     ghost sizes = { λ s v. refl };
 
@@ -111,13 +113,15 @@ impl<'a> FixedValues for Days<'a> {
     ghost use Rattle.write_values.specs.Numbers.{fixed_in_a_row};
     ghost use Rattle.write_values.specs.Stored.{stored_at};
 
-    ghost places = { λ s. tree_len (leaf_array s.array.now.0 (map (value_days (base s.array.now.0)) s.array.now.1.0) s.array.now.1.1) };
+    ghost places = { λ s. tree_len (leaf_array s.array.now.0
+        (map (value_days (base s.array.now.0)) s.array.now.1.0) s.array.now.1.1) };
 
     ghost physical = { λ s. fixed 12 };
 
     ghost size = { λ s. 12 };
 
-    ghost at = { λ s. stored_at (leaf_array s.array.now.0 (map (value_days (base s.array.now.0)) s.array.now.1.0) s.array.now.1.1) (fixed 12) };
+    ghost at = { λ s. stored_at (leaf_array s.array.now.0
+        (map (value_days (base s.array.now.0)) s.array.now.1.0) s.array.now.1.1) (fixed 12) };
 
     ghost sizes = { λ s v. refl };
 

@@ -27,7 +27,8 @@ impl<'a, L: LeafValues> Taker for Measuring<'a, L> {
 
     ghost limit = { λ s. L.count s.leaf.now };
 
-    ghost has = { λ a b places. (b.leaf.now ≡ a.leaf.now) × Adds (L.physical a.leaf.now) (L.count a.leaf.now) (L.stored a.leaf.now) places a.measured b.measured };
+    ghost has = { λ a b places. (b.leaf.now ≡ a.leaf.now) × Adds (L.physical a.leaf.now) (L.count a.leaf.now)
+        (L.stored a.leaf.now) places a.measured b.measured };
 
     ghost sound = { λ s. Unit {0} };
 
@@ -35,7 +36,11 @@ impl<'a, L: LeafValues> Taker for Measuring<'a, L> {
 
     ghost refuses = { λ s e. ⊥ };
 
-    ghost none = { λ s. (refl, adds-none (L.physical s.leaf.now) (L.count s.leaf.now) (L.stored s.leaf.now) s.measured) };
+    ghost none = { λ s. (
+      refl,
+      adds-none (L.physical s.leaf.now) (L.count s.leaf.now)
+          (L.stored s.leaf.now) s.measured,
+    ) };
 
     ghost front = { λ s xs ys h. tt };
 

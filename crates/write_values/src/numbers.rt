@@ -69,7 +69,8 @@ pub trait StoredNumber: PlainNumber {
 
     ghost few_bytes: { Self.byte_count ≤ 8 };
 
-    ghost text_is: { (x : Self) → Self.stored x ≡ bound_text (physical_view Self.physical) (number (Self.plain_number x)) };
+    ghost text_is: { (x : Self) → Self.stored x ≡ bound_text (physical_view Self.physical)
+        (number (Self.plain_number x)) };
 
     ghost is_narrow: { bits bit_width ≤ 64 };
 
@@ -304,7 +305,8 @@ fn put_block(places: &mut [u8], block: &[u8])
 fn fill_block<T: AlwaysStored<P>, P: StoredNumber>(block: &mut [u8], values: &[T])
     requires { P.byte_count * length values.now ≡ length block.old }
     ensures len { length block.new ≡ length block.old }
-    ensures are { AppendsRow (physical_view P.physical) [] block.new (map (λ x. number (T.stored_number x)) values.now) }
+    ensures are { AppendsRow (physical_view P.physical) [] block.new
+        (map (λ x. number (T.stored_number x)) values.now) }
 {
     for i in 0..values.len() {
         put_number::<T, P>(block, P::width() * i, values[i]);
@@ -537,11 +539,13 @@ impl<'a, T: AlwaysStored<P>, P: StoredNumber> LeafValues for Numbers<'a, T, P> {
     ghost use Rattle.write_values.specs.Numbers.{numbers_in_a_row};
     ghost use Rattle.write_values.specs.Stored.{stored_at};
 
-    ghost count = { λ s. tree_len (leaf_array s.array.now.0 (map (T.value (base s.array.now.0)) s.array.now.1.0) s.array.now.1.1) };
+    ghost count = { λ s. tree_len (leaf_array s.array.now.0
+        (map (T.value (base s.array.now.0)) s.array.now.1.0) s.array.now.1.1) };
 
     ghost physical = { λ s. physical_view P.physical };
 
-    ghost stored = { λ s. stored_at (leaf_array s.array.now.0 (map (T.value (base s.array.now.0)) s.array.now.1.0) s.array.now.1.1) (physical_view P.physical) };
+    ghost stored = { λ s. stored_at (leaf_array s.array.now.0
+        (map (T.value (base s.array.now.0)) s.array.now.1.0) s.array.now.1.1) (physical_view P.physical) };
 
     ghost in_a_row = { λ s. numbers_in_a_row (physical_view P.physical) P.is_number_type };
 
@@ -597,9 +601,11 @@ impl<'a, T: AlwaysStored<P>, P: StoredNumber> DeltaValues for Numbers<'a, T, P> 
 
     ghost physical = { physical_view P.physical };
 
-    ghost places = { λ s. tree_len (leaf_array s.array.now.0 (map (T.value (base s.array.now.0)) s.array.now.1.0) s.array.now.1.1) };
+    ghost places = { λ s. tree_len (leaf_array s.array.now.0
+        (map (T.value (base s.array.now.0)) s.array.now.1.0) s.array.now.1.1) };
 
-    ghost at = { λ s. stored_at (leaf_array s.array.now.0 (map (T.value (base s.array.now.0)) s.array.now.1.0) s.array.now.1.1) (physical_view P.physical) };
+    ghost at = { λ s. stored_at (leaf_array s.array.now.0
+        (map (T.value (base s.array.now.0)) s.array.now.1.0) s.array.now.1.1) (physical_view P.physical) };
 
     ghost narrow = { P.is_narrow };
 

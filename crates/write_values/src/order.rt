@@ -43,13 +43,15 @@ impl<'a, T: AlwaysStored<P> + OrderedNative, P: StoredNumber> OrderedLeaf for Nu
     ghost use Rattle.nested_paths.specs.LeafNulls.{value_at};
     ghost use Rattle.pq_tree.specs.Views.{physical_view};
 
-    ghost count = { λ s. tree_len (leaf_array s.array.now.0 (map (T.value (base s.array.now.0)) s.array.now.1.0) s.array.now.1.1) };
+    ghost count = { λ s. tree_len (leaf_array s.array.now.0
+        (map (T.value (base s.array.now.0)) s.array.now.1.0) s.array.now.1.1) };
 
     ghost kind = { λ s. leaf_type (base s.array.now.0) };
 
     ghost physical = { λ s. physical_view P.physical };
 
-    ghost value = { λ s. value_at (leaf_array s.array.now.0 (map (T.value (base s.array.now.0)) s.array.now.1.0) s.array.now.1.1) };
+    ghost value = { λ s. value_at (leaf_array s.array.now.0
+        (map (T.value (base s.array.now.0)) s.array.now.1.0) s.array.now.1.1) };
 
     fn len(&self) -> usize {
         self.array.len()
@@ -101,13 +103,15 @@ impl<'a, O: Offset> OrderedLeaf for Texts<'a, O> {
     ghost use Rattle.nested_paths.specs.LeafNulls.{value_at};
     ghost use Rattle.pq_tree.specs.Physical.{byte_array};
 
-    ghost count = { λ s. tree_len (leaf_array s.array.now.0 (pieces_values s.array.now.1.0 s.array.now.1.1.0) s.array.now.1.1.1) };
+    ghost count = { λ s. tree_len (leaf_array s.array.now.0
+        (pieces_values s.array.now.1.0 s.array.now.1.1.0) s.array.now.1.1.1) };
 
     ghost kind = { λ s. leaf_type (base s.array.now.0) };
 
     ghost physical = { λ s. byte_array };
 
-    ghost value = { λ s. value_at (leaf_array s.array.now.0 (pieces_values s.array.now.1.0 s.array.now.1.1.0) s.array.now.1.1.1) };
+    ghost value = { λ s. value_at (leaf_array s.array.now.0
+        (pieces_values s.array.now.1.0 s.array.now.1.1.0) s.array.now.1.1.1) };
 
     fn len(&self) -> usize {
         self.array.know();
@@ -156,13 +160,15 @@ impl<'a, O: Offset> OrderedLeaf for Strings<'a, O> {
     ghost use Rattle.nested_paths.specs.LeafNulls.{value_at};
     ghost use Rattle.pq_tree.specs.Physical.{byte_array};
 
-    ghost count = { λ s. tree_len (leaf_array s.array.now.0 (pieces_values s.array.now.1.0 s.array.now.1.1.0) s.array.now.1.1.1) };
+    ghost count = { λ s. tree_len (leaf_array s.array.now.0
+        (pieces_values s.array.now.1.0 s.array.now.1.1.0) s.array.now.1.1.1) };
 
     ghost kind = { λ s. leaf_type (base s.array.now.0) };
 
     ghost physical = { λ s. byte_array };
 
-    ghost value = { λ s. value_at (leaf_array s.array.now.0 (pieces_values s.array.now.1.0 s.array.now.1.1.0) s.array.now.1.1.1) };
+    ghost value = { λ s. value_at (leaf_array s.array.now.0
+        (pieces_values s.array.now.1.0 s.array.now.1.1.0) s.array.now.1.1.1) };
 
     fn len(&self) -> usize {
         self.array.know();
@@ -298,13 +304,15 @@ impl<'a> OrderedLeaf for FixedStrings<'a> {
     ghost use Rattle.pq_tree.specs.Physical.{fixed};
     ghost use Rattle.write_values.specs.Fixed.{strings_in, width_in};
 
-    ghost count = { λ s. tree_len (leaf_array s.array.now.0 (strings_in s.array.now.0 s.array.now.1.0) s.array.now.1.1) };
+    ghost count = { λ s. tree_len (leaf_array s.array.now.0
+        (strings_in s.array.now.0 s.array.now.1.0) s.array.now.1.1) };
 
     ghost kind = { λ s. leaf_type (base s.array.now.0) };
 
     ghost physical = { λ s. fixed (width_in s.array.now.0) };
 
-    ghost value = { λ s. value_at (leaf_array s.array.now.0 (strings_in s.array.now.0 s.array.now.1.0) s.array.now.1.1) };
+    ghost value = { λ s. value_at (leaf_array s.array.now.0
+        (strings_in s.array.now.0 s.array.now.1.0) s.array.now.1.1) };
 
     fn len(&self) -> usize {
         self.array.len()

@@ -301,7 +301,8 @@ pub fn data_page(
     requires nulls { TellsNulls (boxed array.now) (parts_of nested.now) }
     requires held { ¬ HasWide (leaf_type (type_of (boxed array.now))) (physical_view type_.physical_type)
         (value_column (boxed array.now) nested.now) }
-    ensures ok { IfOk result (IsColumnPage form (boxed array.now) (physical_view type_.physical_type) type_ nested.now) }
+    ensures ok { IfOk result (IsColumnPage form (boxed array.now)
+        (physical_view type_.physical_type) type_ nested.now) }
     ensures stored { is_served (base (type_of (boxed array.now))) (physical_view type_.physical_type) ≡ true
         → AreStored (leaf_type (type_of (boxed array.now))) (physical_view type_.physical_type)
         (value_column (boxed array.now) nested.now) (stored_column (boxed array.now)
@@ -346,7 +347,8 @@ pub fn data_page_with(
         (value_column (boxed array.now) nested.now) }
     requires known { AreKnown form.with_statistics (boxed array.now)
         (physical_view type_.physical_type) nested.now known }
-    ensures ok { IfOk result (IsColumnPage form (boxed array.now) (physical_view type_.physical_type) type_ nested.now) }
+    ensures ok { IfOk result (IsColumnPage form (boxed array.now)
+        (physical_view type_.physical_type) type_ nested.now) }
     ensures stored { AreStored (leaf_type (type_of (boxed array.now))) (physical_view type_.physical_type)
         (value_column (boxed array.now) nested.now) (stored_column (boxed array.now)
         (physical_view type_.physical_type) nested.now) }

@@ -139,7 +139,9 @@ impl<'a, O: Offset> Taker for Joining<'a, O> {
 
     ghost limit = { λ s. length (pieces_values s.pieces.now.offsets.now s.pieces.now.all.now) };
 
-    ghost has = { λ a b places. (b.pieces.now ≡ a.pieces.now) × (b.out.items ≡ a.out.items ++ flat_map text_of (map (at_place (pieces_values a.pieces.now.offsets.now a.pieces.now.all.now)) places)) };
+    ghost has = { λ a b places. (b.pieces.now ≡ a.pieces.now) ×
+        (b.out.items ≡ a.out.items ++ flat_map text_of (map
+        (at_place (pieces_values a.pieces.now.offsets.now a.pieces.now.all.now)) places)) };
 
     ghost sound = { λ s. Unit {0} };
 

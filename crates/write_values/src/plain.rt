@@ -31,7 +31,8 @@ impl<'a, L: LeafValues> Taker for Plain<'a, L> {
 
     ghost limit = { λ s. L.count s.leaf.now };
 
-    ghost has = { λ a b places. (b.leaf.now ≡ a.leaf.now) × AppendsRow (L.physical a.leaf.now) a.out.items b.out.items (map (L.stored a.leaf.now) places) };
+    ghost has = { λ a b places. (b.leaf.now ≡ a.leaf.now) × AppendsRow
+        (L.physical a.leaf.now) a.out.items b.out.items (map (L.stored a.leaf.now) places) };
 
     ghost sound = { λ s. Unit {0} };
 
@@ -41,9 +42,11 @@ impl<'a, L: LeafValues> Taker for Plain<'a, L> {
 
     ghost none = { λ s. (refl, row-none (L.physical s.leaf.now) s.out.items) };
 
-    ghost front = { λ s xs ys h. front_fits (L.physical s.leaf.now) (L.stored s.leaf.now) xs ys (L.in_a_row s.leaf.now) h };
+    ghost front = { λ s xs ys h. front_fits (L.physical s.leaf.now) (L.stored s.leaf.now) xs ys
+        (L.in_a_row s.leaf.now) h };
 
-    ghost back = { λ s xs ys h. back_fits (L.physical s.leaf.now) (L.stored s.leaf.now) xs ys (L.in_a_row s.leaf.now) h };
+    ghost back = { λ s xs ys h. back_fits (L.physical s.leaf.now) (L.stored s.leaf.now) xs ys
+        (L.in_a_row s.leaf.now) h };
 
     fn take(&mut self, from: usize, to: usize) -> Result<()> {
         self.leaf.push_plain(&mut self.out, from, to)?;

@@ -355,11 +355,13 @@ impl<'a, O: Offset> LeafValues for Texts<'a, O> {
     ghost use Rattle.write_values.specs.Numbers.{strings_in_a_row};
     ghost use Rattle.write_values.specs.Stored.{stored_at};
 
-    ghost count = { λ s. tree_len (leaf_array s.array.now.0 (pieces_values s.array.now.1.0 s.array.now.1.1.0) s.array.now.1.1.1) };
+    ghost count = { λ s. tree_len (leaf_array s.array.now.0
+        (pieces_values s.array.now.1.0 s.array.now.1.1.0) s.array.now.1.1.1) };
 
     ghost physical = { λ s. byte_array };
 
-    ghost stored = { λ s. stored_at (leaf_array s.array.now.0 (pieces_values s.array.now.1.0 s.array.now.1.1.0) s.array.now.1.1.1) byte_array };
+    ghost stored = { λ s. stored_at (leaf_array s.array.now.0
+        (pieces_values s.array.now.1.0 s.array.now.1.1.0) s.array.now.1.1.1) byte_array };
 
     ghost in_a_row = { λ s. strings_in_a_row };
 
@@ -411,11 +413,13 @@ impl<'a, O: Offset> LeafValues for Strings<'a, O> {
     ghost use Rattle.write_values.specs.Numbers.{strings_in_a_row};
     ghost use Rattle.write_values.specs.Stored.{stored_at};
 
-    ghost count = { λ s. tree_len (leaf_array s.array.now.0 (pieces_values s.array.now.1.0 s.array.now.1.1.0) s.array.now.1.1.1) };
+    ghost count = { λ s. tree_len (leaf_array s.array.now.0
+        (pieces_values s.array.now.1.0 s.array.now.1.1.0) s.array.now.1.1.1) };
 
     ghost physical = { λ s. byte_array };
 
-    ghost stored = { λ s. stored_at (leaf_array s.array.now.0 (pieces_values s.array.now.1.0 s.array.now.1.1.0) s.array.now.1.1.1) byte_array };
+    ghost stored = { λ s. stored_at (leaf_array s.array.now.0
+        (pieces_values s.array.now.1.0 s.array.now.1.1.0) s.array.now.1.1.1) byte_array };
 
     ghost in_a_row = { λ s. strings_in_a_row };
 

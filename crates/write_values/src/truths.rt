@@ -241,7 +241,8 @@ impl<'a> Taker for PlainTruths<'a> {
 
     ghost limit = { λ s. length s.values.now };
 
-    ghost has = { λ a b taken. (b.values.now ≡ a.values.now) × (b.out.0 ≡ a.out.0 ++ map (truth_at a.values.now) taken) };
+    ghost has = { λ a b taken. (b.values.now ≡ a.values.now) × (b.out.0
+        ≡ a.out.0 ++ map (truth_at a.values.now) taken) };
 
     ghost sound = { λ s. Unit {0} };
 

@@ -81,7 +81,8 @@ impl<'a> Taker for Finding<'a> {
 
     ghost limit = { λ s. numbers_in s.decimals };
 
-    ghost has = { λ a b places. (b.decimals ≡ a.decimals) × (b.found ≡ (a.found || any_wide (form_physical a.decimals.form) (map (number_at a.decimals) places))) };
+    ghost has = { λ a b places. (b.decimals ≡ a.decimals) × (b.found
+        ≡ (a.found || any_wide (form_physical a.decimals.form) (map (number_at a.decimals) places))) };
 
     ghost sound = { λ s. Unit {0} };
 
