@@ -4,8 +4,6 @@
 mod exact;
 mod plain_page;
 mod stated;
-#[cfg(test)]
-mod tests;
 
 pub use exact::ExactSizedIter;
 pub use plain_page::build_plain_page;

@@ -2,7 +2,5 @@
 #![tactic(auto)]
 
 mod strings;
-#[cfg(test)]
-mod tests;
 
 pub use strings::{BinaryIter, SizedBinaryIter};

@@ -1,8 +1,9 @@
 //! Sixteen level pairs of optional lists of optional structs of an optional list of optional numbers.
 ghost use Rattle.std.specs.Prelude.{◌≡◌, ◌<◌};
 
+use crate::array_tests::has_bits;
 use columns_base::Result;
-use columns_core::{Bitmap, MutableBitmap};
+use columns_core::MutableBitmap;
 use read_leaf::{NumberValues, PlainNumbers, PrimitiveDecoder};
 use read_state::{InitNested, Nested, NestedBox, NestedState, Steps, init_nested};
 use read_walk::{NestedPage, extend_levels};
@@ -77,11 +78,6 @@ fn walk(
     rows: (usize, usize),
 ) -> Result<(NestedState, NumberValues<i32>)> {
     walk_in::<Brand>(alloc, sections, rows, Blank::new(1))
-}
-
-// As many bits as places, the lowest for the first.
-fn has_bits(bits: &Bitmap, count: usize, want: u64) -> bool {
-    bits.len() == count && count <= 64 && bits.word_at(0, count) == want
 }
 
 fn is_mask(mask: Option<MutableBitmap>, count: usize, want: u64) -> Result<bool> {

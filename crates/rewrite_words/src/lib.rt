@@ -8,8 +8,6 @@ mod options;
 mod read;
 mod sample;
 mod setting;
-#[cfg(test)]
-mod tests;
 
 pub use laws::{as_worked, forms_exclude, order_does_not_matter};
 pub use options::RewriteOptions;

@@ -3,8 +3,6 @@
 
 mod read;
 mod schema;
-#[cfg(test)]
-mod tests;
 mod write;
 
 pub use read::field_to_array;

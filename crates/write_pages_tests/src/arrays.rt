@@ -16,10 +16,17 @@ pub fn truths(alloc: Global, values: &[bool]) -> Result<BooleanArray> {
     BooleanArray::try_new(alloc, DataType::Boolean, values, mask(alloc)?)
 }
 
-pub fn boxed<T: NativeArray>(alloc: Global, data_type: DataType, values: &[T]) -> Result<ArrayBox> {
+pub fn numbers<T: NativeArray>(
+    alloc: Global,
+    data_type: DataType,
+    values: &[T],
+) -> Result<PrimitiveArray<T>> {
     let values = values.to_vec(alloc)?;
-    let array = PrimitiveArray::try_new(alloc, data_type, values, mask(alloc)?)?;
-    Ok(T::into_box(array))
+    PrimitiveArray::try_new(alloc, data_type, values, mask(alloc)?)
+}
+
+pub fn boxed<T: NativeArray>(alloc: Global, data_type: DataType, values: &[T]) -> Result<ArrayBox> {
+    Ok(T::into_box(numbers(alloc, data_type, values)?))
 }
 
 // The offsets of `ab`, nothing and `a`.

@@ -1,20 +1,14 @@
 //! The pages of a column by the row rule, and what lies beneath a null list (Parquet format, "Data Pages", "Nested Encoding").
-use crate::shapes::{leaf, options};
+use crate::shapes::{options, required};
 use columns_array::ArrayBox;
 use columns_base::{A, Error, PhysicalType, Result};
 use columns_core::{Bitmap, DataType, OffsetsBuffer};
 use columns_leaf::PrimitiveArray;
 use levels::{ListNested, Nested};
 use pq_pages::Page;
-use pq_tree::{Encoding, PrimitiveType, Repetition, Version};
+use pq_tree::{Encoding, Version};
 use std::alloc::Global;
 use write_pages::{PageIter, WriteOptions, array_to_pages};
-
-fn required(alloc: Global, physical_type: PhysicalType) -> Result<PrimitiveType> {
-    let mut type_ = leaf(alloc, physical_type)?;
-    type_.field_info.repetition = Repetition::Required;
-    Ok(type_)
-}
 
 fn numbers(alloc: Global, values: &[i32]) -> Result<ArrayBox> {
     let values = values.to_vec(alloc)?;

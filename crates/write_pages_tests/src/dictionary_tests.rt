@@ -1,6 +1,6 @@
 //! The pages of dictionaries (Parquet format, "Dictionary Page"; Encodings, "Plain" and "Dictionary Encoding"; Arrow columnar format,
 //! "Dictionary-encoded Layout").
-use crate::shapes::{Shape, THERE, Wanted, ends_so, leaf, options, pages_along};
+use crate::shapes::{Shape, THERE, Wanted, ends_so, optional, options, pages_along, required};
 use columns_array::{ArrayBox, DictionaryArray};
 use columns_base::{A, Error, N, PhysicalType, Result};
 use columns_core::{Bitmap, DataType, IntegerType, OffsetsBuffer};
@@ -8,7 +8,7 @@ use columns_leaf::keys::DictionaryKeys;
 use columns_leaf::{PrimitiveArray, Utf8Array};
 use levels::Nested;
 use pq_pages::Page;
-use pq_tree::{Encoding, PrimitiveType, Repetition, Version};
+use pq_tree::{Encoding, Version};
 use std::alloc::Global;
 use write_pages::{PageIter, array_to_pages, dictionary};
 
@@ -71,12 +71,6 @@ fn numbers(
         DataType::Int32,
         ArrayBox::Int32(entries),
     )
-}
-
-fn required(alloc: Global, physical_type: PhysicalType) -> Result<PrimitiveType> {
-    let mut type_ = leaf(alloc, physical_type)?;
-    type_.field_info.repetition = Repetition::Required;
-    Ok(type_)
 }
 
 // The pages of a column of required texts.
@@ -231,7 +225,7 @@ fn are_numbers(alloc: Global, shape: Shape, version: Version) -> Result<bool> {
 fn is_null_entry(alloc: Global) -> Result<bool> {
     let array = ArrayBox::Dictionary(numbers(alloc, &[0, 1, 0], &[], &[true, false])?);
     let path = [Nested::Primitive(None, true, 3)];
-    let type_ = leaf(alloc, PhysicalType::Int32)?;
+    let type_ = optional(alloc, PhysicalType::Int32)?;
     let options = options(Version::V2);
     let pages = array_to_pages(
         alloc,

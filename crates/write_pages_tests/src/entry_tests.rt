@@ -1,5 +1,6 @@
 //! The pages of a small dictionary by hand (Parquet format, Encodings, "Plain", "Dictionary Encoding" and "Run Length Encoding / Bit-Packing
 //! Hybrid").
+use crate::shapes::optional;
 use columns_array::{ArrayBox, DictionaryArray};
 use columns_base::{A, Error, PhysicalType, Result};
 use columns_core::{Bitmap, DataType, IntegerType, OffsetsBuffer, TimeUnit};
@@ -10,7 +11,7 @@ use dictionary_pages::{
 };
 use levels::{Nested, is_well_formed, leaf_len};
 use pq_pages::DataPage;
-use pq_tree::{FieldInfo, PrimitiveType, Repetition, Statistics, Version};
+use pq_tree::{Statistics, Version};
 use std::alloc::Global;
 use write_values::PageForm;
 
@@ -53,19 +54,6 @@ fn some_texts(alloc: Global, numbers: &[i8]) -> Result<DictionaryArray> {
     DictionaryArray::try_new(alloc, data_type, keys(alloc, numbers)?, entries(alloc)?)
 }
 
-fn leaf(alloc: Global) -> Result<PrimitiveType> {
-    Ok(PrimitiveType {
-        field_info: FieldInfo {
-            name: String::from_str(alloc, "x")?,
-            repetition: Repetition::Optional,
-            id: None,
-        },
-        logical_type: None,
-        converted_type: None,
-        physical_type: PhysicalType::ByteArray,
-    })
-}
-
 fn flat(alloc: Global) -> Result<Vec<Nested>> {
     let mut path = Vec::new(alloc);
     path.push(Nested::Primitive(Some(Bitmap::from_slice(alloc, THERE)?), true, 5))?;
@@ -83,7 +71,13 @@ fn page(alloc: Global, array: &DictionaryArray, nested: &[Nested]) -> Result<Dat
     if !reaches_entries(array, nested) {
         return Err(MISFIT);
     }
-    index_page(alloc, array, leaf(alloc)?, nested, FORM)
+    index_page(
+        alloc,
+        array,
+        optional(alloc, PhysicalType::ByteArray)?,
+        nested,
+        FORM,
+    )
 }
 
 // The statistics of its column, where the path reaches entries.

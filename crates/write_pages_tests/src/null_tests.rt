@@ -1,15 +1,13 @@
 //! Pages of nulls alone by hand (Arrow columnar format, "Null Layout"; Parquet format, "Data Pages", "Nested Encoding", LogicalTypes, "UNKNOWN"): their
 //! levels, no value behind them, and statistics of the number of nulls alone.
+use crate::shapes::{leaf, options};
 use columns_array::ArrayBox;
 use columns_base::{A, Error, PhysicalType, Result, V};
 use columns_core::{Bitmap, DataType, OffsetsBuffer};
 use columns_leaf::NullArray;
 use levels::{ListNested, Nested};
 use pq_pages::{DataPage, Page};
-use pq_tree::{
-    CompressionOptions, DataPageHeader, Encoding, FieldInfo, PrimitiveType, Repetition, Statistics,
-    Version,
-};
+use pq_tree::{DataPageHeader, Encoding, Repetition, Statistics, Version};
 use std::alloc::Global;
 use write_pages::{PageIter, WriteOptions, array_to_pages};
 
@@ -80,26 +78,12 @@ const CASES: &[Case] = &[
     },
 ];
 
-fn options(version: Version, write_statistics: bool) -> WriteOptions {
+// How pages of nulls are written.
+fn nulls_by(version: Version, write_statistics: bool) -> WriteOptions {
     WriteOptions {
         write_statistics,
-        version,
-        compression: CompressionOptions::Uncompressed,
-        data_pagesize_limit: None,
+        ..options(version)
     }
-}
-
-fn leaf(alloc: Global, repetition: Repetition) -> Result<PrimitiveType> {
-    Ok(PrimitiveType {
-        field_info: FieldInfo {
-            name: String::from_str(alloc, "x")?,
-            repetition,
-            id: None,
-        },
-        logical_type: None,
-        converted_type: None,
-        physical_type: PhysicalType::Int32,
-    })
 }
 
 fn nulls(alloc: Global, count: usize) -> Result<ArrayBox> {
@@ -154,7 +138,7 @@ fn pages(
     if path.len() > 128 {
         return Err(Error::InvalidArgumentError(A::A8));
     }
-    let type_ = leaf(alloc, repetition)?;
+    let type_ = leaf(alloc, repetition, PhysicalType::Int32)?;
     array_to_pages(alloc, &nulls(alloc, count)?, type_, path, options, encoding)
 }
 
@@ -188,7 +172,7 @@ fn counts(page: &DataPage, is_wanted: bool, values: i32) -> bool {
 // Whether the only page is that of the case, in PLAIN whatever is asked for.
 fn is_written(alloc: Global, case: &Case, is_wanted: bool) -> Result<bool> {
     let (path, count) = path_to(alloc, case.place)?;
-    let options = options(case.version, is_wanted);
+    let options = nulls_by(case.version, is_wanted);
     let mut pages = pages(
         alloc,
         count,
@@ -224,7 +208,7 @@ fn nulls_alone_are_written(rt: HostRuntime) -> Result<()> {
 // Lists of these offsets over required items.
 fn required(alloc: Global, offsets: &[i32], items: usize) -> Result<PageIter> {
     let path = lists(alloc, offsets, None, false, items)?;
-    let options = options(Version::V2, true);
+    let options = options(Version::V2);
     pages(
         alloc,
         items,
@@ -250,7 +234,7 @@ fn one_page(alloc: Global, rows: usize) -> Result<PageIter> {
     path.push(Nested::Primitive(None, true, rows))?;
     let options = WriteOptions {
         data_pagesize_limit: Some(2_000_000_000),
-        ..options(Version::V2, true)
+        ..options(Version::V2)
     };
     pages(
         alloc,

@@ -1,10 +1,12 @@
 //! Three slots of a leaf, the second of them null, flat, in a list and in a struct: the bytes of their pages, worked by hand (Parquet format, "Data Pages",
 //! "Nested Encoding"; Encodings, "Run Length Encoding / Bit-Packing Hybrid").
+ghost use Rattle.std.specs.Prelude.{◌≡◌, ◌≤◌, length, IfOk};
+
 use columns_array::ArrayBox;
 use columns_base::{A, Error, PhysicalType, Result};
 use columns_core::{Bitmap, OffsetsBuffer};
 use levels::{ListNested, Nested};
-use pq_pages::Page;
+use pq_pages::{DataPage, Page};
 use pq_tree::{
     CompressionOptions, DataPageHeader, Encoding, FieldInfo, PrimitiveType, Repetition, Statistics,
     Version,
@@ -51,7 +53,8 @@ fn nulls(shape: Shape) -> i64 {
     }
 }
 
-fn path(alloc: Global, shape: Shape) -> Result<Vec<Nested>> {
+// The parts of the shape.
+fn parts(alloc: Global, shape: Shape) -> Result<Vec<Nested>> {
     let mut path = Vec::new(alloc);
     match shape {
         Shape::Flat => {}
@@ -68,18 +71,50 @@ fn path(alloc: Global, shape: Shape) -> Result<Vec<Nested>> {
     Ok(path)
 }
 
-/// An optional leaf of this physical type.
-pub fn leaf(alloc: Global, physical_type: PhysicalType) -> Result<PrimitiveType> {
+/// The path of a column of the shape.
+pub fn path(alloc: Global, shape: Shape) -> Result<Vec<Nested>>
+    ensures { IfOk result (λ path. length path.items ≤ 128) }
+{
+    let path = parts(alloc, shape)?;
+    // a path of a schema is no deeper
+    if path.len() > 128 {
+        return Err(Error::InvalidArgumentError(A::A8));
+    }
+    Ok(path)
+}
+
+/// A leaf of this physical type.
+pub fn leaf(
+    alloc: Global,
+    repetition: Repetition,
+    physical_type: PhysicalType,
+) -> Result<PrimitiveType>
+    ensures { IfOk result (λ type_. type_.physical_type ≡ physical_type) }
+{
     Ok(PrimitiveType {
         field_info: FieldInfo {
             name: String::from_str(alloc, "x")?,
-            repetition: Repetition::Optional,
+            repetition,
             id: None,
         },
         logical_type: None,
         converted_type: None,
         physical_type,
     })
+}
+
+/// An optional one.
+pub fn optional(alloc: Global, physical_type: PhysicalType) -> Result<PrimitiveType>
+    ensures { IfOk result (λ type_. type_.physical_type ≡ physical_type) }
+{
+    leaf(alloc, Repetition::Optional, physical_type)
+}
+
+/// A required one.
+pub fn required(alloc: Global, physical_type: PhysicalType) -> Result<PrimitiveType>
+    ensures { IfOk result (λ type_. type_.physical_type ≡ physical_type) }
+{
+    leaf(alloc, Repetition::Required, physical_type)
 }
 
 /// Pages with statistics.
@@ -102,11 +137,7 @@ fn pages(
     encoding: Encoding,
 ) -> Result<PageIter> {
     let path = path(alloc, shape)?;
-    // a path of a schema is no deeper
-    if path.len() > 128 {
-        return Err(Error::InvalidArgumentError(A::A8));
-    }
-    let type_ = leaf(alloc, physical_type)?;
+    let type_ = optional(alloc, physical_type)?;
     array_to_pages(alloc, array, type_, &path, options(version), encoding)
 }
 
@@ -157,10 +188,10 @@ fn is_text(text: &Option<Vec<u8>>, wanted: &[u8]) -> bool {
     }
 }
 
-fn are_stated(stated: &Option<Statistics>, shape: Shape, wanted: Wanted<'_>) -> bool {
+fn are_stated(stated: &Option<Statistics>, nulls: i64, wanted: Wanted<'_>) -> bool {
     match stated {
         Some(stated) => {
-            stated.null_count == Some(nulls(shape))
+            stated.null_count == Some(nulls)
                 && is_text(&stated.min_value, wanted.least)
                 && is_text(&stated.max_value, wanted.greatest)
         }
@@ -168,12 +199,36 @@ fn are_stated(stated: &Option<Statistics>, shape: Shape, wanted: Wanted<'_>) -> 
     }
 }
 
-// Whether the header states as many nulls as the shape has, and the least and the greatest value.
-fn states(header: &DataPageHeader, shape: Shape, wanted: Wanted<'_>) -> bool {
+// Whether the header states so many nulls, and the least and the greatest value.
+fn states(header: &DataPageHeader, nulls: i64, wanted: Wanted<'_>) -> bool {
     match header {
-        DataPageHeader::V1(header) => are_stated(&header.statistics, shape, wanted),
-        DataPageHeader::V2(header) => are_stated(&header.statistics, shape, wanted),
+        DataPageHeader::V1(header) => are_stated(&header.statistics, nulls, wanted),
+        DataPageHeader::V2(header) => are_stated(&header.statistics, nulls, wanted),
     }
+}
+
+/// Whether the page has the wanted bytes behind the levels of the shape, and states what is wanted and so many nulls.
+pub fn states_so(
+    alloc: Global,
+    page: &DataPage,
+    nulls: i64,
+    wanted: Wanted<'_>,
+    shape: Shape,
+    version: Version,
+) -> Result<bool> {
+    let body = body(alloc, wanted.plain, shape, version)?;
+    Ok(page.buffer() == body.as_slice() && states(page.header(), nulls, wanted))
+}
+
+/// Whether the page has the wanted bytes behind the levels of the shape, and states what is wanted and as many nulls as the shape has.
+pub fn is_page(
+    alloc: Global,
+    page: &DataPage,
+    wanted: Wanted<'_>,
+    shape: Shape,
+    version: Version,
+) -> Result<bool> {
+    states_so(alloc, page, nulls(shape), wanted, shape, version)
 }
 
 /// Whether the next page is the last one, has the wanted bytes behind its levels, and it and the column state what is wanted.
@@ -184,14 +239,10 @@ pub fn ends_so(
     shape: Shape,
     version: Version,
 ) -> Result<bool> {
-    let column = are_stated(pages.statistics(), shape, wanted);
-    let body = body(alloc, wanted.plain, shape, version)?;
+    let column = are_stated(pages.statistics(), nulls(shape), wanted);
     match pages.next_page() {
         Some(Ok(Page::Data(page))) => Ok(
-            column
-                && page.buffer() == body.as_slice()
-                && states(page.header(), shape, wanted)
-                && pages.next_page().is_none(),
+            column && pages.next_page().is_none() && is_page(alloc, &page, wanted, shape, version)?,
         ),
         Some(Err(error)) => Err(error),
         _ => Ok(false),

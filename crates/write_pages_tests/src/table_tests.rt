@@ -5,6 +5,7 @@ use crate::shapes::{Shape, Wanted, is_unserved, is_written, is_written_flat};
 use columns_array::ArrayBox;
 use columns_base::{PhysicalType, Result};
 use columns_core::{DataType, DaysMs, IntervalUnit, TimeUnit};
+use columns_native::NativeArray;
 use std::alloc::Global;
 
 // The bounds are the values themselves, the first of them the least or the greatest.
@@ -32,6 +33,44 @@ fn without_order(plain: &[u8]) -> Wanted<'_> {
     }
 }
 
+// Whether the first of these numbers, null and the last are written as wanted in each shape.
+fn are_written<T: NativeArray>(
+    alloc: Global,
+    data_type: DataType,
+    values: &[T],
+    physical_type: PhysicalType,
+    wanted: Wanted<'_>,
+) -> Result<bool> {
+    let array = boxed(alloc, data_type, values)?;
+    is_written(alloc, &array, physical_type, wanted)
+}
+
+// The same of a type that does not nest: whether they are written flat, and refused in lists and in structs.
+fn are_written_flat<T: NativeArray>(
+    alloc: Global,
+    data_type: DataType,
+    values: &[T],
+    physical_type: PhysicalType,
+    wanted: Wanted<'_>,
+) -> Result<bool> {
+    let array = boxed(alloc, data_type, values)?;
+    is_flat_alone(alloc, &array, physical_type, wanted)
+}
+
+fn is_flat_alone(
+    alloc: Global,
+    array: &ArrayBox,
+    physical_type: PhysicalType,
+    wanted: Wanted<'_>,
+) -> Result<bool> {
+    if !is_unserved(alloc, array, physical_type, Shape::List)
+        || !is_unserved(alloc, array, physical_type, Shape::Struct)
+    {
+        return Ok(false);
+    }
+    is_written_flat(alloc, array, physical_type, wanted)
+}
+
 // Bit 0 is the first value.
 #[test]
 fn truth_values(rt: HostRuntime) -> Result<()> {
@@ -50,25 +89,23 @@ fn truth_values(rt: HostRuntime) -> Result<()> {
 #[test]
 fn small_numbers_with_a_sign(rt: HostRuntime) -> Result<()> {
     let alloc = rt.alloc();
+    let int32 = PhysicalType::Int32;
     let wanted = ascending(b"\xff\xff\xff\xff\x05\x00\x00\x00", 4);
-    let int8 = boxed(alloc, DataType::Int8, &[-1i8, 9, 5])?;
-    let int16 = boxed(alloc, DataType::Int16, &[-1i16, 9, 5])?;
-    let int32 = boxed(alloc, DataType::Int32, &[-1i32, 9, 5])?;
-    let date = boxed(alloc, DataType::Date32, &[-1i32, 9, 5])?;
-    assert!(rt; is_written(alloc, &int8, PhysicalType::Int32, wanted)?);
-    assert!(rt; is_written(alloc, &int16, PhysicalType::Int32, wanted)?);
-    assert!(rt; is_written(alloc, &int32, PhysicalType::Int32, wanted)?);
-    assert!(rt; is_written(alloc, &date, PhysicalType::Int32, wanted)?);
+    assert!(rt; are_written(alloc, DataType::Int8, &[-1i8, 9, 5], int32, wanted)?);
+    assert!(rt; are_written(alloc, DataType::Int16, &[-1i16, 9, 5], int32, wanted)?);
+    assert!(rt; are_written(alloc, DataType::Int32, &[-1i32, 9, 5], int32, wanted)?);
+    assert!(rt; are_written(alloc, DataType::Date32, &[-1i32, 9, 5], int32, wanted)?);
     Ok(())
 }
 
 #[test]
 fn times_of_seconds_and_milliseconds(rt: HostRuntime) -> Result<()> {
     let alloc = rt.alloc();
+    let int32 = PhysicalType::Int32;
     let wanted = descending(b"\x00\x01\x00\x00\x05\x00\x00\x00", 4);
     for unit in [TimeUnit::Second, TimeUnit::Millisecond] {
-        let array = boxed(alloc, DataType::Time32(unit), &[256i32, 9, 5])?;
-        assert!(rt; is_written(alloc, &array, PhysicalType::Int32, wanted)?);
+        let data_type = DataType::Time32(unit);
+        assert!(rt; are_written(alloc, data_type, &[256i32, 9, 5], int32, wanted)?);
     }
     Ok(())
 }
@@ -77,17 +114,25 @@ fn times_of_seconds_and_milliseconds(rt: HostRuntime) -> Result<()> {
 #[test]
 fn small_numbers_without_a_sign(rt: HostRuntime) -> Result<()> {
     let alloc = rt.alloc();
-    let uint8 = boxed(alloc, DataType::UInt8, &[255u8, 9, 1])?;
-    let uint16 = boxed(alloc, DataType::UInt16, &[65_535u16, 9, 1])?;
-    let uint32 = boxed(alloc, DataType::UInt32, &[4_294_967_295u32, 9, 1])?;
+    let int32 = PhysicalType::Int32;
     let of_uint8 = descending(b"\xff\x00\x00\x00\x01\x00\x00\x00", 4);
     let of_uint16 = descending(b"\xff\xff\x00\x00\x01\x00\x00\x00", 4);
     let of_uint32 = descending(b"\xff\xff\xff\xff\x01\x00\x00\x00", 4);
     let wide = b"\xff\xff\xff\xff\x00\x00\x00\x00\x01\x00\x00\x00\x00\x00\x00\x00";
-    assert!(rt; is_written(alloc, &uint8, PhysicalType::Int32, of_uint8)?);
-    assert!(rt; is_written(alloc, &uint16, PhysicalType::Int32, of_uint16)?);
-    assert!(rt; is_written(alloc, &uint32, PhysicalType::Int32, of_uint32)?);
-    assert!(rt; is_written(alloc, &uint32, PhysicalType::Int64, descending(wide, 8))?);
+    let values = [4_294_967_295u32, 9, 1];
+    assert!(rt; are_written(alloc, DataType::UInt8, &[255u8, 9, 1], int32, of_uint8)?);
+    assert!(rt;
+        are_written(
+            alloc,
+            DataType::UInt16,
+            &[65_535u16, 9, 1],
+            int32,
+            of_uint16
+        )?
+    );
+    assert!(rt; are_written(alloc, DataType::UInt32, &values, int32, of_uint32)?);
+    let int64 = PhysicalType::Int64;
+    assert!(rt; are_written(alloc, DataType::UInt32, &values, int64, descending(wide, 8))?);
     Ok(())
 }
 
@@ -95,24 +140,23 @@ fn small_numbers_without_a_sign(rt: HostRuntime) -> Result<()> {
 #[test]
 fn wide_numbers_with_a_sign(rt: HostRuntime) -> Result<()> {
     let alloc = rt.alloc();
+    let int64 = PhysicalType::Int64;
+    let values = [-2i64, 9, 3];
     let wanted = ascending(
         b"\xfe\xff\xff\xff\xff\xff\xff\xff\x03\x00\x00\x00\x00\x00\x00\x00",
         8,
     );
-    let int64 = boxed(alloc, DataType::Int64, &[-2i64, 9, 3])?;
-    let date = boxed(alloc, DataType::Date64, &[-2i64, 9, 3])?;
-    assert!(rt; is_written(alloc, &int64, PhysicalType::Int64, wanted)?);
-    assert!(rt; is_written(alloc, &date, PhysicalType::Int64, wanted)?);
+    assert!(rt; are_written(alloc, DataType::Int64, &values, int64, wanted)?);
+    assert!(rt; are_written(alloc, DataType::Date64, &values, int64, wanted)?);
     for unit in [
         TimeUnit::Second,
         TimeUnit::Millisecond,
         TimeUnit::Microsecond,
         TimeUnit::Nanosecond,
     ] {
-        let duration = boxed(alloc, DataType::Duration(unit), &[-2i64, 9, 3])?;
-        let timestamp = boxed(alloc, DataType::Timestamp(unit, None), &[-2i64, 9, 3])?;
-        assert!(rt; is_written(alloc, &duration, PhysicalType::Int64, wanted)?);
-        assert!(rt; is_written(alloc, &timestamp, PhysicalType::Int64, wanted)?);
+        assert!(rt; are_written(alloc, DataType::Duration(unit), &values, int64, wanted)?);
+        let timestamp = DataType::Timestamp(unit, None);
+        assert!(rt; are_written(alloc, timestamp, &values, int64, wanted)?);
     }
     Ok(())
 }
@@ -120,13 +164,14 @@ fn wide_numbers_with_a_sign(rt: HostRuntime) -> Result<()> {
 #[test]
 fn times_of_microseconds_and_nanoseconds(rt: HostRuntime) -> Result<()> {
     let alloc = rt.alloc();
+    let values = [2i64, 9, 4_294_967_296];
     let wanted = ascending(
         b"\x02\x00\x00\x00\x00\x00\x00\x00\x00\x00\x00\x00\x01\x00\x00\x00",
         8,
     );
     for unit in [TimeUnit::Microsecond, TimeUnit::Nanosecond] {
-        let array = boxed(alloc, DataType::Time64(unit), &[2i64, 9, 4_294_967_296])?;
-        assert!(rt; is_written(alloc, &array, PhysicalType::Int64, wanted)?);
+        let data_type = DataType::Time64(unit);
+        assert!(rt; are_written(alloc, data_type, &values, PhysicalType::Int64, wanted)?);
     }
     Ok(())
 }
@@ -135,34 +180,40 @@ fn times_of_microseconds_and_nanoseconds(rt: HostRuntime) -> Result<()> {
 #[test]
 fn wide_numbers_without_a_sign(rt: HostRuntime) -> Result<()> {
     let alloc = rt.alloc();
-    let plain = b"\xff\xff\xff\xff\xff\xff\xff\xff\x01\x00\x00\x00\x00\x00\x00\x00";
-    let array = boxed(
-        alloc,
-        DataType::UInt64,
-        &[18_446_744_073_709_551_615u64, 9, 1],
-    )?;
-    assert!(rt; is_written(alloc, &array, PhysicalType::Int64, descending(plain, 8))?);
+    let values = [18_446_744_073_709_551_615u64, 9, 1];
+    let wanted = descending(
+        b"\xff\xff\xff\xff\xff\xff\xff\xff\x01\x00\x00\x00\x00\x00\x00\x00",
+        8,
+    );
+    assert!(rt;
+        are_written(
+            alloc,
+            DataType::UInt64,
+            &values,
+            PhysicalType::Int64,
+            wanted
+        )?
+    );
     Ok(())
 }
 
-// Each behind its length. The front of a string goes before it.
-#[test]
-fn texts_and_byte_strings(rt: HostRuntime) -> Result<()> {
-    let alloc = rt.alloc();
+// Whether `ab`, null and `a` are written so, each behind its length. The front of a string goes before it.
+fn is_string(alloc: Global, array: ArrayBox) -> Result<bool> {
     let wanted = Wanted {
         plain: b"\x02\x00\x00\x00ab\x01\x00\x00\x00a",
         least: b"a",
         greatest: b"ab",
     };
-    let arrays = [
-        ArrayBox::Utf8(texts(alloc)?),
-        ArrayBox::LargeUtf8(large_texts(alloc)?),
-        ArrayBox::Binary(strings(alloc)?),
-        ArrayBox::LargeBinary(large_strings(alloc)?),
-    ];
-    for array in &arrays {
-        assert!(rt; is_written(alloc, array, PhysicalType::ByteArray, wanted)?);
-    }
+    is_written(alloc, &array, PhysicalType::ByteArray, wanted)
+}
+
+#[test]
+fn texts_and_byte_strings(rt: HostRuntime) -> Result<()> {
+    let alloc = rt.alloc();
+    assert!(rt; is_string(alloc, ArrayBox::Utf8(texts(alloc)?))?);
+    assert!(rt; is_string(alloc, ArrayBox::LargeUtf8(large_texts(alloc)?))?);
+    assert!(rt; is_string(alloc, ArrayBox::Binary(strings(alloc)?))?);
+    assert!(rt; is_string(alloc, ArrayBox::LargeBinary(large_strings(alloc)?))?);
     Ok(())
 }
 
@@ -171,64 +222,61 @@ fn byte_strings_of_one_size(rt: HostRuntime) -> Result<()> {
     let alloc = rt.alloc();
     let array = ArrayBox::FixedSizeBinary(pairs(alloc, b"cd..ab")?);
     let physical_type = PhysicalType::FixedLenByteArray(2);
-    assert!(rt; is_written_flat(alloc, &array, physical_type, descending(b"cdab", 2))?);
-    assert!(rt; is_unserved(alloc, &array, physical_type, Shape::List));
-    assert!(rt; is_unserved(alloc, &array, physical_type, Shape::Struct));
+    assert!(rt; is_flat_alone(alloc, &array, physical_type, descending(b"cdab", 2))?);
     Ok(())
 }
 
-// 2.56, null and -0.01: as numbers the lowest byte first, as byte strings the highest.
+// Whether 2.56, null and -0.01 are written so.
+fn are_decimals(alloc: Global, physical_type: PhysicalType, plain: &[u8]) -> Result<bool> {
+    let wanted = descending(plain, plain.len() / 2);
+    let data_type = DataType::Decimal(9, 2);
+    are_written_flat(alloc, data_type, &[256i128, 9, -1], physical_type, wanted)
+}
+
+// As numbers the lowest byte first, as byte strings the highest.
 #[test]
 fn decimals(rt: HostRuntime) -> Result<()> {
     let alloc = rt.alloc();
-    let array = boxed(alloc, DataType::Decimal(9, 2), &[256i128, 9, -1])?;
-    let int32 = descending(b"\x00\x01\x00\x00\xff\xff\xff\xff", 4);
-    let int64 = descending(
-        b"\x00\x01\x00\x00\x00\x00\x00\x00\xff\xff\xff\xff\xff\xff\xff\xff",
-        8,
-    );
-    let bytes = PhysicalType::FixedLenByteArray(3);
-    assert!(rt; is_written_flat(alloc, &array, PhysicalType::Int32, int32)?);
-    assert!(rt; is_written_flat(alloc, &array, PhysicalType::Int64, int64)?);
-    assert!(rt;
-        is_written_flat(
-            alloc,
-            &array,
-            bytes,
-            descending(b"\x00\x01\x00\xff\xff\xff", 3)
-        )?
-    );
-    assert!(rt; is_unserved(alloc, &array, PhysicalType::Int32, Shape::List));
-    assert!(rt; is_unserved(alloc, &array, PhysicalType::Int32, Shape::Struct));
+    let int32 = b"\x00\x01\x00\x00\xff\xff\xff\xff";
+    let int64 = b"\x00\x01\x00\x00\x00\x00\x00\x00\xff\xff\xff\xff\xff\xff\xff\xff";
+    let bytes = b"\x00\x01\x00\xff\xff\xff";
+    assert!(rt; are_decimals(alloc, PhysicalType::Int32, int32)?);
+    assert!(rt; are_decimals(alloc, PhysicalType::Int64, int64)?);
+    assert!(rt; are_decimals(alloc, PhysicalType::FixedLenByteArray(3), bytes)?);
     Ok(())
 }
 
-// Months, days and milliseconds, each in four bytes.
+// Whether an interval, null and another are written so: months, days and milliseconds, each in four bytes.
+fn are_intervals<T: NativeArray>(
+    alloc: Global,
+    unit: IntervalUnit,
+    values: &[T],
+    plain: &[u8],
+) -> Result<bool> {
+    let physical_type = PhysicalType::FixedLenByteArray(12);
+    let wanted = without_order(plain);
+    are_written_flat(
+        alloc,
+        DataType::Interval(unit),
+        values,
+        physical_type,
+        wanted,
+    )
+}
+
 #[test]
 fn intervals(rt: HostRuntime) -> Result<()> {
     let alloc = rt.alloc();
-    let physical_type = PhysicalType::FixedLenByteArray(12);
-    let months = boxed(
-        alloc,
-        DataType::Interval(IntervalUnit::YearMonth),
-        &[14i32, 9, -1],
-    )?;
     let of_months =
         b"\x0e\x00\x00\x00\x00\x00\x00\x00\x00\x00\x00\x00\xff\xff\xff\xff\x00\x00\x00\x00\x00\x00\x00\x00";
     let two_days = DaysMs {
         days: 2,
         milliseconds: -1,
     };
-    let days = boxed(
-        alloc,
-        DataType::Interval(IntervalUnit::DayTime),
-        &[two_days, two_days, two_days],
-    )?;
     let of_days =
         b"\x00\x00\x00\x00\x02\x00\x00\x00\xff\xff\xff\xff\x00\x00\x00\x00\x02\x00\x00\x00\xff\xff\xff\xff";
-    assert!(rt; is_written_flat(alloc, &months, physical_type, without_order(of_months))?);
-    assert!(rt; is_written_flat(alloc, &days, physical_type, without_order(of_days))?);
-    assert!(rt; is_unserved(alloc, &months, physical_type, Shape::List));
-    assert!(rt; is_unserved(alloc, &days, physical_type, Shape::Struct));
+    let days = [two_days, two_days, two_days];
+    assert!(rt; are_intervals(alloc, IntervalUnit::YearMonth, &[14i32, 9, -1], of_months)?);
+    assert!(rt; are_intervals(alloc, IntervalUnit::DayTime, &days, of_days)?);
     Ok(())
 }

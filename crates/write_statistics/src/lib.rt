@@ -5,8 +5,6 @@
 mod bytes;
 mod extremes;
 mod numbers;
-#[cfg(test)]
-mod tests;
 
 pub use bytes::ord_binary;
 pub use numbers::build_statistics;

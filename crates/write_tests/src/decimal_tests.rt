@@ -1,27 +1,17 @@
 //! Pages of decimals by hand: their bytes, their bounds, and what is refused (Parquet format, LogicalTypes, "DECIMAL"; Encodings, "Plain").
+use crate::one_column::{self, are, optional};
 use columns_array::ArrayBox;
 use columns_base::{A, Error, PhysicalType, Result};
 use columns_core::{Bitmap, DataType};
 use columns_leaf::PrimitiveArray;
-use levels::Nested;
-use pq_pages::Page;
-use pq_tree::{
-    CompressionOptions, Encoding, FieldInfo, PrimitiveType, Repetition, Statistics, Version,
-};
+use pq_tree::Repetition;
 use std::alloc::Global;
-use write_pages::{PageIter, WriteOptions, array_to_pages};
+use write_pages::PageIter;
 
 // 2^71, one more than nine bytes hold, and the least number that they hold.
 const PAST: i128 = 2_361_183_241_434_822_606_848;
 
 const LEAST: i128 = -2_361_183_241_434_822_606_848;
-
-const OPTIONS: WriteOptions = WriteOptions {
-    write_statistics: true,
-    version: Version::V2,
-    compression: CompressionOptions::Uncompressed,
-    data_pagesize_limit: None,
-};
 
 fn decimals(
     alloc: Global,
@@ -43,61 +33,8 @@ fn pages(
     there: &[bool],
     physical_type: PhysicalType,
 ) -> Result<PageIter> {
-    let mask = Bitmap::from_slice(alloc, there)?;
-    let mut path = Vec::new(alloc);
-    path.push(Nested::Primitive(Some(mask), true, there.len()))?;
-    // a path of a schema is no deeper
-    if path.len() > 128 {
-        return Err(Error::InvalidArgumentError(A::A8));
-    }
-    let type_ = PrimitiveType {
-        field_info: FieldInfo {
-            name: String::from_str(alloc, "x")?,
-            repetition: Repetition::Optional,
-            id: None,
-        },
-        logical_type: None,
-        converted_type: None,
-        physical_type,
-    };
-    array_to_pages(alloc, array, type_, &path, OPTIONS, Encoding::Plain)
-}
-
-// Whether so many nulls are stated, and these bounds.
-fn are_stated(stated: &Option<Statistics>, nulls: i64, least: &[u8], greatest: &[u8]) -> bool {
-    match stated {
-        Some(stated) => {
-            stated.null_count == Some(nulls)
-                && is_text(&stated.min_value, least)
-                && is_text(&stated.max_value, greatest)
-        }
-        None => false,
-    }
-}
-
-fn is_text(text: &Option<Vec<u8>>, wanted: &[u8]) -> bool {
-    match text {
-        Some(text) => text.as_slice() == wanted,
-        None => false,
-    }
-}
-
-// Whether the only page has this body, and the column these statistics.
-fn are(
-    mut pages: PageIter,
-    body: &[u8],
-    nulls: i64,
-    least: &[u8],
-    greatest: &[u8],
-) -> Result<bool> {
-    let column = are_stated(pages.statistics(), nulls, least, greatest);
-    match pages.next_page() {
-        Some(Ok(Page::Data(page))) => {
-            Ok(column && page.buffer() == body && pages.next_page().is_none())
-        }
-        Some(Err(error)) => Err(error),
-        _ => Ok(false),
-    }
+    let path = optional(alloc, there)?;
+    one_column::pages(alloc, array, Repetition::Optional, physical_type, &path)
 }
 
 // 123.45 and -3.00, the lowest byte first, and between them a null whose number does not count.

@@ -1,22 +1,17 @@
 //! Pages of deltas (Parquet format, Encodings, "Delta Encoding" and "Delta-length byte array"), by hand: blocks of 128 in 4 whole miniblocks of the
 //! least widths.
+use crate::fields;
+use crate::one_column::leaf;
+use crate::options::V2;
 use columns_array::ArrayBox;
 use columns_base::{A, Error, N, PhysicalType, Result};
 use columns_core::{Bitmap, DataType, OffsetsBuffer};
 use columns_leaf::{PrimitiveArray, Utf8Array};
 use levels::Nested;
 use pq_pages::Page;
-use pq_tree::{CompressionOptions, Encoding, FieldInfo, PrimitiveType, Repetition, Version};
+use pq_tree::{Encoding, PrimitiveType, Repetition};
 use std::alloc::Global;
-use write_pages::{PageIter, WriteOptions, array_to_pages};
-
-/// Pages of version 2, whose levels stand without their lengths.
-const OPTIONS: WriteOptions = WriteOptions {
-    write_statistics: false,
-    version: Version::V2,
-    compression: CompressionOptions::Uncompressed,
-    data_pagesize_limit: None,
-};
+use write_pages::{PageIter, array_to_pages};
 
 /// A first number 7 and the differences -2, -2, -2, 1, 1, 1, 1, of which the least is -2: 0, 0, 0, 3, 3, 3, 3 in two bits each.
 const NUMBERS: &[u8] = &[
@@ -30,26 +25,8 @@ const TEXTS: &[u8] =
 /// Definition levels 1, 0, 1, 0, 1, 1 in a packed run, and 10, 20, 30, 40, whose differences are all 10.
 const SOME: &[u8] = &[3, 0b11_0101, 0x80, 1, 4, 4, 0x14, 0x14, 0, 0, 0, 0];
 
-fn leaf(
-    alloc: Global,
-    physical_type: PhysicalType,
-    repetition: Repetition,
-) -> Result<PrimitiveType> {
-    Ok(PrimitiveType {
-        field_info: FieldInfo {
-            name: String::from_str(alloc, "x")?,
-            repetition,
-            id: None,
-        },
-        logical_type: None,
-        converted_type: None,
-        physical_type,
-    })
-}
-
 fn numbers(alloc: Global) -> Result<ArrayBox> {
-    let values = [7, 5, 3, 1, 2, 3, 4, 5].as_slice().to_vec(alloc)?;
-    Ok(ArrayBox::Int32(PrimitiveArray::try_new(alloc, DataType::Int32, values, None)?))
+    fields::numbers(alloc, &[7, 5, 3, 1, 2, 3, 4, 5], None)
 }
 
 // 10, null, 20, null, 30, 40. Beneath the nulls stand other numbers.
@@ -90,7 +67,7 @@ fn pages(
     if path.len() > 128 {
         return Err(Error::InvalidArgumentError(A::A8));
     }
-    array_to_pages(alloc, array, type_, path, OPTIONS, encoding)
+    array_to_pages(alloc, array, type_, path, V2, encoding)
 }
 
 // Whether the next page has this encoding and this body.
@@ -106,7 +83,7 @@ fn page_is(pages: &mut PageIter, encoding: Encoding, body: &[u8]) -> Result<bool
 fn numbers_are_written(rt: HostRuntime) -> Result<()> {
     let alloc = rt.alloc();
     let encoding = Encoding::DeltaBinaryPacked;
-    let type_ = leaf(alloc, PhysicalType::Int32, Repetition::Required)?;
+    let type_ = leaf(alloc, Repetition::Required, PhysicalType::Int32)?;
     let path = flat(alloc, &[], 8)?;
     let mut pages = pages(alloc, &numbers(alloc)?, type_, &path, encoding)?;
     assert!(rt; pages.encoding() == encoding);
@@ -118,7 +95,7 @@ fn numbers_are_written(rt: HostRuntime) -> Result<()> {
 fn texts_are_written(rt: HostRuntime) -> Result<()> {
     let alloc = rt.alloc();
     let encoding = Encoding::DeltaLengthByteArray;
-    let type_ = leaf(alloc, PhysicalType::ByteArray, Repetition::Required)?;
+    let type_ = leaf(alloc, Repetition::Required, PhysicalType::ByteArray)?;
     let path = flat(alloc, &[], 4)?;
     let mut pages = pages(alloc, &texts(alloc)?, type_, &path, encoding)?;
     assert!(rt; page_is(&mut pages, encoding, TEXTS)?);
@@ -129,7 +106,7 @@ fn texts_are_written(rt: HostRuntime) -> Result<()> {
 fn only_numbers_that_are_there_are_written(rt: HostRuntime) -> Result<()> {
     let alloc = rt.alloc();
     let encoding = Encoding::DeltaBinaryPacked;
-    let type_ = leaf(alloc, PhysicalType::Int64, Repetition::Optional)?;
+    let type_ = leaf(alloc, Repetition::Optional, PhysicalType::Int64)?;
     let path = flat(alloc, &THERE, 6)?;
     let mut pages = pages(alloc, &optional_numbers(alloc)?, type_, &path, encoding)?;
     assert!(rt; page_is(&mut pages, encoding, SOME)?);
@@ -137,7 +114,7 @@ fn only_numbers_that_are_there_are_written(rt: HostRuntime) -> Result<()> {
 }
 
 fn is_refused(alloc: Global, encoding: Encoding) -> Result<bool> {
-    let type_ = leaf(alloc, PhysicalType::Int32, Repetition::Required)?;
+    let type_ = leaf(alloc, Repetition::Required, PhysicalType::Int32)?;
     let path = flat(alloc, &[], 8)?;
     let refused = pages(alloc, &numbers(alloc)?, type_, &path, encoding);
     Ok(refused.is_err_and(|e| e == Error::NotYetImplemented(N::N4)))
@@ -156,12 +133,11 @@ fn numbers_have_no_other_encoding(rt: HostRuntime) -> Result<()> {
 #[test]
 fn what_is_nested_stays_plain(rt: HostRuntime) -> Result<()> {
     let alloc = rt.alloc();
-    let values = [1, 2].as_slice().to_vec(alloc)?;
-    let array = ArrayBox::Int32(PrimitiveArray::try_new(alloc, DataType::Int32, values, None)?);
+    let array = fields::numbers(alloc, &[1, 2], None)?;
     let mut path = Vec::new(alloc);
     path.push(Nested::Struct(Some(Bitmap::from_slice(alloc, &[true, false])?), true, 2))?;
     path.push(Nested::Primitive(None, false, 2))?;
-    let type_ = leaf(alloc, PhysicalType::Int32, Repetition::Required)?;
+    let type_ = leaf(alloc, Repetition::Required, PhysicalType::Int32)?;
     let mut pages = pages(alloc, &array, type_, &path, Encoding::DeltaBinaryPacked)?;
     assert!(rt; pages.encoding() == Encoding::Plain);
     assert!(rt; page_is(&mut pages, Encoding::Plain, &[3, 0b01, 1, 0, 0, 0])?);

@@ -1,53 +1,17 @@
 //! Pages of the leaf types by hand: their bytes, their nulls, and what is refused (Parquet format, "Types", LogicalTypes; Encodings, "Plain").
+use crate::one_column::{are, optional, pages};
 use columns_array::ArrayBox;
 use columns_base::{A, Error, N, PhysicalType, Result};
 use columns_core::{Bitmap, DataType, DaysMs, IntervalUnit};
 use columns_leaf::{FixedSizeBinaryArray, PrimitiveArray};
 use levels::Nested;
-use pq_pages::Page;
-use pq_tree::{
-    CompressionOptions, DataPageHeader, Encoding, FieldInfo, PrimitiveType, Repetition, Statistics,
-    Version,
-};
+use pq_tree::Repetition;
 use std::alloc::Global;
-use write_pages::{PageIter, WriteOptions, array_to_pages};
-
-const OPTIONS: WriteOptions = WriteOptions {
-    write_statistics: true,
-    version: Version::V2,
-    compression: CompressionOptions::Uncompressed,
-    data_pagesize_limit: None,
-};
-
-fn leaf(
-    alloc: Global,
-    repetition: Repetition,
-    physical_type: PhysicalType,
-) -> Result<PrimitiveType> {
-    Ok(PrimitiveType {
-        field_info: FieldInfo {
-            name: String::from_str(alloc, "x")?,
-            repetition,
-            id: None,
-        },
-        logical_type: None,
-        converted_type: None,
-        physical_type,
-    })
-}
 
 // The path of a required leaf.
 fn required(alloc: Global, rows: usize) -> Result<Vec<Nested>> {
     let mut path = Vec::new(alloc);
     path.push(Nested::Primitive(None, false, rows))?;
-    Ok(path)
-}
-
-// The path of an optional leaf with these nulls.
-fn optional(alloc: Global, there: &[bool]) -> Result<Vec<Nested>> {
-    let mask = Bitmap::from_slice(alloc, there)?;
-    let mut path = Vec::new(alloc);
-    path.push(Nested::Primitive(Some(mask), true, there.len()))?;
     Ok(path)
 }
 
@@ -57,58 +21,6 @@ fn in_struct(alloc: Global, rows: usize) -> Result<Vec<Nested>> {
     path.push(Nested::Struct(None, false, rows))?;
     path.push(Nested::Primitive(None, true, rows))?;
     Ok(path)
-}
-
-fn pages(
-    alloc: Global,
-    array: &ArrayBox,
-    repetition: Repetition,
-    physical_type: PhysicalType,
-    path: &[Nested],
-) -> Result<PageIter> {
-    // a path of a schema is no deeper
-    if path.len() > 128 {
-        return Err(Error::InvalidArgumentError(A::A8));
-    }
-    let type_ = leaf(alloc, repetition, physical_type)?;
-    array_to_pages(alloc, array, type_, path, OPTIONS, Encoding::Plain)
-}
-
-fn is_text(text: &Option<Vec<u8>>, wanted: &[u8]) -> bool {
-    match text {
-        Some(text) => !wanted.is_empty() && text.as_slice() == wanted,
-        None => wanted.is_empty(),
-    }
-}
-
-// Whether so many nulls are stated, and these bounds; no bounds where these are empty.
-fn are_stated(stated: &Option<Statistics>, nulls: i64, least: &[u8], greatest: &[u8]) -> bool {
-    match stated {
-        Some(stated) => {
-            stated.null_count == Some(nulls)
-                && is_text(&stated.min_value, least)
-                && is_text(&stated.max_value, greatest)
-        }
-        None => false,
-    }
-}
-
-// Whether the only page has this body, and the column these statistics.
-fn are(
-    mut pages: PageIter,
-    body: &[u8],
-    nulls: i64,
-    least: &[u8],
-    greatest: &[u8],
-) -> Result<bool> {
-    let column = are_stated(pages.statistics(), nulls, least, greatest);
-    match pages.next_page() {
-        Some(Ok(Page::Data(page))) => {
-            Ok(column && page.buffer() == body && pages.next_page().is_none())
-        }
-        Some(Err(error)) => Err(error),
-        _ => Ok(false),
-    }
 }
 
 fn fixed(alloc: Global, width: usize, bytes: &[u8], there: &[bool]) -> Result<ArrayBox> {

@@ -1,43 +1,16 @@
 //! Statistics of pages and of columns (Parquet format, parquet.thrift: `Statistics`), by hand.
+use crate::fields::numbers_in;
+use crate::one_column::{are_stated, optional, pages_by};
+use crate::options::STATED;
 use columns_array::ArrayBox;
-use columns_base::{A, Error, PhysicalType, Result};
+use columns_base::{PhysicalType, Result};
 use columns_core::{Bitmap, DataType, OffsetsBuffer};
 use columns_leaf::{PrimitiveArray, Utf8Array};
 use levels::Nested;
 use pq_pages::Page;
-use pq_tree::{
-    CompressionOptions, DataPageHeader, Encoding, FieldInfo, PrimitiveType, Repetition, Statistics,
-    Version,
-};
+use pq_tree::{DataPageHeader, Repetition};
 use std::alloc::Global;
-use write_pages::{PageIter, WriteOptions, array_to_pages};
-
-/// Pages of one row each, where their values have four bytes.
-const OPTIONS: WriteOptions = WriteOptions {
-    write_statistics: true,
-    version: Version::V2,
-    compression: CompressionOptions::Uncompressed,
-    data_pagesize_limit: Some(4),
-};
-
-fn leaf(alloc: Global, physical_type: PhysicalType) -> Result<PrimitiveType> {
-    Ok(PrimitiveType {
-        field_info: FieldInfo {
-            name: String::from_str(alloc, "x")?,
-            repetition: Repetition::Optional,
-            id: None,
-        },
-        logical_type: None,
-        converted_type: None,
-        physical_type,
-    })
-}
-
-fn numbers(alloc: Global, values: &[i32], there: &[bool]) -> Result<ArrayBox> {
-    let values = values.to_vec(alloc)?;
-    let mask = Bitmap::from_slice(alloc, there)?;
-    Ok(ArrayBox::Int32(PrimitiveArray::try_new(alloc, DataType::Int32, values, Some(mask))?))
-}
+use write_pages::{PageIter, WriteOptions};
 
 fn unsigned(alloc: Global, values: &[u32]) -> Result<ArrayBox> {
     let values = values.to_vec(alloc)?;
@@ -52,12 +25,26 @@ fn texts(alloc: Global) -> Result<ArrayBox> {
     Ok(ArrayBox::Utf8(Utf8Array::try_new(alloc, DataType::Utf8, offsets, values, Some(mask))?))
 }
 
-// The path of a leaf with these nulls.
-fn flat(alloc: Global, there: &[bool]) -> Result<Vec<Nested>> {
-    let mask = Bitmap::from_slice(alloc, there)?;
-    let mut path = Vec::new(alloc);
-    path.push(Nested::Primitive(Some(mask), true, there.len()))?;
-    Ok(path)
+// The pages of an optional leaf.
+fn pages(
+    alloc: Global,
+    array: &ArrayBox,
+    physical_type: PhysicalType,
+    path: &[Nested],
+    limit: Option<usize>,
+) -> Result<PageIter> {
+    let options = WriteOptions {
+        data_pagesize_limit: limit,
+        ..STATED
+    };
+    pages_by(
+        alloc,
+        array,
+        Repetition::Optional,
+        physical_type,
+        path,
+        options,
+    )
 }
 
 // The path of a leaf without nulls in a struct with these.
@@ -67,44 +54,6 @@ fn in_struct(alloc: Global, there: &[bool]) -> Result<Vec<Nested>> {
     path.push(Nested::Struct(Some(mask), true, there.len()))?;
     path.push(Nested::Primitive(None, true, there.len()))?;
     Ok(path)
-}
-
-fn pages(
-    alloc: Global,
-    array: &ArrayBox,
-    physical_type: PhysicalType,
-    path: &[Nested],
-    limit: Option<usize>,
-) -> Result<PageIter> {
-    // a path of a schema is no deeper
-    if path.len() > 128 {
-        return Err(Error::InvalidArgumentError(A::A8));
-    }
-    let options = WriteOptions {
-        data_pagesize_limit: limit,
-        ..OPTIONS
-    };
-    let type_ = leaf(alloc, physical_type)?;
-    array_to_pages(alloc, array, type_, path, options, Encoding::Plain)
-}
-
-fn is_text(text: &Option<Vec<u8>>, wanted: &[u8]) -> bool {
-    match text {
-        Some(text) => !wanted.is_empty() && text.as_slice() == wanted,
-        None => wanted.is_empty(),
-    }
-}
-
-// Whether so many nulls are stated, and these bounds; no bounds where these are empty.
-fn are_stated(stated: &Option<Statistics>, nulls: i64, least: &[u8], greatest: &[u8]) -> bool {
-    match stated {
-        Some(stated) => {
-            stated.null_count == Some(nulls)
-                && is_text(&stated.min_value, least)
-                && is_text(&stated.max_value, greatest)
-        }
-        None => false,
-    }
 }
 
 // The same of the next page.
@@ -138,7 +87,7 @@ fn both_state(mut pages: PageIter, nulls: i64, least: &[u8], greatest: &[u8]) ->
 #[test]
 fn texts_are_stated(rt: HostRuntime) -> Result<()> {
     let alloc = rt.alloc();
-    let path = flat(alloc, &[true, false, true])?;
+    let path = optional(alloc, &[true, false, true])?;
     let pages = pages(alloc, &texts(alloc)?, PhysicalType::ByteArray, &path, None)?;
     assert!(rt; both_state(pages, 1, b"a", b"ab")?);
     Ok(())
@@ -147,7 +96,7 @@ fn texts_are_stated(rt: HostRuntime) -> Result<()> {
 #[test]
 fn numbers_without_a_sign_are_stated(rt: HostRuntime) -> Result<()> {
     let alloc = rt.alloc();
-    let path = flat(alloc, &[true, true])?;
+    let path = optional(alloc, &[true, true])?;
     let array = unsigned(alloc, &[1, 4_294_967_295])?;
     let pages = pages(alloc, &array, PhysicalType::Int32, &path, None)?;
     assert!(rt; both_state(pages, 0, b"\x01\x00\x00\x00", b"\xff\xff\xff\xff")?);
@@ -157,10 +106,10 @@ fn numbers_without_a_sign_are_stated(rt: HostRuntime) -> Result<()> {
 #[test]
 fn nulls_alone_have_no_bounds(rt: HostRuntime) -> Result<()> {
     let alloc = rt.alloc();
-    let path = flat(alloc, &[false, false])?;
+    let path = optional(alloc, &[false, false])?;
     let pages = pages(
         alloc,
-        &numbers(alloc, &[7, 8], &[false, false])?,
+        &numbers_in(alloc, &[7, 8], &[false, false])?,
         PhysicalType::Int32,
         &path,
         None,
@@ -175,7 +124,7 @@ fn values_beneath_null_structs_do_not_count(rt: HostRuntime) -> Result<()> {
     let path = in_struct(alloc, &[true, false, true])?;
     let pages = pages(
         alloc,
-        &numbers(alloc, &[7, -9, 5], &[true, true, true])?,
+        &numbers_in(alloc, &[7, -9, 5], &[true, true, true])?,
         PhysicalType::Int32,
         &path,
         None,
@@ -187,8 +136,8 @@ fn values_beneath_null_structs_do_not_count(rt: HostRuntime) -> Result<()> {
 #[test]
 fn each_page_and_the_column_state_their_own(rt: HostRuntime) -> Result<()> {
     let alloc = rt.alloc();
-    let path = flat(alloc, &[true, true])?;
-    let array = numbers(alloc, &[3, -1], &[true, true])?;
+    let path = optional(alloc, &[true, true])?;
+    let array = numbers_in(alloc, &[3, -1], &[true, true])?;
     let mut pages = pages(alloc, &array, PhysicalType::Int32, &path, Some(4))?;
     assert!(rt;
         are_stated(
